@@ -1,0 +1,4 @@
+pub mod Json
+pub mod Listed
+pub mod LastOfEach
+pub mod Search

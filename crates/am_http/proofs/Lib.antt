@@ -1,0 +1,9 @@
+pub mod ConnectionLemmas
+pub mod ReadingLemmas
+pub mod NumberLemmas
+pub mod StatingLemmas
+pub mod PathLemmas
+pub mod HeadLemmas
+pub mod StageLemmas
+pub mod VerdictLemmas
+pub mod HeadEndLemmas

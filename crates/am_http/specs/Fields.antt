@@ -1,0 +1,69 @@
+-- What the fields of a head say: a field is its name and its value, the latter without blanks at both ends.
+use Rattle.std.specs.Prelude.{ℕ, Bool, false, ◌&&◌, nat_lt, List, [], ◌∷◌, length, map, Option, Some, None, Result, Ok, Err, if◌then◌else◌, ◌==◌, codes}
+use Rattle.std.specs.List.{list_all, list_any}
+use Rattle.std.specs.Str.{str_eq_ignore_ascii_case}
+use Rattle.std.specs.Char.{is_ascii_digit}
+use Rattle.std.specs.Str.Parse.{digits_value}
+use Rattle.am_tenant.specs.Names.{name_fault}
+use Rattle.am_tenant.specs.declared.NameFault.{NameFault}
+use Rattle.am_tenant.specs.declared.NameFault.TheVariants.{Empty, TooLong, BadByte, Reserved}
+use Rattle.am_http.specs.declared.fault.FrontFault.{FrontFault}
+use Rattle.am_http.specs.declared.fault.FrontFault.TheVariants.{NoTenant, EmptyTenant, TenantTooLong, BadTenant, ReservedTenant, BadHead}
+
+-- the fields as names and values
+abbrev pub Fields : Type 0
+Fields = List (List ℕ × List ℕ)
+
+-- whether there is a field of this name, in any case
+abbrev pub has_field : List ℕ → Fields → Bool
+has_field name fields = list_any (λ f. str_eq_ignore_ascii_case f.0 name) fields
+
+-- the values of the fields of a name, whatever its case, in order
+abbrev pub values_of : List ℕ → Fields → List (List ℕ)
+values_of name [] = []
+values_of name (f ∷ fields) = if str_eq_ignore_ascii_case f.0 name then f.1 ∷ values_of name fields else values_of name fields
+
+-- decimal digits, one at least
+abbrev pub is_digits : List ℕ → Bool
+is_digits digits = nat_lt 0 (length digits) && list_all is_ascii_digit digits
+
+-- the number that decimal digits write
+abbrev pub number : List ℕ → Option ℕ
+number digits = if is_digits digits then Some (digits_value 10 digits) else None
+
+-- whether this is the number n
+abbrev pub is_number : ℕ → Option ℕ → Bool
+is_number n None = false
+is_number n (Some m) = m == n
+
+-- the number that all of them are; a fault where one is none, or two differ
+abbrev pub agreed : List (Option ℕ) → Result (Option ℕ) FrontFault
+agreed [] = Ok None
+agreed (None ∷ numbers) = Err BadHead
+agreed (Some n ∷ numbers) = if list_all (is_number n) numbers then Ok (Some n) else Err BadHead
+
+-- the length of the body, where Content-Length states one
+abbrev pub content_length : Fields → Result (Option ℕ) FrontFault
+content_length fields = agreed (map number (values_of (codes "Content-Length") fields))
+
+-- the front's fault for a fault of a tenant's name
+abbrev pub tenant_fault : NameFault → FrontFault
+tenant_fault Empty = EmptyTenant
+tenant_fault TooLong = TenantTooLong
+tenant_fault BadByte = BadTenant
+tenant_fault Reserved = ReservedTenant
+
+-- a name without a fault
+abbrev pub named : List ℕ → Option NameFault → Result (List ℕ) FrontFault
+named name None = Ok name
+named name (Some fault) = Err (tenant_fault fault)
+
+-- the tenant that the values of X-Scope-OrgID name: one value, which is a tenant's name
+abbrev pub tenant_in : List (List ℕ) → Result (List ℕ) FrontFault
+tenant_in [] = Err NoTenant
+tenant_in (value ∷ []) = named value (name_fault value)
+tenant_in (_ ∷ _ ∷ _) = Err BadTenant
+
+-- the tenant of a head
+abbrev pub tenant_of : Fields → Result (List ℕ) FrontFault
+tenant_of fields = tenant_in (values_of (codes "X-Scope-OrgID") fields)

@@ -1,0 +1,15 @@
+pub mod Codes
+pub mod Scan
+pub mod HeadEnd
+pub mod Reading
+pub mod Fields
+pub mod Values
+pub mod Stating
+pub mod Checks
+pub mod Paths
+pub mod Plans
+pub mod Verdict
+pub mod Stages
+pub mod Grown
+pub mod Connections
+pub mod Replies

@@ -1,0 +1,23 @@
+//! The front: bytes of connections to verdicts, and replies to bytes.
+//!
+//! A connection carries one HTTP/1.x request. What [`Front::feed`] answers depends on the bytes of that
+//! connection alone, and not on the pieces in which they came.
+#![tactic(auto)]
+
+mod connection;
+mod fault;
+mod fields;
+mod front;
+mod head;
+pub mod laws;
+mod paths;
+mod reply;
+mod request;
+mod scan;
+#[cfg(test)]
+mod tests;
+
+pub use fault::FrontFault;
+pub use front::Front;
+pub use reply::{refusal_body, reply_bytes};
+pub use request::{ConnectionId, Fed, Method, Request};

@@ -1,0 +1,77 @@
+//! Connections' names, and what a connection asks for.
+ghost use Rattle.std.specs.Prelude.{◌≡◌, ◌<◌, ◌^◌};
+
+use crate::fault::FrontFault;
+use am_tenant::TenantName;
+use am_text::{Octets, Text};
+use std::marker::Model;
+
+/// The name of a connection.
+#[derive(Clone, Copy, Debug, PartialEq, Eq, PartialOrd, Ord)]
+pub struct ConnectionId {
+    number: u64,
+}
+
+impl Model for ConnectionId {
+    ghost use Rattle.std.specs.Prelude.{ℕ, ◌<◌, ◌^◌};
+
+    ghost Value = { ℕ };
+
+    ghost view = { λ c. c.number };
+
+    ghost invariant = { λ c. c.number < 2 ^ 64 };
+
+    ghost inverse = { λ n. record { number = n } };
+}
+
+impl ConnectionId {
+    /// The connection with this number.
+    pub fn new(number: u64) -> ConnectionId
+        ensures { result ≡ number }
+    {
+        ConnectionId { number }
+    }
+
+    /// The number of the connection.
+    pub fn number(self) -> u64
+        ensures value { result ≡ self }
+        ensures bound { result < 2 ^ 64 }
+    {
+        self.number
+    }
+}
+
+/// What a request does.
+#[derive(Clone, Copy, Debug, PartialEq, Eq)]
+pub enum Method {
+    /// `GET`, it reads.
+    Get,
+    /// `POST`, it brings something.
+    Post,
+}
+
+/// A whole request of a tenant.
+#[derive(Debug, Drop)]
+pub struct Request {
+    /// The tenant that the header `X-Scope-OrgID` names.
+    pub tenant: TenantName,
+    /// The method.
+    pub method: Method,
+    /// The bytes of the target up to its first `?`, undecoded.
+    pub path: Text,
+    /// What follows that `?`, undecoded; empty where there is none.
+    pub query: Text,
+    /// The body.
+    pub body: Octets,
+}
+
+/// What a connection's bytes say so far.
+#[derive(Debug, Drop)]
+pub enum Fed {
+    /// More bytes are needed.
+    Waits,
+    /// The request is refused.
+    Refused(FrontFault),
+    /// A whole request came.
+    Request(Request),
+}

@@ -1,0 +1,10 @@
+pub mod Order
+pub mod Greatest
+pub mod Keys
+pub mod Rising
+pub mod BestLaws
+pub mod Places
+pub mod Lists
+pub mod Tallies
+pub mod Meaning
+pub mod Joining

@@ -1,0 +1,68 @@
+ghost use Rattle.std.specs.Prelude.{◌≡◌, ℕ, List, [], OnOk, if◌then◌else◌};
+ghost use Rattle.am_tenant.specs.Names.{same};
+ghost use Rattle.am_item.specs.Counts.{count_of};
+
+use am_tenant::TenantName;
+use std::alloc::{AllocError, Global};
+use std::collections::BTreeMap;
+use std::marker::Model;
+
+/// How many stamp counts each tenant has used.
+#[derive(Debug, Drop)]
+pub struct Counts {
+    used: BTreeMap<TenantName, u64>,
+}
+
+impl Model for Counts {
+    ghost use Rattle.std.specs.Prelude.{ℕ, List};
+
+    ghost Value = { List (List ℕ × ℕ) };
+
+    ghost view = { λ counts. counts.used.entries };
+}
+
+impl Counts {
+    /// No count used by any tenant.
+    pub fn new(alloc: Global) -> Counts
+        ensures { result ≡ [] }
+    {
+        Counts {
+            used: BTreeMap::new(alloc),
+        }
+    }
+
+    /// How many counts a tenant has used: 0 before the first.
+    pub fn used(&self, tenant: &TenantName) -> u64
+        ensures { result ≡ count_of tenant.now self.now }
+    {
+        self.used.get(tenant).copied().unwrap_or(0)
+    }
+
+    /// Sets how many counts a tenant has used. Other tenants' counts stay. After an error nothing is
+    /// known of the counts.
+    pub fn set(&mut self, _alloc: Global, tenant: &TenantName, count: u64) -> Result<(), AllocError>
+        ensures { OnOk result ((t : List ℕ) → count_of t self.new ≡ (if same t tenant.now then count else count_of t self.old)) }
+    {
+        self.used.insert(*tenant, count)?;
+        Ok(())
+    }
+}
+
+#[cfg(test)]
+mod tests {
+    use super::*;
+    use std::test::Fail;
+
+    #[test]
+    fn each_tenant_has_a_count(rt: HostRuntime) -> Result<(), Fail> {
+        let first = TenantName::read(b"a")?;
+        let second = TenantName::read(b"b")?;
+        let mut counts = Counts::new(rt.alloc());
+        counts.set(rt.alloc(), &first, 2)?;
+        counts.set(rt.alloc(), &second, 7)?;
+        counts.set(rt.alloc(), &first, 3)?;
+        assert_eq!(rt; counts.used(&first), 3);
+        assert_eq!(rt; counts.used(&second), 7);
+        Ok(())
+    }
+}

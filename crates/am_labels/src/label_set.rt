@@ -1,0 +1,188 @@
+ghost use Rattle.std.specs.Prelude.{◌≡◌, ◌≢◌, ◌==◌, ℕ, List, length, Some, None, IfOk, MatchResult, refl};
+ghost use Rattle.std.specs.Cmp.{partial_equiv_from_equiv, eq_by_cmp_equiv, po};
+ghost use Rattle.std.specs.Ordering.{eq_by_cmp};
+ghost use Rattle.am_labels.specs.declared.LabelFault.TheVariants.{BadName, OutOfMemory};
+ghost use Rattle.am_labels.specs.Labels.{labels_cmp, labels_total};
+
+use crate::hash::fingerprint_of;
+use crate::pairs::{copy_labels, read_pairs, value_in};
+use crate::{Label, LabelFault};
+use std::alloc::{AllocError, Global};
+use std::cmp::Ordering;
+use std::marker::Model;
+
+/// A finite map from label names to values that aren't empty: its labels in order of name.
+///
+/// Label sets are ordered by their lists of labels.
+#[derive(Debug, Drop)]
+pub struct LabelSet {
+    labels: Vec<Label>,
+}
+
+impl Model for LabelSet {
+    ghost use Rattle.std.specs.Prelude.{List};
+    ghost use Rattle.am_labels.specs.declared.Label.{Label};
+
+    ghost Value = { List Label };
+
+    ghost use Rattle.am_labels.specs.Sets.{IsLabelSet};
+
+    ghost view = { λ set. set.labels.items };
+
+    ghost invariant = { λ set. IsLabelSet set.labels.items };
+}
+
+impl LabelSet {
+    ghost use Rattle.am_labels.specs.Faults.{Refuses, label_fault};
+    ghost use Rattle.am_labels.specs.Sets.{IsLabelSet, label_set, value_of};
+    ghost use Rattle.am_labels.specs.Hashes as hashes;
+
+    /// The label set of these pairs of names and values, in any order. A pair with an empty value gives no
+    /// label.
+    ///
+    /// Refused with [`LabelFault::BadName`] where any name is no label name (`[a-zA-Z_][a-zA-Z0-9_]*`), else
+    /// with [`LabelFault::Repeated`] where a name is given twice, both also where the value is empty, else
+    /// with [`LabelFault::OutOfMemory`] where memory runs out. The pairs are dropped then.
+    pub fn from_pairs(alloc: Global, pairs: Vec<Label>) -> Result<LabelSet, LabelFault>
+        ensures set { MatchResult result (λ set. label_set pairs.items ≡ Some set) (λ fault. fault ≢ OutOfMemory → label_set pairs.items ≡ None) }
+        ensures fault { MatchResult result (λ _. label_fault pairs.items ≡ None) (λ fault. Refuses fault pairs.items) }
+        ensures values { IfOk result (λ set. (name : List ℕ) → value_of name set ≡ value_of name pairs.items) }
+    {
+        let mut labels = read_pairs(alloc, pairs)?;
+        labels.retain(|label| !label.value.is_empty());
+        Ok(LabelSet { labels })
+    }
+
+    /// The value of the label of this name, empty where there is none.
+    pub fn get(&self, name: &str) -> &str
+        ensures { result.now ≡ value_of name.now self.now }
+    {
+        value_in(&self.labels, name)
+    }
+
+    /// The FNV-1a hash of 64 bits over each label in order of name: its name, byte 255, its value, byte 255.
+    pub fn fingerprint(&self) -> u64
+        ensures { result ≡ hashes.fingerprint self.now }
+    {
+        fingerprint_of(&self.labels)
+    }
+
+    /// The labels in order of name.
+    pub fn labels(&self) -> &[Label]
+        ensures labels { result.now ≡ self.now }
+        ensures set { IsLabelSet self.now }
+    {
+        self.labels.as_slice()
+    }
+
+    /// How many labels there are.
+    pub fn len(&self) -> usize
+        ensures { result ≡ length self.now }
+    {
+        self.labels.len()
+    }
+
+    /// Whether there is no label.
+    pub fn is_empty(&self) -> bool
+        ensures { result ≡ (length self.now == 0) }
+    {
+        self.labels.is_empty()
+    }
+
+    /// A copy of the label set.
+    pub fn copy(&self, alloc: Global) -> Result<LabelSet, AllocError>
+        ensures { IfOk result (λ set. set ≡ self.now) }
+    {
+        let labels = copy_labels(alloc, &self.labels)?;
+        Ok(LabelSet { labels })
+    }
+}
+
+impl PartialEq for LabelSet {
+    ghost eq = { eq_by_cmp labels_cmp };
+
+    ghost laws = { partial_equiv_from_equiv (eq_by_cmp_equiv labels_total) };
+
+    fn eq(&self, other: &LabelSet) -> bool {
+        self.cmp(other).is_eq()
+    }
+}
+
+impl Eq for LabelSet {
+    ghost laws = { eq_by_cmp_equiv labels_total };
+}
+
+impl PartialOrd for LabelSet {
+    ghost partial_cmp = { λ a b. Some (labels_cmp a b) };
+
+    ghost laws = { po labels_total (λ _ _. refl) };
+
+    fn partial_cmp(&self, other: &LabelSet) -> Option<Ordering> {
+        Some(self.cmp(other))
+    }
+}
+
+/// By the lists of labels: the first label that differs decides, and a set stands before those that it
+/// begins.
+impl Ord for LabelSet {
+    ghost cmp = { labels_cmp };
+
+    ghost total = { labels_total };
+
+    ghost matches_partial_cmp = { λ a b. refl };
+
+    ghost matches_eq = { λ a b. refl };
+
+    #[tactic(auto, unfolding(crate::specs::Labels::labels_cmp))]
+    fn cmp(&self, other: &LabelSet) -> Ordering {
+        self.labels.as_slice().cmp(other.labels.as_slice())
+    }
+}
+
+#[cfg(test)]
+mod tests {
+    use super::*;
+    use am_text::Text;
+    use std::test::Fail;
+
+    // The label set of these names and values.
+    fn set(rt: &HostRuntime, pairs: &[(&str, &str)]) -> Result<LabelSet, LabelFault> {
+        let mut labels = Vec::new(rt.alloc());
+        for (name, value) in pairs {
+            labels.push(Label {
+                name: Text::read(rt.alloc(), name)?,
+                value: Text::read(rt.alloc(), value)?,
+            })?;
+        }
+        LabelSet::from_pairs(rt.alloc(), labels)
+    }
+
+    #[test]
+    fn map(rt: HostRuntime) -> Result<(), Fail> {
+        let labels = set(&rt, &[("b", "2"), ("a", "1"), ("c", "")])?;
+        assert_eq!(rt; labels.len(), 2);
+        assert_eq!(rt; labels.get("a"), "1");
+        assert_eq!(rt; labels.get("c"), "");
+        assert_eq!(rt; labels.get("d"), "");
+        assert!(rt; labels == labels.copy(rt.alloc())?);
+        Ok(())
+    }
+
+    #[test]
+    fn faults(rt: HostRuntime) {
+        let bad_name = Err(LabelFault::BadName);
+        assert!(rt; set(&rt, &[("a", "1"), ("a", "2"), ("0", "")]).map(|_| ()) == bad_name);
+        assert!(rt; set(&rt, &[("", "1")]).map(|_| ()) == bad_name);
+        let repeated = Err(LabelFault::Repeated);
+        assert!(rt; set(&rt, &[("a", ""), ("b", ""), ("a", "")]).map(|_| ()) == repeated);
+    }
+
+    #[test]
+    fn order(rt: HostRuntime) -> Result<(), Fail> {
+        let low = set(&rt, &[("a", "9")])?;
+        let middle = set(&rt, &[("a", "9"), ("b", "1")])?;
+        let high = set(&rt, &[("b", "1")])?;
+        assert!(rt; low < middle && middle < high);
+        Ok(())
+    }
+}

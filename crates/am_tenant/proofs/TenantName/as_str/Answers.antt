@@ -1,0 +1,5 @@
+use Rattle.am_tenant.proofs.Ascii.{tenant_name-IsUtf8}
+use Rattle.am_tenant.proofs.TenantName.as_str.Goals as goal
+
+pub unreachable-requires : goal.unreachable-requires
+unreachable-requires c = c.in-Err.ensures.cases.0 (tenant_name-IsUtf8 _ c.self.invariant.2)

@@ -1,0 +1,6 @@
+use Rattle.std.proofs.Common.{ℕ, List, ◌++◌, length, ap}
+use Rattle.std.proofs.lemmas.List.{drop-replicate}
+use Rattle.am_tenant.proofs.pad.Goals as goal
+
+pub returns : goal.returns
+returns c = rw c.copy_from_slice.ensures.after (ap (λ (zeros : List ℕ). c.args.bytes.now ++ zeros) (drop-replicate (length c.args.bytes.now) 150 0))

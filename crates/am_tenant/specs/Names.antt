@@ -1,0 +1,31 @@
+-- Tenant names, as lists of bytes.
+use Rattle.std.specs.Prelude.{ℕ, Bool, ◌&&◌, ◌||◌, not, nat_lt, nat_le, List, length, Option, Some, None, if◌then◌else◌, codes, ◌==◌}
+use Rattle.std.specs.List.{list_all, list_any}
+use Rattle.std.specs.Char.{is_ascii_alphanumeric}
+use Rattle.std.specs.Str.{bytes_eq}
+use Rattle.am_tenant.specs.declared.NameFault.{NameFault}
+use Rattle.am_tenant.specs.declared.NameFault.TheVariants.{Empty, TooLong, BadByte, Reserved}
+
+-- whether two names are the same bytes
+unfoldable pub same : List ℕ → List ℕ → Bool
+same a b = bytes_eq a b
+
+-- a byte that may stand in a name: a digit, a letter, or one of ! - _ . * ' ( )
+unfoldable pub is_name_byte : ℕ → Bool
+is_name_byte b = is_ascii_alphanumeric b || list_any (λ mark. b == mark) (codes "!-_.*'()")
+
+-- the names that no tenant may have
+unfoldable pub is_reserved : List ℕ → Bool
+is_reserved name = bytes_eq name (codes ".") || bytes_eq name (codes "..") || bytes_eq name (codes "__mimir_cluster")
+
+-- a tenant name: 1 to 150 bytes that may stand in a name, and not reserved
+unfoldable pub is_tenant_name : List ℕ → Bool
+is_tenant_name name = nat_lt 0 (length name) && nat_le (length name) 150 && list_all is_name_byte name && not (is_reserved name)
+
+-- the first of the four faults that a name has: no byte, over 150 bytes, a byte that may not stand in a name, reserved
+unfoldable pub name_fault : List ℕ → Option NameFault
+name_fault name =
+    if length name == 0 then Some Empty else (
+    if nat_lt 150 (length name) then Some TooLong else (
+    if not (list_all is_name_byte name) then Some BadByte else (
+    if is_reserved name then Some Reserved else None)))

@@ -1,0 +1,6 @@
+pub mod Calendar
+pub mod DateTime
+pub mod Instant
+pub mod Moment
+pub mod Printing
+pub mod Reading

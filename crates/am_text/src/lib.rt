@@ -1,0 +1,19 @@
+//! Texts, bytes and moments: the values that every other crate speaks of.
+#![tactic(auto)]
+
+mod fault;
+mod moment;
+mod octets;
+mod printing;
+mod reading;
+mod text;
+
+pub use fault::TextFault;
+pub use moment::Moment;
+pub use octets::Octets;
+pub use printing::print_moment;
+pub use reading::read_moment;
+pub use text::Text;
+
+#[cfg(test)]
+mod tests;

@@ -1,0 +1,173 @@
+-- from single steps to whole runs; no kind of event is named here but in what a table remembers
+use Rattle.std.proofs.Common.{IsTrue, ◌≡◌, ◌≢◌, inl, inr, ◌∙◌, ℕ, nat_lt, Bool, true, false, List, [], ◌∷◌, ◌++◌, Option, None, Some, refl, sym, ap, arith, if◌then◌else◌, nat_eq}
+use Rattle.std.proofs.lemmas.Bool.Decides.{nat_tests}
+use Rattle.std.proofs.lemmas.List.{append-nil, append_assoc}
+use Rattle.std.proofs.Math.Seq.{drop-append_seam, take-append_seam}
+use Rattle.std.proofs.lemmas.List.Elements.{filter-append}
+use Rattle.am_world.specs.declared.event.Event.{Event}
+use Rattle.am_world.specs.declared.event.Event.TheVariants.{Open, Bytes, Tick}
+use Rattle.am_world.specs.declared.event.Output.{Output}
+use Rattle.am_world.specs.Moments.{last_moment}
+use Rattle.am_world.specs.declared.world.World.{World}
+use Rattle.am_world.specs.Happening.{Happening}
+use Rattle.am_world.specs.Outputs.{belongs, outputs_of, is_of_front, is_of_somebody, front_outputs, front_told, front_told_all}
+use Rattle.std.specs.List.{list_all}
+use Rattle.std.proofs.lemmas.List.Folds.{list_all-append}
+use Rattle.am_world.specs.PrivateCluster.{PrivateCluster, serves, after, after_all, told, told_all}
+use Rattle.am_world.specs.Simulation.{Follows, Stands, Kept, Later, Faulted, Step, Run, Headline}
+use Rattle.am_world.specs.View.{Seen, Reading, AskedAs, TurnedAway, Table, look, watch, watch_all, adds, view, opens_new, names_once, noted}
+
+-- ---- what a table decided stays decided
+
+later_itself : (v : Table) → Later v v
+later_itself v = record { asked = λ c t e. e; away = λ c e. e }
+
+later_after : (v u x : Table) → Later v u → Later u x → Later v x
+later_after v u x a b = record { asked = λ c t e. b.asked c t (a.asked c t e); away = λ c e. b.away c (a.away c e) }
+
+-- a new entry of a connection that was undecided changes none that was decided
+entry_keeps : (b : Bool) (s new old found : Option Seen) → found ≡ (if b then new else old) → (b ≡ true → old ≡ s) → (x : Option Seen) → (x ≢ s) → old ≡ x → found ≡ x
+entry_keeps true s new old found e undecided x not e' = absurd (not (sym e' ∙ undecided refl))
+entry_keeps false s new old found e undecided x not e' = e ∙ e'
+
+look_same : (c d : ℕ) (v : Table) → nat_eq d c ≡ true → look d v ≡ look c v
+look_same c d v e = let same : d ≡ c = grind (arith, nat_tests) in ap (λ n. look n v) same
+
+later_entry : (v : Table) (c : ℕ) (new : Seen) (s : Option Seen) → look c v ≡ s → ((t : List ℕ) → Some (AskedAs t) ≢ s) → Some TurnedAway ≢ s → Later v ((c, new) ∷ v)
+later_entry v c new s e not_asked not_away = record {
+  asked = λ d t h. entry_keeps (nat_eq d c) s (Some new) (look d v) _ refl (λ b. look_same c d v b ∙ e) (Some (AskedAs t)) (not_asked t) h;
+  away = λ d h. entry_keeps (nat_eq d c) s (Some new) (look d v) _ refl (λ b. look_same c d v b ∙ e) (Some TurnedAway) not_away h;
+}
+
+later_noted : (v : Table) (c : ℕ) (piece : List ℕ) (s : Option Seen) → look c v ≡ s → Later v (noted c piece s v)
+later_noted v c piece None e = later_itself v
+later_noted v c piece (Some (Reading i before)) e = later_entry v c _ (Some (Reading i before)) e (λ t h. cc) (λ h. cc)
+later_noted v c piece (Some (AskedAs tenant)) e = later_itself v
+later_noted v c piece (Some TurnedAway) e = later_itself v
+
+later_watch : (v : Table) (e : Event) → opens_new v e → Later v (watch v e)
+unfolding watch
+later_watch v (Open c i) new = elim (serves i) as (λ b. (IsTrue b → look c v ≡ None) → Later v (if b then (c, Reading i []) ∷ v else v)) [
+  | true ↦ λ unseen. later_entry v c (Reading i []) None (unseen refl) (λ t h. cc) (λ h. cc)
+  | false ↦ λ unseen. later_itself v
+] new
+later_watch v (Bytes c moment piece) new = elim (nat_lt last_moment moment) as (λ b. Later v (if b then v else noted c piece (look c v) v)) [
+  | true ↦ later_itself v
+  | false ↦ later_noted v c piece (look c v) refl
+]
+later_watch v (Tick moment) new = later_itself v
+
+pub later_all : (v : Table) (es : List Event) → names_once v es → Later v (watch_all v es)
+later_all v [] once = later_itself v
+later_all v (e ∷ es) once = later_after v (watch v e) _ (later_watch v e once.0) (later_all (watch v e) es once.1)
+
+-- ---- whole runs
+
+told_all-append : (p : PrivateCluster) (xs ys : List Happening) → told_all p (xs ++ ys) ≡ told_all p xs ++ told_all (after_all p xs) ys
+told_all-append p [] ys = refl
+told_all-append p (x ∷ xs) ys = ap (λ zs. told p x ++ zs) (told_all-append (after p x) xs ys) ∙ sym (append_assoc (told p x) (told_all (after p x) xs) (told_all (after_all (after p x) xs) ys))
+
+after_all-append : (p : PrivateCluster) (xs ys : List Happening) → after_all p (xs ++ ys) ≡ after_all (after_all p xs) ys
+after_all-append p [] ys = refl
+after_all-append p (x ∷ xs) ys = after_all-append (after p x) xs ys
+
+-- a fault is counted for good
+faulted_counts : (w w' : World) → Faulted w w' → w'.faults ≢ 0
+faulted_counts w w' f e = let counted = f.counted in omega arith
+
+faults_stay : (w : World) (es : List Event) (w' : World) → Run w es w' → w.faults ≢ 0 → w'.faults ≢ 0
+faults_stay w [] w' run some = λ none. some (sym (ap (λ (x : World). x.faults) run) ∙ none)
+faults_stay w (e ∷ es) w' (mid, step, run) some = faults_stay mid es w' run (elim step [
+  | inl kept ↦ λ none. some (sym kept.0 ∙ none)
+  | inr faulted ↦ faulted_counts w mid faulted
+])
+
+-- a step before a run without fault met none
+step_kept : (w : World) (e : Event) (mid : World) (es : List Event) (w' : World) → Step w e mid → Run mid es w' → w'.faults ≡ 0 → Kept w e mid
+step_kept w e mid es w' (inl kept) run none = kept.1
+step_kept w e mid es w' (inr faulted) run none = absurd (faults_stay mid es w' run (faulted_counts w mid faulted) none)
+
+-- one event more
+pub run_more : (w : World) (es : List Event) (mid : World) (e : Event) (w' : World) → Run w es mid → Step mid e w' → Run w (es ++ e ∷ []) w'
+run_more w [] mid e w' run step = (w', rw run at step, refl)
+run_more w (x ∷ es) mid e w' (next, first, run) step = (next, first, run_more next es mid e w' run step)
+
+-- what a run without fault did for a tenant
+record Ran (w : World) (es : List Event) (w' : World) (t : List ℕ) (v : Table) (p : PrivateCluster) : Type 0 where
+  outs : List Output
+  appended : w'.outputs.items ≡ w.outputs.items ++ outs
+  told : (u : Table) → Later (watch_all v es) u → outputs_of t u outs ≡ told_all p (view t v es)
+  front : (u : Table) → Later (watch_all v es) u → front_outputs u outs ≡ front_told_all v es
+  whole : (u : Table) → Later (watch_all v es) u → list_all (is_of_somebody u) outs ≡ true
+  follows : Follows (watch_all v es) w'
+  stands : Stands t w' (after_all p (view t v es))
+
+first_step : (w : World) (e : Event) (mid : World) (es : List Event) (w' : World) (t : List ℕ) (v : Table) (p : PrivateCluster) → Kept w e mid →
+    Follows v w → Stands t w p → opens_new v e → names_once (watch v e) es →
+    Ran mid es w' t (watch v e) (after_all p (adds t v e)) → Ran w (e ∷ es) w' t v p
+first_step w e mid es w' t v p kept f s new once rest = record {
+  outs = kept.outs ++ rest.outs;
+  appended = rest.appended ∙ ap (λ os. os ++ rest.outs) kept.appended ∙ append_assoc w.outputs.items kept.outs rest.outs;
+  told = λ u later.
+      filter-append (belongs t u) kept.outs rest.outs
+      ∙ ap (λ os. os ++ outputs_of t u rest.outs) (kept.told t v p f s new u (later_after (watch v e) _ u (later_all (watch v e) es once) later))
+      ∙ ap (λ os. told_all p (adds t v e) ++ os) (rest.told u later)
+      ∙ sym (told_all-append p (adds t v e) (view t (watch v e) es));
+  front = λ u later.
+      filter-append (is_of_front u) kept.outs rest.outs
+      ∙ ap (λ os. os ++ front_outputs u rest.outs) (kept.front v f new u (later_after (watch v e) _ u (later_all (watch v e) es once) later))
+      ∙ ap (λ os. front_told v e ++ os) (rest.front u later);
+  whole = λ u later.
+      list_all-append (is_of_somebody u) kept.outs rest.outs
+      ∙ rw (kept.whole v f new u (later_after (watch v e) _ u (later_all (watch v e) es once) later), rest.whole u later) refl;
+  follows = rest.follows;
+  stands = rw (after_all-append p (adds t v e) (view t (watch v e) es)) rest.stands;
+}
+
+ran : (w : World) (es : List Event) (w' : World) (t : List ℕ) (v : Table) (p : PrivateCluster) → Run w es w' → w'.faults ≡ 0 →
+    Follows v w → Stands t w p → names_once v es → Ran w es w' t v p
+ran w [] w' t v p run none f s once = rw run (record {
+  outs = [];
+  appended = sym (append-nil w.outputs.items);
+  told = λ u later. refl;
+  front = λ u later. refl;
+  whole = λ u later. refl;
+  follows = f;
+  stands = s;
+})
+ran w (e ∷ es) w' t v p (mid, step, run) none f s once =
+    let kept = step_kept w e mid es w' step run none in
+    first_step w e mid es w' t v p kept f s once.0 once.1
+    (ran mid es w' t (watch v e) (after_all p (adds t v e)) run none (kept.follows v f once.0) (kept.stands t v p f s) once.1)
+
+-- a run of steps is the headline's
+pub headline : (w : World) (es : List Event) (w' : World) → Run w es w' → Headline w es w'
+headline w es w' run none t v p f s once =
+    let r = ran w es w' t v p run none f s once in
+    record {
+      told = rw (r.appended, drop-append_seam w.outputs.items r.outs) (r.told (watch_all v es) (later_itself (watch_all v es)));
+      front = rw (r.appended, drop-append_seam w.outputs.items r.outs) (r.front (watch_all v es) (later_itself (watch_all v es)));
+      whole = rw (r.appended, drop-append_seam w.outputs.items r.outs) (r.whole (watch_all v es) (later_itself (watch_all v es)));
+      stay = rw (r.appended, take-append_seam w.outputs.items r.outs) refl;
+      follows = r.follows;
+      stands = r.stands;
+    }
+
+-- from the opening on: no output stands before the run
+pub from_opening : (w : World) (es : List Event) (w' : World) (t : List ℕ) (p : PrivateCluster) → Headline w es w' → w'.faults ≡ 0 →
+    w.outputs.items ≡ [] → Follows [] w → Stands t w p → names_once [] es → outputs_of t (watch_all [] es) w'.outputs.items ≡ told_all p (view t [] es)
+from_opening w es w' t p head none empty f s once =
+    let isolated = head none t [] p f s once in
+    let told = isolated.told in rw (empty) at told
+
+pub front_from_opening : (w : World) (es : List Event) (w' : World) (p : PrivateCluster) → Headline w es w' → w'.faults ≡ 0 →
+    w.outputs.items ≡ [] → Follows [] w → Stands [] w p → names_once [] es → front_outputs (watch_all [] es) w'.outputs.items ≡ front_told_all [] es
+front_from_opening w es w' p head none empty f s once =
+    let isolated = head none [] [] p f s once in
+    let front = isolated.front in rw (empty) at front
+
+pub whole_from_opening : (w : World) (es : List Event) (w' : World) (p : PrivateCluster) → Headline w es w' → w'.faults ≡ 0 →
+    w.outputs.items ≡ [] → Follows [] w → Stands [] w p → names_once [] es → list_all (is_of_somebody (watch_all [] es)) w'.outputs.items ≡ true
+whole_from_opening w es w' p head none empty f s once =
+    let isolated = head none [] [] p f s once in
+    let whole = isolated.whole in rw (empty) at whole

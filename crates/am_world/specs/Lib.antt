@@ -1,0 +1,15 @@
+pub mod AlertJson
+pub mod Decision
+pub mod Faults
+pub mod Happening
+pub mod Local
+pub mod Moments
+pub mod Outputs
+pub mod Places
+pub mod PrivateCluster
+pub mod Refusal
+pub mod RefusalCode
+pub mod Setup
+pub mod Simulation
+pub mod Taking
+pub mod View

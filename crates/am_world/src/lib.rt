@@ -1,0 +1,10 @@
+//! Events, the instance, the decision, and the theorem: every tenant as if alone.
+#![tactic(auto)]
+
+mod alert_json;
+mod decision;
+pub mod event;
+mod instance;
+pub mod setup;
+pub mod theorem;
+pub mod world;

@@ -1,0 +1,76 @@
+//! What a world is opened with.
+
+ghost use Rattle.std.specs.Prelude.{◌≡◌, ◌↔◌, IsTrue, IsSome, IfSome, length, take};
+ghost use Rattle.std.specs.List.{list_all};
+ghost use Rattle.am_world.specs.Setup.{all_differ, is_instance, is_ring, is_setup};
+
+/// The settings of a world.
+#[derive(Clone, Copy)]
+pub struct Setup {
+    key: [u8; 32],
+    ring: [u8; 8],
+    cache: u32,
+    start: u32,
+}
+
+impl Setup {
+    /// Settings out of the service key, the ring's instances (3 to 8 different numbers of 1 to 8), the
+    /// capacity of an instance's cache of patterns (1 to 65,536) and the first incarnation (not 0). None where
+    /// one of them is out of its range. Key, ring and capacity aren't used yet.
+    pub fn new(key: [u8; 32], ring: &[u8], cache: u32, start: u32) -> Option<Setup>
+        ensures valid { IsSome result ↔ IsTrue (is_setup ring.now cache start) }
+        ensures key { IfSome result (λ setup. setup.key ≡ key) }
+        ensures ring { IfSome result (λ setup. take (length ring.now) setup.ring ≡ ring.now) }
+        ensures cache { IfSome result (λ setup. setup.cache ≡ cache) }
+        ensures start { IfSome result (λ setup. setup.start ≡ start) }
+    {
+        if !names_ring(ring) || cache == 0 || cache > 65_536 || start == 0 {
+            return None;
+        }
+        let mut instances = [0; 8];
+        instances[..ring.len()].copy_from_slice(ring);
+        Some(Setup {
+            key,
+            ring: instances,
+            cache,
+            start,
+        })
+    }
+
+    /// The first incarnation of every instance.
+    pub fn start(&self) -> u32
+        ensures { result ≡ self.now.start }
+    {
+        self.start
+    }
+}
+
+/// Whether these are 3 to 8 different numbers of 1 to 8.
+fn names_ring(ring: &[u8]) -> bool
+    ensures { result ≡ is_ring ring.now }
+{
+    let count = ring.len();
+    if count < 3 || count > 8 {
+        return false;
+    }
+    are_numbers(ring) && differ(ring)
+}
+
+/// Whether each is the number of an instance.
+fn are_numbers(numbers: &[u8]) -> bool
+    ensures { result ≡ list_all is_instance numbers.now }
+{
+    numbers.iter().all(|number| 1 <= *number && *number <= 8)
+}
+
+/// Whether no number stands in the list twice.
+fn differ(numbers: &[u8]) -> bool
+    ensures { result ≡ all_differ numbers.now }
+{
+    for (i, number) in numbers.iter().enumerate() {
+        if numbers[i + 1..].contains(number) {
+            return false;
+        }
+    }
+    true
+}
