@@ -29,11 +29,11 @@ keys_of (x ∷ xs) = insert_key labels_cmp (keys_of xs) (key_of x)
 unfoldable pub best : List Item → List Item
 best xs = filter_map (λ key. greatest (of_key key xs)) (keys_of xs)
 
--- what a list of items becomes where one more comes to it
+-- what a list of items becomes where one more comes to it: of items with one key and one stamp the held one stays
 abbrev pub joined : List Item → Item → List Item
 joined held item = best (held ++ item ∷ [])
 
--- what a list of items becomes where another list comes to it
+-- what a list of items becomes where another list comes to it: likewise
 abbrev pub merged : List Item → List Item → List Item
 merged held others = best (held ++ others)
 

@@ -1,7 +1,7 @@
 ghost use Rattle.std.specs.Prelude.{◌≡◌, ◌≢◌, ◌==◌, ℕ, List, length, Some, None, IfOk, MatchResult, refl};
 ghost use Rattle.std.specs.Cmp.{partial_equiv_from_equiv, eq_by_cmp_equiv, po};
 ghost use Rattle.std.specs.Ordering.{eq_by_cmp};
-ghost use Rattle.am_labels.specs.declared.LabelFault.TheVariants.{BadName, OutOfMemory};
+ghost use Rattle.am_labels.specs.declared.LabelFault.TheVariants.{OutOfMemory};
 ghost use Rattle.am_labels.specs.Labels.{labels_cmp, labels_total};
 
 use crate::hash::fingerprint_of;

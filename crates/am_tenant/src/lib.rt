@@ -4,7 +4,7 @@
 //! `__mimir_cluster`. It lies in the value itself, so making, copying and comparing one takes no memory.
 #![tactic(auto)]
 
-ghost use Rattle.std.specs.Prelude.{◌≡◌, ◌≤◌, ◌↔◌, List, ℕ, length, codes, IsTrue, IsOk, IfOk, MatchResult, None, Some, refl};
+ghost use Rattle.std.specs.Prelude.{◌≡◌, ◌≤◌, ◌↔◌, length, IsTrue, IsOk, IfOk, MatchResult, None, Some, refl};
 ghost use Rattle.std.specs.List.{list_all};
 ghost use Rattle.std.specs.Ordering.{nat_cmp};
 ghost use Rattle.std.specs.Cmp.{partial_equiv_from_equiv};
@@ -75,7 +75,7 @@ pub struct TenantName {
 }
 
 impl Model for TenantName {
-    ghost use Rattle.std.specs.Prelude.{◌≡◌, ◌++◌, ◌-◌, ℕ, List, IsTrue, length, take, replicate};
+    ghost use Rattle.std.specs.Prelude.{◌≡◌, ℕ, List, IsTrue, length, take};
     ghost use Rattle.am_tenant.specs.Names.{is_tenant_name};
     ghost use Rattle.am_tenant.specs.Padded.{padded};
 
@@ -189,9 +189,9 @@ fn fault_of(name: &[u8]) -> Option<NameFault>
         Some(NameFault::Empty)
     } else if name.len() > LONGEST {
         Some(NameFault::TooLong)
-    } else if !all_may_stand(name) {
+    } else if !are_name_bytes(name) {
         Some(NameFault::BadByte)
-    } else if is_kept_back(name) {
+    } else if is_reserved(name) {
         Some(NameFault::Reserved)
     } else {
         None
@@ -199,15 +199,15 @@ fn fault_of(name: &[u8]) -> Option<NameFault>
 }
 
 // Whether each of these bytes may stand in a tenant name.
-fn all_may_stand(bytes: &[u8]) -> bool
+fn are_name_bytes(bytes: &[u8]) -> bool
     ensures { result ≡ list_all is_name_byte bytes.now }
 {
-    bytes.iter().all(|byte| may_stand(*byte))
+    bytes.iter().all(|byte| is_name_byte(*byte))
 }
 
 // Whether this byte may stand in a tenant name.
 #[tactic(auto, unfolding(crate::specs::Names::is_name_byte))]
-fn may_stand(byte: u8) -> bool
+fn is_name_byte(byte: u8) -> bool
     ensures { result ≡ is_name_byte byte }
 {
     byte.is_ascii_alphanumeric() || b"!-_.*'()".contains(&byte)
@@ -215,7 +215,7 @@ fn may_stand(byte: u8) -> bool
 
 // Whether no tenant may have this name.
 #[tactic(auto, unfolding(crate::specs::Names::is_reserved))]
-fn is_kept_back(name: &[u8]) -> bool
+fn is_reserved(name: &[u8]) -> bool
     ensures { result ≡ is_reserved name.now }
 {
     name == b".".as_slice() || name == b"..".as_slice() || name == b"__mimir_cluster".as_slice()

@@ -1,0 +1,6 @@
+pub mod CommandLine
+pub mod Line
+pub mod Names
+pub mod Output
+pub mod Request
+pub mod Scenario

@@ -1,0 +1,374 @@
+//! Whole scenarios. What they must print was computed apart from this program.
+
+use crate::options::options;
+use crate::play::{Played, play};
+use serde_json::Value;
+use std::alloc::Global;
+use std::test::Fail;
+
+// One alert is posted and read back.
+const POSTED_AND_READ: (&str, &str) = (
+    r#"at 1750000000000
+tick
+call p 1 a POST /alertmanager/api/v2/alerts "[{\"labels\":{\"a\":\"b\"}}]"
+pump
+call g 1 a GET /alertmanager/api/v2/alerts
+pump
+"#,
+    r#"reply p "HTTP/1.1 200 OK\r\nContent-Type: application/json\r\nContent-Length: 0\r\nConnection: close\r\n\r\n"
+reply g "HTTP/1.1 200 OK\r\nContent-Type: application/json\r\nContent-Length: 297\r\nConnection: close\r\n\r\n[{\"annotations\":{},\"endsAt\":\"2025-06-15T15:11:40.000Z\",\"fingerprint\":\"d2b371819297f98a\",\"generatorURL\":\"\",\"labels\":{\"a\":\"b\"},\"receivers\":[{\"name\":\"default\"}],\"startsAt\":\"2025-06-15T15:06:40.000Z\",\"status\":{\"inhibitedBy\":[],\"silencedBy\":[],\"state\":\"active\"},\"updatedAt\":\"2025-06-15T15:06:40.000Z\"}]"
+faults 0
+"#,
+);
+
+// A request without a tenant, with an empty name, with names of 150 and 151 bytes, with a byte that no name
+// has, and with a reserved name.
+const TENANT_NAMES: (&str, &str) = (
+    r#"at 1750000000000
+tick
+call n0 1 - GET /alertmanager/api/v2/alerts
+open n1 1
+bytes n1 "GET /alertmanager/api/v2/alerts HTTP/1.1\r\nX-Scope-OrgID: \r\n\r\n"
+call n 1 xxxxxxxxxxxxxxxxxxxxxxxxxxxxxxxxxxxxxxxxxxxxxxxxxxxxxxxxxxxxxxxxxxxxxxxxxxxxxxxxxxxxxxxxxxxxxxxxxxxxxxxxxxxxxxxxxxxxxxxxxxxxxxxxxxxxxxxxxxxxxxxxxxxxxx GET /alertmanager/api/v2/alerts
+pump
+call n2 1 xxxxxxxxxxxxxxxxxxxxxxxxxxxxxxxxxxxxxxxxxxxxxxxxxxxxxxxxxxxxxxxxxxxxxxxxxxxxxxxxxxxxxxxxxxxxxxxxxxxxxxxxxxxxxxxxxxxxxxxxxxxxxxxxxxxxxxxxxxxxxxxxxxxxxxx GET /alertmanager/api/v2/alerts
+pump
+call n3 1 a|b GET /alertmanager/api/v2/alerts
+pump
+call n4 1 .. GET /alertmanager/api/v2/alerts
+pump
+"#,
+    r#"reply n0 "HTTP/1.1 401 Unauthorized\r\nContent-Type: application/json\r\nContent-Length: 13\r\nConnection: close\r\n\r\n{\"code\":\"N0\"}"
+reply n1 "HTTP/1.1 400 Bad Request\r\nContent-Type: application/json\r\nContent-Length: 13\r\nConnection: close\r\n\r\n{\"code\":\"N1\"}"
+reply n "HTTP/1.1 200 OK\r\nContent-Type: application/json\r\nContent-Length: 2\r\nConnection: close\r\n\r\n[]"
+reply n2 "HTTP/1.1 400 Bad Request\r\nContent-Type: application/json\r\nContent-Length: 13\r\nConnection: close\r\n\r\n{\"code\":\"N2\"}"
+reply n3 "HTTP/1.1 400 Bad Request\r\nContent-Type: application/json\r\nContent-Length: 13\r\nConnection: close\r\n\r\n{\"code\":\"N3\"}"
+reply n4 "HTTP/1.1 400 Bad Request\r\nContent-Type: application/json\r\nContent-Length: 13\r\nConnection: close\r\n\r\n{\"code\":\"N4\"}"
+faults 0
+"#,
+);
+
+// An empty list changes nothing, and nor does a list in which one alert has no labels.
+const EMPTY_AND_REFUSED_POSTS: (&str, &str) = (
+    r#"at 1750000000000
+tick
+call p 1 a POST /alertmanager/api/v2/alerts "[]"
+pump
+call g 1 a GET /alertmanager/api/v2/alerts
+pump
+call q 1 a POST /alertmanager/api/v2/alerts "[{\"labels\":{\"a\":\"b\"}},{\"labels\":{}},{\"labels\":{\"c\":\"d\"}}]"
+pump
+call h 1 a GET /alertmanager/api/v2/alerts
+pump
+"#,
+    r#"reply p "HTTP/1.1 200 OK\r\nContent-Type: application/json\r\nContent-Length: 0\r\nConnection: close\r\n\r\n"
+reply g "HTTP/1.1 200 OK\r\nContent-Type: application/json\r\nContent-Length: 2\r\nConnection: close\r\n\r\n[]"
+reply q "HTTP/1.1 400 Bad Request\r\nContent-Type: application/json\r\nContent-Length: 13\r\nConnection: close\r\n\r\n{\"code\":\"A1\"}"
+reply h "HTTP/1.1 200 OK\r\nContent-Type: application/json\r\nContent-Length: 2\r\nConnection: close\r\n\r\n[]"
+faults 0
+"#,
+);
+
+// An alert fires until its end.
+const AN_END: (&str, &str) = (
+    r#"at 1750000000000
+tick
+call p 1 a POST /alertmanager/api/v2/alerts "[{\"labels\":{\"a\":\"b\"},\"endsAt\":\"2025-06-15T15:07:40Z\"}]"
+pump
+at 1750000059999
+tick
+pump
+call g 1 a GET /alertmanager/api/v2/alerts
+pump
+at 1750000060000
+tick
+pump
+call h 1 a GET /alertmanager/api/v2/alerts
+pump
+"#,
+    r#"reply p "HTTP/1.1 200 OK\r\nContent-Type: application/json\r\nContent-Length: 0\r\nConnection: close\r\n\r\n"
+reply g "HTTP/1.1 200 OK\r\nContent-Type: application/json\r\nContent-Length: 297\r\nConnection: close\r\n\r\n[{\"annotations\":{},\"endsAt\":\"2025-06-15T15:07:40.000Z\",\"fingerprint\":\"d2b371819297f98a\",\"generatorURL\":\"\",\"labels\":{\"a\":\"b\"},\"receivers\":[{\"name\":\"default\"}],\"startsAt\":\"2025-06-15T15:07:40.000Z\",\"status\":{\"inhibitedBy\":[],\"silencedBy\":[],\"state\":\"active\"},\"updatedAt\":\"2025-06-15T15:06:40.000Z\"}]"
+reply h "HTTP/1.1 200 OK\r\nContent-Type: application/json\r\nContent-Length: 2\r\nConnection: close\r\n\r\n[]"
+faults 0
+"#,
+);
+
+// A second post at one moment moves the moment of the update by a millisecond.
+const POSTED_TWICE: (&str, &str) = (
+    r#"at 1750000000000
+tick
+call p 1 a POST /alertmanager/api/v2/alerts "[{\"labels\":{\"a\":\"b\"}}]"
+pump
+call q 1 a POST /alertmanager/api/v2/alerts "[{\"labels\":{\"a\":\"b\"}}]"
+pump
+call g 1 a GET /alertmanager/api/v2/alerts
+pump
+"#,
+    r#"reply p "HTTP/1.1 200 OK\r\nContent-Type: application/json\r\nContent-Length: 0\r\nConnection: close\r\n\r\n"
+reply q "HTTP/1.1 200 OK\r\nContent-Type: application/json\r\nContent-Length: 0\r\nConnection: close\r\n\r\n"
+reply g "HTTP/1.1 200 OK\r\nContent-Type: application/json\r\nContent-Length: 297\r\nConnection: close\r\n\r\n[{\"annotations\":{},\"endsAt\":\"2025-06-15T15:11:40.000Z\",\"fingerprint\":\"d2b371819297f98a\",\"generatorURL\":\"\",\"labels\":{\"a\":\"b\"},\"receivers\":[{\"name\":\"default\"}],\"startsAt\":\"2025-06-15T15:06:40.000Z\",\"status\":{\"inhibitedBy\":[],\"silencedBy\":[],\"state\":\"active\"},\"updatedAt\":\"2025-06-15T15:06:40.001Z\"}]"
+faults 0
+"#,
+);
+
+// The request that reads the alerts of the tenant `a`.
+const READ: &str =
+    "GET /alertmanager/api/v2/alerts HTTP/1.1\r\nHost: amring\r\nX-Scope-OrgID: a\r\nContent-Length: 0\r\n\r\n";
+
+/// Plays a scenario, and gives how it ended and what it wrote.
+fn played(alloc: Global, scenario: &[u8]) -> Result<(Played, Vec<u8>), Fail> {
+    let setup = options(alloc, ["amring", "run"].as_slice())?;
+    let mut written = Vec::new(alloc);
+    let played = play(alloc, setup, scenario, &mut written)?;
+    Ok((played, written))
+}
+
+#[test]
+fn scenarios(rt: HostRuntime) -> Result<(), Fail> {
+    for (scenario, wanted) in [
+        POSTED_AND_READ,
+        TENANT_NAMES,
+        EMPTY_AND_REFUSED_POSTS,
+        AN_END,
+        POSTED_TWICE,
+    ] {
+        let (end, written) = played(rt.alloc(), scenario.as_bytes())?;
+        assert_eq!(rt; end, Played::All, "{scenario}");
+        assert!(rt; written.as_slice() == wanted.as_bytes(), "{scenario}");
+    }
+    Ok(())
+}
+
+/// A `bytes` line for each piece of a text.
+fn push_pieces(
+    alloc: Global,
+    lines: &mut String,
+    connection: &str,
+    text: &str,
+    size: usize,
+) -> Result<(), Fail> {
+    for piece in text.as_bytes().chunks(size.max(1)) {
+        let piece = Value::String(String::from_utf8_lossy(alloc, piece)?).to_string(alloc)?;
+        lines.push_str(format!(in alloc; "bytes {connection} {piece}\n")?.as_str())?;
+    }
+    Ok(())
+}
+
+#[test]
+fn a_request_may_be_cut_anywhere(rt: HostRuntime) -> Result<(), Fail> {
+    let alloc = rt.alloc();
+    let (whole, wanted) = POSTED_AND_READ;
+    let posts = whole.split_once("call g").ok_or("no second request")?.0;
+    for size in [1, 2, 3, 7, 40] {
+        let mut scenario = String::from_str(alloc, posts)?;
+        scenario.push_str("open g 1\n")?;
+        push_pieces(alloc, &mut scenario, "g", READ, size)?;
+        let (end, written) = played(alloc, scenario.as_bytes())?;
+        assert_eq!(rt; end, Played::All, "pieces of {size}");
+        assert!(rt; written.as_slice() == wanted.as_bytes(), "pieces of {size}");
+    }
+    Ok(())
+}
+
+#[test]
+fn bad_lines(rt: HostRuntime) -> Result<(), Fail> {
+    for line in [
+        b"ticks".as_slice(),
+        b"tick ",
+        b" tick",
+        b"tick\r",
+        b"TICK",
+        b"at",
+        b"at ",
+        b"at +1",
+        b"at -1",
+        b"at 1 ",
+        b"at 18446744073709551616",
+        b"open c",
+        b"open  1",
+        b"open c 1 ",
+        b"open c one",
+        b"bytes c",
+        b"bytes c ",
+        b"bytes c 1",
+        b"bytes c x",
+        b"bytes c \"\\q\"",
+        b"bytes c \"\\ud800\"",
+        b"bytes c \"a\" \"b\"",
+        b"call c 1 a GET",
+        b"call c 1 a GET /x ",
+        b"call c 1  GET /x",
+        b"call c 1 a GET /x []",
+        b"join 4",
+        b"# a comment\xff",
+        b"open \xff 1",
+    ] {
+        let mut scenario = b"# first\n\nopen c 2\n".to_vec(rt.alloc())?;
+        scenario.extend_from_slice(line)?;
+        scenario.extend_from_slice(b"\nopen c 2\n")?;
+        let (end, written) = played(rt.alloc(), scenario.as_slice())?;
+        let is_comment = line.starts_with(b"#");
+        let wanted_end = if is_comment {
+            Played::All
+        } else {
+            Played::BadLine(4)
+        };
+        let wanted = if is_comment {
+            "refused We2\nrefused We2\nfaults 0\n"
+        } else {
+            "refused We2\n"
+        };
+        assert_eq!(rt; end, wanted_end, "{line:?}");
+        assert!(rt; written.as_slice() == wanted.as_bytes(), "{line:?}");
+    }
+    Ok(())
+}
+
+#[test]
+fn lines_that_are_taken(rt: HostRuntime) -> Result<(), Fail> {
+    for (scenario, wanted) in [
+        ("", "faults 0\n"),
+        ("pump", "faults 0\n"),
+        ("\n\n# tick\n#", "faults 0\n"),
+        (
+            "at 00000000000000000000007\ntick\nat 6\ntick",
+            "refused We1\nfaults 0\n",
+        ),
+        ("at 250000000000001\ntick", "refused We1\nfaults 0\n"),
+        (
+            "open c 9\nopen c 0\nopen c 300\nopen c 18446744073709551615",
+            "refused We2\nrefused We2\nrefused We2\nrefused We2\nfaults 0\n",
+        ),
+        ("bytes c \t\"a\" \r\n", "refused We5\nfaults 0\n"),
+        ("bytes c \"\"", "faults 0\n"),
+        ("call c 2 - GET /x \"body\"", "refused We2\nfaults 0\n"),
+    ] {
+        let (end, written) = played(rt.alloc(), scenario.as_bytes())?;
+        assert_eq!(rt; end, Played::All, "{scenario}");
+        assert!(rt; written.as_slice() == wanted.as_bytes(), "{scenario}");
+    }
+    Ok(())
+}
+
+#[test]
+fn pieces_end_with_the_answer(rt: HostRuntime) -> Result<(), Fail> {
+    let alloc = rt.alloc();
+    let mut scenario = String::from_str(alloc, "open c 1\nbytes c \"?\\r\\n\\r\\n")?;
+    for _ in 0..9000 {
+        scenario.push('x')?;
+    }
+    scenario.push_str("\"\nbytes c \"x\"\nbytes d \"")?;
+    for _ in 0..9000 {
+        scenario.push('x')?;
+    }
+    scenario.push_str("\"\n")?;
+    let (end, written) = played(alloc, scenario.as_bytes())?;
+    let wanted =
+        r#"reply c "HTTP/1.1 400 Bad Request\r\nContent-Type: application/json\r\nContent-Length: 13\r\nConnection: close\r\n\r\n{\"code\":\"H1\"}"
+refused We5
+refused We5
+faults 0
+"#;
+    assert_eq!(rt; end, Played::All);
+    assert!(rt; written.as_slice() == wanted.as_bytes());
+    Ok(())
+}
+
+/// The lines that open connections, and then those that give each one's request, in pieces of its own size,
+/// with a piece of each request in turn.
+fn push_in_turns(
+    alloc: Global,
+    lines: &mut String,
+    requests: &[(&str, &str, usize)],
+) -> Result<(), Fail> {
+    for (connection, _, _) in requests {
+        lines.push_str(format!(in alloc; "open {connection} 1\n")?.as_str())?;
+    }
+    for turn in 0..200 {
+        for (connection, text, size) in requests {
+            if let Some(piece) = text.as_bytes().chunks((*size).max(1)).nth(turn) {
+                push_pieces(alloc, lines, connection, std::str::from_utf8(piece)?, *size)?;
+            }
+        }
+    }
+    Ok(())
+}
+
+/// The lines that name no connection, or one whose name begins with that of the tenant and a dash.
+fn lines_of(alloc: Global, lines: &str, tenant: &str) -> Result<String, Fail> {
+    let begin = format!(in alloc; "{tenant}-")?;
+    let mut kept = String::new(alloc);
+    for line in lines.lines() {
+        let connection = line.split(' ').nth(1).unwrap_or("");
+        if !connection.contains('-') || connection.starts_with(begin.as_str()) {
+            kept.push_str(line)?;
+            kept.push_str("\n")?;
+        }
+    }
+    Ok(kept)
+}
+
+const POST_A: &str =
+    "POST /alertmanager/api/v2/alerts HTTP/1.1\r\nX-Scope-OrgID: a\r\nContent-Length: 24\r\n\r\n[{\"labels\":{\"a\":\"b\"}}]  ";
+
+const POST_B: &str =
+    "POST /alertmanager/api/v2/alerts HTTP/1.1\r\nX-Scope-OrgID: b\r\nContent-Length: 51\r\n\r\n[{\"labels\":{\"a\":\"b\"},\"annotations\":{\"team\":\"b\"}}]  ";
+
+const POST_C: &str =
+    "POST /alertmanager/api/v2/alerts HTTP/1.1\r\nX-Scope-OrgID: c\r\nContent-Length: 15\r\n\r\n[{\"labels\":{}}]";
+
+const READ_B: &str = "GET /alertmanager/api/v2/alerts HTTP/1.1\r\nX-Scope-OrgID: b\r\n\r\n";
+
+const READ_C: &str = "GET /alertmanager/api/v2/alerts HTTP/1.1\r\nX-Scope-OrgID: c\r\n\r\n";
+
+#[test]
+fn tenants_are_alone(rt: HostRuntime) -> Result<(), Fail> {
+    let alloc = rt.alloc();
+    let mut scenario = String::from_str(alloc, "at 1750000000000\ntick\n")?;
+    let posts = [
+        ("a-post", POST_A, 5),
+        ("b-post", POST_B, 7),
+        ("c-post", POST_C, 6),
+    ];
+    push_in_turns(alloc, &mut scenario, posts.as_slice())?;
+    scenario.push_str("at 1750000000500\ntick\n")?;
+    let others = [
+        ("c-read", READ_C, 4),
+        ("b-again", POST_B, 9),
+        ("a-read", READ, 3),
+    ];
+    push_in_turns(alloc, &mut scenario, others.as_slice())?;
+    let last = [("b-read", READ_B, 8), ("a-again", READ, 11)];
+    push_in_turns(alloc, &mut scenario, last.as_slice())?;
+    let (_, together) = played(alloc, scenario.as_bytes())?;
+    let together = String::from_utf8_lossy(alloc, together.as_slice())?;
+    assert_eq!(rt; together.as_str().lines().count(), 9);
+    for tenant in ["a", "b", "c"] {
+        let scenario = lines_of(alloc, scenario.as_str(), tenant)?;
+        let (end, alone) = played(alloc, scenario.as_bytes())?;
+        let among = lines_of(alloc, together.as_str(), tenant)?;
+        assert_eq!(rt; end, Played::All, "tenant {tenant}");
+        assert!(rt; among.as_bytes() == alone.as_slice(), "tenant {tenant}");
+    }
+    Ok(())
+}
+
+#[test]
+fn command_lines(rt: HostRuntime) -> Result<(), Fail> {
+    for (words, is_taken) in [
+        (["amring", "run"].as_slice(), true),
+        (["bin/amring", "run"].as_slice(), true),
+        (["amring"].as_slice(), false),
+        ([].as_slice(), false),
+        (["amring", "serve"].as_slice(), false),
+        (["amring", "--help"].as_slice(), false),
+        (["amring", "help"].as_slice(), false),
+        (["amring", "run", "x"].as_slice(), false),
+        (["amring", "run", "--ring", "1,2,3"].as_slice(), false),
+        (["amring", "run", "run"].as_slice(), false),
+        (["amring", ""].as_slice(), false),
+    ] {
+        assert_eq!(rt; options(rt.alloc(), words).is_ok(), is_taken, "{words:?}");
+    }
+    Ok(())
+}
