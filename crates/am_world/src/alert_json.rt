@@ -39,50 +39,24 @@ fn alert_value(alloc: Global, item: &Item) -> Result<Value, AllocError>
 {
     let alert = &item.alert;
     let mut members = Map::new(alloc);
-    put(
-        &mut members,
-        alloc,
-        "annotations",
-        annotations_value(alloc, &alert.annotations)?,
-    )?;
-    put(
-        &mut members,
-        alloc,
-        "endsAt",
-        moment_value(alloc, alert.ends_at)?,
-    )?;
-    put(
-        &mut members,
-        alloc,
-        "fingerprint",
-        fingerprint_value(alloc, &alert.labels)?,
-    )?;
-    put(
-        &mut members,
-        alloc,
-        "generatorURL",
-        text_value(alloc, &alert.generator_url)?,
-    )?;
-    put(
-        &mut members,
-        alloc,
-        "labels",
-        label_set_value(alloc, &alert.labels)?,
-    )?;
-    put(&mut members, alloc, "receivers", receivers_value(alloc)?)?;
-    put(
-        &mut members,
-        alloc,
-        "startsAt",
-        moment_value(alloc, alert.starts_at)?,
-    )?;
-    put(&mut members, alloc, "status", status_value(alloc)?)?;
-    put(
-        &mut members,
-        alloc,
-        "updatedAt",
-        moment_value(alloc, item.stamp.moment)?,
-    )?;
+    let annotations = annotations_value(alloc, &alert.annotations)?;
+    put(&mut members, alloc, "annotations", annotations)?;
+    let ends_at = moment_value(alloc, alert.ends_at)?;
+    put(&mut members, alloc, "endsAt", ends_at)?;
+    let fingerprint = fingerprint_value(alloc, &alert.labels)?;
+    put(&mut members, alloc, "fingerprint", fingerprint)?;
+    let generator_url = text_value(alloc, &alert.generator_url)?;
+    put(&mut members, alloc, "generatorURL", generator_url)?;
+    let labels = label_set_value(alloc, &alert.labels)?;
+    put(&mut members, alloc, "labels", labels)?;
+    let receivers = receivers_value(alloc)?;
+    put(&mut members, alloc, "receivers", receivers)?;
+    let starts_at = moment_value(alloc, alert.starts_at)?;
+    put(&mut members, alloc, "startsAt", starts_at)?;
+    let status = status_value(alloc)?;
+    put(&mut members, alloc, "status", status)?;
+    let updated_at = moment_value(alloc, item.stamp.moment)?;
+    put(&mut members, alloc, "updatedAt", updated_at)?;
     Ok(Value::Object(members))
 }
 
@@ -125,12 +99,8 @@ fn labels_value(alloc: Global, labels: &[Label]) -> Result<Value, AllocError>
     let mut members = Map::new(alloc);
     for label in labels {
         let value = String::from_str(alloc, label.value.as_str())?;
-        put(
-            &mut members,
-            alloc,
-            label.name.as_str(),
-            Value::String(value),
-        )?;
+        let name = label.name.as_str();
+        put(&mut members, alloc, name, Value::String(value))?;
     }
     Ok(Value::Object(members))
 }

@@ -5,7 +5,6 @@ use crate::command::{Command, Request};
 use am_text::Text;
 use serde_json::Value;
 use std::alloc::{AllocError, Global};
-use std::fmt;
 
 /// Why a line gives no command.
 #[derive(Clone, Copy, Debug, PartialEq, Eq)]
@@ -15,17 +14,6 @@ pub enum LineFault {
     /// Memory ran out. The line may be a command.
     OutOfMemory,
 }
-
-impl fmt::Display for LineFault {
-    fn fmt<W: fmt::Write>(&self, f: &mut fmt::Formatter<W>) -> fmt::Result {
-        match self {
-            LineFault::NotACommand => f.write_str("not a command"),
-            LineFault::OutOfMemory => f.write_str("out of memory"),
-        }
-    }
-}
-
-impl std::error::Error for LineFault {}
 
 impl From<AllocError> for LineFault {
     ghost use Rattle.amring.specs.declared.line.LineFault.TheVariants.{OutOfMemory};
