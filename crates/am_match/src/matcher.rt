@@ -1,0 +1,158 @@
+ghost use Rattle.std.specs.Prelude.{◌≡◌, ◌||◌, ◌==◌, IfOk, IfErr, IsTrue, SomeIff, IsUtf8};
+ghost use Rattle.std.specs.List.{list_all};
+ghost use Rattle.std.specs.Char.{is_ascii_alphanumeric};
+ghost use Rattle.am_labels.specs.Labels.{is_label_name};
+ghost use Rattle.am_pattern.specs.Refused.{IsCauseOf, refused_after, IsRefusedRightly};
+ghost use Rattle.am_match.specs.Matchers.{is_on_pattern};
+ghost use Rattle.am_match.specs.Meaning.{takes_labels, IsTakingOf};
+
+use am_labels::LabelSet;
+use am_pattern::{Build, PatternCache};
+use am_text::Text;
+use std::alloc::{AllocError, Global};
+use std::marker::Model;
+
+/// How a matcher compares the value of a label.
+#[derive(Clone, Copy, PartialEq, Eq, Debug)]
+pub enum Operator {
+    /// `=`: equal to the value.
+    Equal,
+    /// `!=`: not equal to it.
+    NotEqual,
+    /// `=~`: taken by the pattern.
+    Match,
+    /// `!~`: not taken by it.
+    NotMatch,
+}
+
+impl Operator {
+    /// Whether it compares by a pattern.
+    pub fn is_on_pattern(self) -> bool
+        ensures { result ≡ is_on_pattern self }
+    {
+        matches!(self, Operator::Match | Operator::NotMatch)
+    }
+}
+
+/// A condition on one label: its name, an operator and a value.
+#[derive(PartialEq, Eq, Debug, Drop)]
+pub struct Matcher {
+    operator: Operator,
+    name: Text,
+    value: Text,
+}
+
+impl Model for Matcher {
+    ghost use Rattle.std.specs.Prelude.{IsTrue};
+    ghost use Rattle.am_labels.specs.Labels.{is_label_name};
+    ghost use Rattle.am_match.specs.Matchers.{MatcherText};
+
+    ghost Value = { MatcherText };
+
+    ghost view = { λ m. record { operator = m.operator; name = m.name; value = m.value } };
+
+    ghost invariant = { λ m. IsTrue (is_label_name m.name) };
+
+    ghost inverse = { λ m. record { operator = m.operator; name = m.name; value = m.value } };
+}
+
+impl Matcher {
+    /// A matcher, where the name is a label name `[a-zA-Z_][a-zA-Z0-9_]*`.
+    pub fn new(operator: Operator, name: Text, value: Text) -> Option<Matcher>
+        ensures { SomeIff result (IsTrue (is_label_name name)) (record { operator = operator; name = name; value = value }) }
+    {
+        if is_name(name.as_str()) {
+            Some(Matcher {
+                operator,
+                name,
+                value,
+            })
+        } else {
+            None
+        }
+    }
+
+    /// How it compares.
+    pub fn operator(&self) -> Operator
+        ensures { result ≡ self.now.operator }
+    {
+        self.operator
+    }
+
+    /// The label's name.
+    pub fn name(&self) -> &str
+        ensures name { result.now ≡ self.now.name }
+        ensures label { IsTrue (is_label_name self.now.name) }
+    {
+        self.name.as_str()
+    }
+
+    /// The value that it compares with, or the pattern.
+    pub fn value(&self) -> &str
+        ensures value { result.now ≡ self.now.value }
+        ensures text { IsUtf8 self.now.value }
+    {
+        self.value.as_str()
+    }
+
+    /// Whether the labels meet the condition. A label that is missing has the empty value.
+    ///
+    /// # Errors
+    /// Those of [`PatternCache::answer`] for the pattern, where the operator compares by one.
+    pub fn matches(
+        &self,
+        alloc: Global,
+        labels: &LabelSet,
+        cache: &mut PatternCache,
+    ) -> Result<bool, Build>
+        ensures value { IfOk result (λ taken. taken ≡ takes_labels self.now labels.now) }
+        ensures cause { IfErr result (λ error. IsTrue (is_on_pattern self.now.operator) × IsCauseOf self.now.value error) }
+        ensures refused { cache.new.refused ≡ refused_after cache.old.refused self.now.value result }
+        ensures capacity { cache.new.capacity ≡ cache.old.capacity }
+
+        // Where no build of this pattern was refused, the answer is the meaning.
+        ensures meaning { IsRefusedRightly cache.new.refused self.now.value → IsTakingOf self.now labels.now result }
+    {
+        let value = labels.get(self.name());
+        match self.operator {
+            Operator::Equal => Ok(self.value() == value),
+            Operator::NotEqual => Ok(self.value() != value),
+            Operator::Match => cache.answer(alloc, self.value(), value),
+            Operator::NotMatch => match cache.answer(alloc, self.value(), value) {
+                Ok(taken) => Ok(!taken),
+                Err(error) => Err(error),
+            },
+        }
+    }
+
+    /// An equal matcher.
+    pub fn copy(&self, alloc: Global) -> Result<Matcher, AllocError>
+        ensures { IfOk result (λ m. m ≡ self.now) }
+    {
+        Ok(Matcher {
+            operator: self.operator,
+            name: self.name.copy(alloc)?,
+            value: self.value.copy(alloc)?,
+        })
+    }
+}
+
+// Whether the text is a label name.
+#[tactic(auto, unfolding(am_labels::specs::Labels::is_label_name))]
+pub(crate) fn is_name(text: &str) -> bool
+    ensures { result ≡ is_label_name text.now }
+{
+    match text.as_bytes() {
+        [] => false,
+        [first, rest @ ..] => (first.is_ascii_alphabetic() || *first == b'_')
+            && are_name_bytes(rest),
+    }
+}
+
+fn are_name_bytes(bytes: &[u8]) -> bool
+    ensures { result ≡ list_all (λ byte. is_ascii_alphanumeric byte || byte == 95) bytes.now }
+{
+    bytes
+        .iter()
+        .all(|byte| byte.is_ascii_alphanumeric() || *byte == b'_')
+}
