@@ -13,12 +13,13 @@ use Rattle.am_http.specs.declared.fault.FrontFault.TheVariants.{BadHead}
 use Rattle.am_http.specs.declared.head.Plan.{Plan}
 use Rattle.am_http.specs.declared.request.Fed.TheVariants as fed
 use Rattle.am_http.specs.Scan.{kind, kind_and, start, next_line, next_place, scanned}
-use Rattle.am_http.specs.HeadEnd.{is_empty_line, head_len_after, head_len}
+use Rattle.am_http.specs.HeadEnd.{is_empty_line, head_len}
 use Rattle.am_http.specs.Reading.{read_head}
 use Rattle.am_http.specs.Checks.{judged}
 use Rattle.am_http.specs.Plans.{wanted_at, IsPlanAt}
 use Rattle.am_http.specs.Verdict.{request_of, after_head, verdict_at, verdict}
 use Rattle.am_http.specs.Stages.{HasHead, HasPlace}
+use Rattle.am_http.proofs.HeadEndLemmas.{head_len_after, head_len-passed}
 
 -- ---- the search for the end of a head
 
@@ -73,7 +74,7 @@ agrees [] n begun line = refl
 agrees (b ∷ bytes) n begun line = at_byte bytes (agrees bytes) b n begun line (b == 10)
 
 pub head_len-scanned : (text : List ℕ) → head_len text ≡ ended (scanned 0 start text)
-head_len-scanned text = sym (agrees text 0 false [])
+head_len-scanned text = head_len-passed text ∙ sym (agrees text 0 false [])
 
 -- ---- more bytes
 

@@ -1,5 +1,6 @@
 -- More bytes never change a verdict.
-use Rattle.std.proofs.Common.{◌≡◌, ◌≢◌, ℕ, ◌+◌, ◌<◌, ◌≤◌, ◌⊎◌, inl, inr, true, false, List, [], ◌∷◌, ◌++◌, length, take, drop, refl, sym, ◌∙◌, arith, Option, Some, None, Result, Ok, Err, nat_lt}
+use Rattle.std.proofs.Common.{◌≡◌, ◌≢◌, ℕ, ◌+◌, ◌<◌, ◌≤◌, ◌⊎◌, inl, inr, true, false, List, [], ◌∷◌, ◌++◌, length, take, drop, refl, sym, ap, ◌∙◌, arith, append_assoc, append-nil, Option, Some, None, Result, Ok, Err, nat_lt}
+use Rattle.std.specs.List.{concat}
 use Rattle.std.specs.Option.{option_map_or}
 use Rattle.std.proofs.lemmas.List.{length-append, take-append-le, drop-append-le}
 use Rattle.std.proofs.lemmas.Bool.Decides.{nat_tests}
@@ -8,10 +9,12 @@ use Rattle.am_http.specs.declared.scan.Scan.{Scan}
 use Rattle.am_http.specs.declared.scan.Scan.TheVariants.{Ended, Open}
 use Rattle.am_http.specs.declared.fault.FrontFault.{FrontFault}
 use Rattle.am_http.specs.declared.fault.FrontFault.TheVariants.{BadHead}
+use Rattle.am_http.specs.declared.request.Fed.{Fed}
 use Rattle.am_http.specs.declared.request.Fed.TheVariants as fed
 use Rattle.am_http.specs.Scan.{start, next_place, scanned}
 use Rattle.am_http.specs.Reading.{read_head}
 use Rattle.am_http.specs.Checks.{Wanted, judged}
+use Rattle.am_http.specs.Pieces.{or_next, verdict_in_pieces}
 use Rattle.am_http.specs.Verdict.{after_head, verdict}
 use Rattle.am_http.proofs.StageLemmas.{scanned-append, scanned-ended, ended_within, at_end, at_start, long_head, long_start}
 
@@ -85,3 +88,24 @@ by_scan text more (Open place) e decided = open_more text more place e decided
 
 pub verdict-more : (text more : List ℕ) → verdict text ≢ fed.Waits → verdict (text ++ more) ≡ verdict text
 verdict-more text more decided = by_scan text more (scanned 0 start text) refl decided
+
+-- ---- pieces
+
+-- a verdict stands against the bytes that follow
+by_verdict : (text rest : List ℕ) (v : Fed) → verdict text ≡ v
+    → or_next v (verdict (text ++ rest)) ≡ verdict (text ++ rest)
+by_verdict text rest fed.Waits e = refl
+by_verdict text rest (fed.Refused fault) e =
+    let stays = verdict-more text rest (λ waits. let differ : fed.Refused fault ≡ fed.Waits = sym e ∙ waits in cc) in
+    sym (stays ∙ e)
+by_verdict text rest (fed.Request request) e =
+    let stays = verdict-more text rest (λ waits. let differ : fed.Request request ≡ fed.Waits = sym e ∙ waits in cc) in
+    sym (stays ∙ e)
+
+pub verdict-pieces : (before : List ℕ) (pieces : List (List ℕ))
+    → verdict_in_pieces before pieces ≡ verdict (before ++ concat pieces)
+verdict-pieces before [] = rw append-nil refl
+verdict-pieces before (piece ∷ pieces) =
+    let all = ap verdict (append_assoc before piece (concat pieces)) in
+    rw (verdict-pieces (before ++ piece) pieces)
+    (by_verdict (before ++ piece) (concat pieces) (verdict (before ++ piece)) refl ∙ all)

@@ -31,7 +31,9 @@ is_path path = bytes_eq path (codes "/alertmanager/api/v2/alerts")
 
 -- the methods that a path takes
 abbrev pub method_in : List ℕ → Option Method
-method_in method = if bytes_eq method (codes "GET") then Some Get else (if bytes_eq method (codes "POST") then Some Post else None)
+method_in method =
+    if bytes_eq method (codes "GET") then Some Get
+    else (if bytes_eq method (codes "POST") then Some Post else None)
 
 -- a POST states the length of its body, and no body is sent in any transfer coding
 abbrev pub lacks_length : List ℕ → Fields → Option ℕ → Bool
@@ -57,9 +59,9 @@ or_fault (Some x) fault = Ok x
 unfoldable pub body_stated : List ℕ → Fields → Result ℕ FrontFault
 body_stated method fields = do
   stated ← content_length fields
-  -- a length is missing: a bad head, though RFC 9110 has the status code 411 for it
+  -- a missing length is answered as a bad head
   _ ← refused_if (lacks_length method fields stated) BadHead
-  -- the body is too long: a bad head, though RFC 9110 has 413 for it
+  -- so is a body that is too long
   _ ← refused_if (nat_lt 1048576 (unwrap_or stated 0)) BadHead
   Ok (unwrap_or stated 0)
 
@@ -67,7 +69,7 @@ body_stated method fields = do
 unfoldable pub served : List ℕ → List ℕ → Result Method FrontFault
 served method target = do
   _ ← refused_if (not (is_path (path_in target))) NoSuchPath
-  -- the path doesn't take the method: a bad head, though RFC 9110 has 405 for it
+  -- a method that the path doesn't take is answered as a bad head
   or_fault (method_in method) BadHead
 
 -- the checks of a head's method, target and fields

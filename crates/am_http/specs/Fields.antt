@@ -21,7 +21,8 @@ has_field name fields = list_any (λ f. str_eq_ignore_ascii_case f.0 name) field
 -- the values of the fields of a name, whatever its case, in order
 abbrev pub values_of : List ℕ → Fields → List (List ℕ)
 values_of name [] = []
-values_of name (f ∷ fields) = if str_eq_ignore_ascii_case f.0 name then f.1 ∷ values_of name fields else values_of name fields
+values_of name (f ∷ fields) =
+    if str_eq_ignore_ascii_case f.0 name then f.1 ∷ values_of name fields else values_of name fields
 
 -- decimal digits, one at least
 abbrev pub is_digits : List ℕ → Bool

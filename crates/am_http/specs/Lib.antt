@@ -9,6 +9,7 @@ pub mod Checks
 pub mod Paths
 pub mod Plans
 pub mod Verdict
+pub mod Pieces
 pub mod Stages
 pub mod Grown
 pub mod Connections

@@ -10,7 +10,13 @@ use Rattle.am_http.specs.Reading.{read_head}
 
 -- what a plan says of its head
 abbrev pub wanted_at : List ℕ → Plan → Wanted
-wanted_at head plan = record { tenant = plan.tenant; method = plan.method; target = span_bytes head plan.target; body_len = plan.body_len }
+wanted_at head plan =
+    record {
+      tenant = plan.tenant;
+      method = plan.method;
+      target = span_bytes head plan.target;
+      body_len = plan.body_len;
+    }
 
 -- the target lies in the head and is text, and the body isn't too long
 pub record IsPlanAt (head : List ℕ) (plan : Plan) : Type 0 where

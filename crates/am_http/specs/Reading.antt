@@ -1,5 +1,5 @@
--- The reader of request heads. It splits the text into lines, builds the only head that these can be, and keeps that head
--- where it is one by the grammar of `httparse`, has at most 64 field lines and prints to the text.
+-- The reader of request heads. It splits the text into lines, builds the only head that these can be, and keeps that
+-- head where it is one by the grammar of `httparse`, has at most 64 field lines and prints to the text.
 use Rattle.std.specs.Prelude.{ℕ, ◌-◌, ◌≤◌, Bool, ◌&&◌, nat_lt, nat_le, List, [], ◌∷◌, length, reverse, slice_index, Option, Some, None, if◌then◌else◌, ◌==◌}
 use Rattle.std.specs.List.{list_all, before_first, after_first}
 use Rattle.std.specs.Str.{bytes_eq, is_utf8}
@@ -13,7 +13,8 @@ pub record Row : Type 0 where
 -- the line of these bytes, the last one first: a CR before its LF belongs to its end
 abbrev pub row_of : List ℕ → Row
 row_of [] = record { bytes = []; end = lf }
-row_of (b ∷ back) = if b == 13 then record { bytes = reverse back; end = crlf } else record { bytes = reverse (b ∷ back); end = lf }
+row_of (b ∷ back) =
+    if b == 13 then record { bytes = reverse back; end = crlf } else record { bytes = reverse (b ∷ back); end = lf }
 
 -- the lines of a text, where `back` is what came of the first one, its last byte first
 abbrev pub rows_after : List ℕ → List ℕ → List Row
@@ -22,7 +23,8 @@ rows_after back (b ∷ bytes) = if b == 10 then row_of back ∷ rows_after [] by
 
 -- the parts of a field line, around its first colon
 abbrev pub field_of : Row → Field
-field_of row = record { name = before_first (λ b. b == 58) row.bytes; raw = after_first (λ b. b == 58) row.bytes; end = row.end }
+field_of row =
+    record { name = before_first (λ b. b == 58) row.bytes; raw = after_first (λ b. b == 58) row.bytes; end = row.end }
 
 -- all lines but the last, as field lines
 abbrev pub fields_of : List Row → List Field
@@ -52,7 +54,8 @@ head_at blank row rows =
 -- the head that lines can be, if there is one, after empty lines of these ends, the last one first
 abbrev pub head_of : List LineEnd → List Row → Option RequestHead
 head_of blank [] = None
-head_of blank (row ∷ rows) = if length row.bytes == 0 then head_of (row.end ∷ blank) rows else Some (head_at (reverse blank) row rows)
+head_of blank (row ∷ rows) =
+    if length row.bytes == 0 then head_of (row.end ∷ blank) rows else Some (head_at (reverse blank) row rows)
 
 -- whether each part of a field line is of its class
 abbrev pub is_field : Field → Bool
@@ -73,7 +76,8 @@ kept text (Some h) = if is_head h && bytes_eq (print_request h) text then Some h
 unfoldable pub read_head : List ℕ → Option RequestHead
 read_head text = kept text (head_of [] (rows_after [] text))
 
--- what a reader of heads says of a text, by the grammar alone: the head that it is, with at most 64 field lines, or that it is none
+-- what a reader of heads says of a text, by the grammar alone: the head that it is, with at most 64 field lines, or
+-- that it is none
 abbrev pub HeadIs : List ℕ → Option RequestHead → Type 0
 HeadIs text (Some h) = ReadsRequest text h [] × (length h.fields ≤ 64)
 HeadIs text None = (h : RequestHead) → ReadsRequest text h [] → length h.fields ≤ 64 → ⊥

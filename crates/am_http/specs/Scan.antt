@@ -31,7 +31,8 @@ next_line begun Text = Some (record { begun = true; line = Empty })
 
 -- the place after a byte, unless the head ends with it
 abbrev pub next_place : Place → ℕ → Option Place
-next_place p b = if b == 10 then next_line p.begun p.line else Some (record { begun = p.begun; line = kind_and p.line b })
+next_place p b =
+    if b == 10 then next_line p.begun p.line else Some (record { begun = p.begun; line = kind_and p.line b })
 
 -- where the head ends, or the place at which its bytes stop; n bytes came before
 abbrev pub scanned : ℕ → Place → List ℕ → Scan

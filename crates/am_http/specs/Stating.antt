@@ -31,4 +31,5 @@ and_stated (Ok (Some m)) (Some n) = if m == n then Ok (Some n) else Err BadHead
 abbrev pub stated_after : Result (Option ℕ) FrontFault → Fields → Result (Option ℕ) FrontFault
 stated_after stated [] = stated
 stated_after stated (f ∷ fields) =
-    stated_after (if str_eq_ignore_ascii_case f.0 (codes "Content-Length") then and_stated stated (number f.1) else stated) fields
+    stated_after
+    (if str_eq_ignore_ascii_case f.0 (codes "Content-Length") then and_stated stated (number f.1) else stated) fields

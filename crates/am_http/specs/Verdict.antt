@@ -11,18 +11,21 @@ use Rattle.am_http.specs.Checks.{Wanted, path_in, query_in, judged}
 
 -- the request that a head asks for, with this body
 abbrev pub request_of : Wanted → List ℕ → Request
-request_of w body = record { tenant = w.tenant; method = w.method; path = path_in w.target; query = query_in w.target; body = body }
+request_of w body =
+    record { tenant = w.tenant; method = w.method; path = path_in w.target; query = query_in w.target; body = body }
 
 -- the verdict after a head, where `rest` follows it: a head that passes waits for its body
 abbrev pub after_head : Result Wanted FrontFault → List ℕ → Fed
 after_head (Err fault) rest = fed.Refused fault
-after_head (Ok w) rest = if nat_lt (length rest) w.body_len then fed.Waits else fed.Request (request_of w (take w.body_len rest))
+after_head (Ok w) rest =
+    if nat_lt (length rest) w.body_len then fed.Waits else fed.Request (request_of w (take w.body_len rest))
 
--- the verdict where the head's length is known, or that it hasn't ended: a head has at most 16,384 bytes, and a longer one
--- is a bad head, though RFC 6585 has the status code 431 for it
+-- the verdict where the head's length is known, or that it hasn't ended: a head has at most 16,384 bytes, and a longer
+-- one is answered as a bad head
 abbrev pub verdict_at : List ℕ → Option ℕ → Fed
 verdict_at text None = if nat_lt 16384 (length text) then fed.Refused BadHead else fed.Waits
-verdict_at text (Some n) = if nat_lt 16384 n then fed.Refused BadHead else after_head (judged (read_head (take n text))) (drop n text)
+verdict_at text (Some n) =
+    if nat_lt 16384 n then fed.Refused BadHead else after_head (judged (read_head (take n text))) (drop n text)
 
 -- the verdict on the bytes of a connection
 unfoldable pub verdict : List ℕ → Fed

@@ -115,7 +115,8 @@ fn advance(alloc: Global, stage: Stage, text: &[u8], before: usize) -> Result<St
 fn request(alloc: Global, text: &[u8], plan: Plan, n: usize) -> Result<Request, AllocError>
     requires head { HasHead text.now plan n }
     requires body { n + plan.body_len ≤ length text.now }
-    ensures { IfOk result (λ request. request ≡ request_of (wanted_at (take n text.now) plan) (take plan.body_len (drop n text.now))) }
+    ensures { IfOk result (λ request.
+        request ≡ request_of (wanted_at (take n text.now) plan) (take plan.body_len (drop n text.now))) }
 {
     let (path, query) = split_target(text_at(&text[..n], plan.target));
     let rest = &text[n..];

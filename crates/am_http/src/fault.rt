@@ -14,11 +14,14 @@ pub enum FrontFault {
     EmptyTenant,
     /// `N2`, 400: the tenant's name has more than 150 bytes.
     TenantTooLong,
-    /// `N3`, 400: the tenant's name has a byte that isn't allowed, or a tenant is named twice.
+    /// `N3`, 400: the tenant's name has a byte that isn't allowed, or the header is given twice.
     BadTenant,
     /// `N4`, 400: the tenant's name is reserved.
     ReservedTenant,
-    /// `H1`, 400: the head isn't one by the grammar, or asks for what isn't served.
+    /// `H1`, 400: the head isn't one by RFC 9112 sections 2 to 5, or has more than 16,384 bytes or more than
+    /// 64 field lines. It says of the body's length (RFC 9112 section 6) what is no number or isn't the same
+    /// twice, nothing in a POST, a transfer coding, or more than 1,048,576 bytes. Or the path doesn't take the
+    /// method.
     BadHead,
     /// `H5`, 404: there is no such path.
     NoSuchPath,
@@ -57,6 +60,11 @@ impl FrontFault {
 }
 
 impl fmt::Display for FrontFault {
+    ghost use Rattle.std.specs.Prelude.{Some};
+    ghost use Rattle.am_http.specs.Codes.{code_of};
+
+    ghost output = { λ fault. Some (code_of fault) };
+
     fn fmt<W: fmt::Write>(&self, f: &mut fmt::Formatter<W>) -> fmt::Result {
         f.write_str(self.code())
     }

@@ -140,7 +140,8 @@ enum Stated {
 fn and_number(head: &[u8], before: Stated, value: Span) -> Stated
     requires within { IsWithin (length head.now) value }
     requires before { IsStatedAt head.now before }
-    ensures stated { stated_view head.now result ≡ and_stated (stated_view head.now before) (number (span_bytes head.now value)) }
+    ensures stated { stated_view head.now result ≡
+        and_stated (stated_view head.now before) (number (span_bytes head.now value)) }
     ensures number { IsStatedAt head.now result }
 {
     let digits = value.of(head);
@@ -163,7 +164,8 @@ fn and_number(head: &[u8], before: Stated, value: Span) -> Stated
 /// The number that Content-Length states, if there is one.
 pub(crate) fn content_length(head: &[u8], fields: &[HeaderSpan]) -> Result<Option<Span>, FrontFault>
     requires { All (IsHeaderWithin (length head.now)) fields.now }
-    ensures stated { seen (option_map (number_at head.now)) result ≡ stated_length (map (header_bytes head.now) fields.now) }
+    ensures stated { seen (option_map (number_at head.now)) result ≡
+        stated_length (map (header_bytes head.now) fields.now) }
     ensures number { IfOk result (IsNumberAt head.now) }
 {
     let mut stated = Stated::Nothing;

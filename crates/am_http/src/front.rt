@@ -26,6 +26,7 @@ impl Model for Front {
 
 impl Front {
     /// A front without connections. It takes no memory.
+    #[tactic(auto, unfolding(crate::specs::Connections::bytes_of))]
     pub fn new(alloc: Global) -> Front
         ensures none { result ≡ [] }
         ensures unread { (c : ℕ) → bytes_of c result ≡ None }
@@ -38,7 +39,8 @@ impl Front {
     /// Begins a connection, or begins one anew; no bytes of it have come. Fails only where memory is
     /// refused, and what the front then holds isn't stated.
     pub fn open(&mut self, alloc: Global, connection: ConnectionId) -> Result<(), AllocError>
-        ensures { OnOk result ((c : ℕ) → bytes_of c self.new ≡ (if c == connection then Some [] else bytes_of c self.old)) }
+        ensures { OnOk result ((c : ℕ) →
+            bytes_of c self.new ≡ (if c == connection then Some [] else bytes_of c self.old)) }
     {
         self.connections.insert(connection, Connection::new(alloc))?;
         Ok(())
@@ -61,9 +63,11 @@ impl Front {
         piece: &[u8],
     ) -> Result<Fed, AllocError>
         requires reading { IsSome (bytes_of connection self.old) }
-        ensures verdict { IfOk result (λ fed. (before : List ℕ) → bytes_of connection self.old ≡ Some before → fed ≡ verdict (before ++ piece.now)) }
+        ensures verdict { IfOk result (λ fed. (before : List ℕ) → bytes_of connection self.old ≡ Some before →
+            fed ≡ verdict (before ++ piece.now)) }
         ensures table { IfOk result (λ fed. (before : List ℕ) → bytes_of connection self.old ≡ Some before → (c : ℕ) →
-            bytes_of c self.new ≡ (if c == connection then left_open fed (before ++ piece.now) else bytes_of c self.old)) }
+            bytes_of c self.new ≡
+            (if c == connection then left_open fed (before ++ piece.now) else bytes_of c self.old)) }
     {
         let Some(reading) = self.connections.remove(&connection) else {
             unreachable!()

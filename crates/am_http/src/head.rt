@@ -74,7 +74,9 @@ fn method_named(name: &[u8]) -> Option<Method>
 // transfer coding.
 fn lacks_length(method: &[u8], head: &[u8], fields: &[HeaderSpan], stated: Option<Span>) -> bool
     requires { All (IsHeaderWithin (length head.now)) fields.now }
-    ensures { result ≡ lacks_stated_length method.now (map (header_bytes head.now) fields.now) (option_map (number_at head.now) stated) }
+    ensures { result ≡
+        lacks_stated_length method.now (map (header_bytes head.now) fields.now)
+        (option_map (number_at head.now) stated) }
 {
     (method == b"POST".as_slice() && stated.is_none())
         || has_field(head, fields, b"Transfer-Encoding")
@@ -124,7 +126,9 @@ fn check(
     requires target { IsWithin (length head.now) spans.path }
     requires text { IsUtf8 (span_bytes head.now spans.path) }
     requires fields { All (IsHeaderWithin (length head.now)) fields.now }
-    ensures wanted { seen (wanted_at head.now) result ≡ checked (span_bytes head.now spans.method) (span_bytes head.now spans.path) (map (header_bytes head.now) fields.now) }
+    ensures wanted { seen (wanted_at head.now) result ≡
+        checked (span_bytes head.now spans.method) (span_bytes head.now spans.path)
+        (map (header_bytes head.now) fields.now) }
     ensures plan { IfOk result (IsPlanAt head.now) }
 {
     let method = spans.method.of(head);

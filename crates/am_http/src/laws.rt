@@ -1,7 +1,10 @@
 //! Laws of what the contracts cite. Each function does nothing: its contract is the law.
-ghost use Rattle.std.specs.Prelude.{◌≡◌, ◌≢◌, ℕ, List, ◌++◌};
+ghost use Rattle.std.specs.Prelude.{◌≡◌, ◌≢◌, ℕ, List, [], ◌++◌};
+ghost use Rattle.std.specs.List.{concat};
 ghost use Rattle.am_http.specs.HeadEnd.{head_len, IsHeadLen};
 ghost use Rattle.am_http.specs.Reading.{read_head, HeadIs};
+ghost use Rattle.am_http.specs.Pieces.{verdict_in_pieces};
+ghost use Rattle.am_http.specs.Replies.{phrase_of, HasPhrases};
 ghost use Rattle.am_http.specs.Verdict.{verdict};
 ghost use Rattle.am_http.specs.declared.request.Fed.TheVariants.{Waits};
 
@@ -19,4 +22,15 @@ pub fn heads_are_least()
 /// More bytes never change a verdict.
 pub fn verdicts_stay()
     ensures { (text more : List ℕ) → verdict text ≢ Waits → verdict (text ++ more) ≡ verdict text }
+{}
+
+/// Bytes that come in pieces, of which none is taken in after a verdict, come to what all of them together
+/// come to.
+pub fn pieces_are_one_text()
+    ensures { (pieces : List (List ℕ)) → verdict_in_pieces [] pieces ≡ verdict (concat pieces) }
+{}
+
+/// The phrases of the status codes that replies have.
+pub fn phrases_of_replies()
+    ensures { HasPhrases phrase_of }
 {}

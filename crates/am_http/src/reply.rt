@@ -40,7 +40,8 @@ fn fields(alloc: Global, length: usize) -> Result<String, AllocError>
 }
 
 /// The bytes of a reply with this status code and this body, which is JSON or empty: a message of
-/// RFC 9112 after which the connection is closed. Fails only where memory is refused.
+/// RFC 9112 after which the connection is closed. A status code has three digits (RFC 9110 section 15); one
+/// that has no name gets an empty phrase. Fails only where memory is refused.
 pub fn reply_bytes(alloc: Global, status: u16, body: &[u8]) -> Result<Octets, AllocError>
     ensures { IfOk result (λ bytes. bytes ≡ reply status body.now) }
 {

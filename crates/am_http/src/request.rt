@@ -61,7 +61,7 @@ pub struct Request {
     pub path: Text,
     /// What follows that `?`, undecoded; empty where there is none.
     pub query: Text,
-    /// The body.
+    /// The body, at most 1,048,576 bytes.
     pub body: Octets,
 }
 

@@ -1,6 +1,7 @@
 pub mod AgainLemmas
 pub mod CalendarLemmas
 pub mod CountLemmas
+pub mod DurationLemmas
 pub mod InstantLemmas
 pub mod OrderLemmas
 pub mod PrintingLemmas

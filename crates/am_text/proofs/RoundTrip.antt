@@ -12,7 +12,7 @@ use Rattle.am_text.specs.Printing.{utc_date_time, moment_text}
 use Rattle.am_text.proofs.AgainLemmas.{instant_again}
 use Rattle.am_text.proofs.CountLemmas.{date_found}
 use Rattle.am_text.proofs.InstantLemmas.{moment_at-moment}
-use Rattle.am_text.proofs.TakenLemmas.{instant_taken}
+use Rattle.am_text.proofs.TakenLemmas.{instant_taken, then_some}
 
 -- the three digits of a fraction are digits
 digits_are : (n : ℕ) → list_all is_ascii_digit ((48 + n % 1000 / 100) ∷ (48 + n % 100 / 10) ∷ (48 + n % 10) ∷ []) ≡ true
@@ -57,11 +57,15 @@ unfolding moment_of moment_text
 moment_of-moment_text n h =
     rw (instant_again (utc_date_time n) (utc_fits n h), utc_instant n h, moment_at-moment n h) refl
 
+-- the moment of a text is that of the date-time that it spells
+pub moment_of-spelled : (text : List ℕ) (d : DateTime) → Spells text d → moment_of text ≡ moment_at (instant d)
+unfolding moment_of
+moment_of-spelled text d spells = rw (spells.1, instant_again d spells.0) refl
+
 -- what follows for a result that is the moment of the text, or the fault where it has none
 module _ {E : Type 0} (fault : E) (text : List ℕ) (r : Result (Option ℕ) E) (exact : r ≡ ok_or (moment_of text) fault) where
   pub spelled_gives : (d : DateTime) → Spells text d → r ≡ ok_or (moment_at (instant d)) fault
-  unfolding moment_of
-  spelled_gives d spells = exact ∙ rw (spells.1, instant_again d spells.0) refl
+  spelled_gives d spells = exact ∙ rw (moment_of-spelled text d spells) refl
 
   pub printed_gives : (n : ℕ) → n ≤ greatest_moment → text ≡ moment_text n → r ≡ Ok (Some n)
   printed_gives n h e = exact ∙ rw (e, moment_of-moment_text n h) refl
@@ -69,3 +73,8 @@ module _ {E : Type 0} (fault : E) (text : List ℕ) (r : Result (Option ℕ) E) 
 -- a text without an instant has no moment
 pub only_spelled : (text : List ℕ) (z : ℤ) → Some z ≡ instant_of text → (d : DateTime) × Spells text d
 only_spelled text z e = let taken = instant_taken text z (sym e) in (taken.0, taken.1)
+
+-- so a text with a moment spells a date-time
+pub moment_spelled : (text : List ℕ) (m : Option ℕ) → moment_of text ≡ Some m → (d : DateTime) × Spells text d
+unfolding moment_of
+moment_spelled text m e = then_some e (λ z instant last. only_spelled text z (sym instant))

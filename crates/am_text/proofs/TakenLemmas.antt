@@ -15,7 +15,7 @@ use Rattle.am_text.specs.DateTime.{Offset, utc, ahead, behind, DateTime, IsOffse
 use Rattle.am_text.specs.Reading.{◌>>=◌, two_at, four_at, below_at, after_byte, after_letter, day_number, date_at, clock_at, fraction_at, distance_of, offset_of, instant_of}
 
 -- the value of a step that gave something
-then_some : {A B P : Type 0} {o : Option A} {f : A → Option B} {y : B} → (o >>= f) ≡ Some y → ((x : A) → o ≡ Some x → f x ≡ Some y → P) → P
+pub then_some : {A B P : Type 0} {o : Option A} {f : A → Option B} {y : B} → (o >>= f) ≡ Some y → ((x : A) → o ≡ Some x → f x ≡ Some y → P) → P
 then_some {o = None} e k = absurd cc
 then_some {o = Some x} e k = k x refl e
 
@@ -213,7 +213,7 @@ offset_taken (first ∷ rest) z e =
     ]
 
 -- what passes from the front on, passes
-all_taken : (xs : List ℕ) → list_all is_ascii_digit (take (prefix_len is_ascii_digit xs) xs) ≡ true
+pub all_taken : (xs : List ℕ) → list_all is_ascii_digit (take (prefix_len is_ascii_digit xs) xs) ≡ true
 all_taken [] = refl
 all_taken (x ∷ xs) =
     elim (cases_Bool (is_ascii_digit x)) [

@@ -1,5 +1,7 @@
 pub mod Calendar
 pub mod DateTime
+pub mod Duration
+pub mod Faults
 pub mod Instant
 pub mod Moment
 pub mod Printing

@@ -1,5 +1,3 @@
-ghost use Rattle.std.specs.Prelude.{◌≡◌, codes, Some};
-
 use std::error::Error;
 use std::fmt;
 
@@ -8,21 +6,33 @@ use std::fmt;
 pub enum TextFault {
     /// The text is no moment.
     NotAMoment,
+    /// The text is no duration.
+    NotADuration,
+    /// The text is a duration above 100 years.
+    OutOfRange,
 }
 
 impl TextFault {
-    /// The code under which the fault is told.
+    ghost use Rattle.std.specs.Prelude.{◌≡◌};
+    ghost use Rattle.am_text.specs.Faults.{code_of};
+
+    /// The code under which the fault is told, `Tx1` to `Tx3`.
     pub fn code(self) -> &'static str
-        ensures { result.now ≡ codes "Tx1" }
+        ensures { result.now ≡ code_of self }
     {
         match self {
             TextFault::NotAMoment => "Tx1",
+            TextFault::NotADuration => "Tx2",
+            TextFault::OutOfRange => "Tx3",
         }
     }
 }
 
 impl fmt::Display for TextFault {
-    ghost output = { λ _. Some (codes "Tx1") };
+    ghost use Rattle.std.specs.Prelude.{Some};
+    ghost use Rattle.am_text.specs.Faults.{code_of};
+
+    ghost output = { λ fault. Some (code_of fault) };
 
     fn fmt<W: fmt::Write>(&self, f: &mut fmt::Formatter<W>) -> fmt::Result {
         f.write_str(self.code())

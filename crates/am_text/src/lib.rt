@@ -1,13 +1,16 @@
-//! Texts, bytes and moments: the values that every other crate speaks of.
+//! Texts, bytes, moments and durations: the values that every other crate speaks of.
 #![tactic(auto)]
 
+mod duration;
 mod fault;
+pub mod laws;
 mod moment;
 mod octets;
 mod printing;
 mod reading;
 mod text;
 
+pub use duration::read_duration;
 pub use fault::TextFault;
 pub use moment::Moment;
 pub use octets::Octets;

@@ -141,7 +141,7 @@ fn read_digits(text: &[u8]) -> Option<(u32, &[u8])>
     Some((fraction_milliseconds(digits), rest))
 }
 
-fn count_digits(text: &[u8]) -> usize
+pub(crate) fn count_digits(text: &[u8]) -> usize
     ensures count { result ≡ prefix_len is_ascii_digit text.now }
     ensures within { result ≤ length text.now }
 {
@@ -159,7 +159,7 @@ fn fraction_milliseconds(digits: &[u8]) -> u32
     }
 }
 
-fn digit(byte: u8) -> u32
+pub(crate) fn digit(byte: u8) -> u32
     ensures { result ≡ byte - 48 }
 {
     u32::from(byte.saturating_sub(b'0'))

@@ -1,4 +1,4 @@
-use crate::{Moment, Octets, Text, TextFault, print_moment, read_moment};
+use crate::{Moment, Octets, Text, TextFault, print_moment, read_duration, read_moment};
 use std::test::Fail;
 
 fn milliseconds(text: &str) -> Option<u64> {
@@ -97,6 +97,43 @@ fn prints_moments(rt: HostRuntime) -> Result<(), Fail> {
 }
 
 #[test]
+fn reads_durations(rt: HostRuntime) {
+    let durations = [
+        ("1h30m", 5_400_000),
+        ("0", 0),
+        ("0s", 0),
+        ("100y", 3_153_600_000_000),
+        ("5m", 300_000),
+        ("1m5ms", 60_005),
+        ("1d", 86_400_000),
+        ("1y2w3d4h5m6s7ms", 33_019_506_007),
+        ("007d", 604_800_000),
+    ];
+    for (text, want) in durations {
+        assert_eq!(rt; read_duration(text), Ok(want), "{text}");
+    }
+}
+
+#[test]
+fn refuses_other_durations(rt: HostRuntime) {
+    let forms = [
+        "", "1m1h", "1h1h", "5", "00", "h", "1h30", "1h 30m", "1.5h", "-5m", "5M", "5mm", "5min",
+        "1h0",
+    ];
+    for text in forms {
+        assert_eq!(rt; read_duration(text), Err(TextFault::NotADuration), "{text}");
+    }
+    for text in [
+        "101y",
+        "100y1ms",
+        "18446744073709551616ms",
+        "99999999999999999999y",
+    ] {
+        assert_eq!(rt; read_duration(text), Err(TextFault::OutOfRange), "{text}");
+    }
+}
+
+#[test]
 fn adds_to_moments(rt: HostRuntime) -> Result<(), Fail> {
     let greatest = Moment::greatest();
     assert_eq!(rt; Moment::from_milliseconds(253_402_300_800_000), None);
@@ -109,8 +146,15 @@ fn adds_to_moments(rt: HostRuntime) -> Result<(), Fail> {
 
 #[test]
 fn tells_faults(rt: HostRuntime) -> Result<(), Fail> {
-    let told = format!(in rt.alloc(); "{}", TextFault::NotAMoment)?;
-    assert_eq!(rt; told.as_str(), "Tx1");
+    let faults = [
+        (TextFault::NotAMoment, "Tx1"),
+        (TextFault::NotADuration, "Tx2"),
+        (TextFault::OutOfRange, "Tx3"),
+    ];
+    for (fault, want) in faults {
+        let told = format!(in rt.alloc(); "{fault}")?;
+        assert_eq!(rt; told.as_str(), want);
+    }
     Ok(())
 }
 

@@ -6,12 +6,12 @@ use Rattle.am_http.specs.Connections.{bytes_of}
 use Rattle.am_world.specs.declared.event.Event.{Event}
 use Rattle.am_world.specs.declared.event.Event.TheVariants.{Open, Bytes, Tick}
 use Rattle.am_world.specs.Local.{blank}
-use Rattle.am_world.specs.Moments.{last_moment}
+use Rattle.am_world.specs.Moments.{last_moment, clock_after}
 use Rattle.am_world.specs.declared.world.World.{World}
 use Rattle.am_world.specs.Outputs.{front_told}
 use Rattle.am_world.specs.Places.{local_in, local_at, up_at, incarnation_at, bytes_at}
-use Rattle.am_world.specs.PrivateCluster.{PrivateCluster, serves, after, after_all, told, told_all}
-use Rattle.am_world.specs.Simulation.{Follows, Stands, Kept, Faulted, bytes_read}
+use Rattle.am_world.specs.PrivateCluster.{PrivateCluster, serves, after, after_all, told, told_all, fits, fits_all}
+use Rattle.am_world.specs.Simulation.{Follows, Stands, Kept, Stopped, bytes_read}
 use Rattle.am_world.specs.View.{Reading, Table, look, watch, adds}
 
 -- the new world has of instances, tenants and the clock what the old one has
@@ -100,45 +100,53 @@ kept_open w w' c i up front same outputs = record {
   told = λ t v p f s new u later. refl;
   front = λ v f new u later. refl;
   whole = λ v f new u later. refl;
+  fits = λ t v p f s. refl;
+  silent = λ d. refl;
+  down = λ d. let never = sym (d.up i) ∙ up in cc;
   up = up_same w w' same.up;
+  incarnation = incarnation_same w w' same.incarnation;
+  clock = same.clock;
 }
 
 -- an event that adds nothing to any view, and is no change to the table of any that the world follows
 pub kept_nothing : (w : World) (e : Event) → ((v : Table) → Follows v w → watch v e ≡ v) →
-    ((t : List ℕ) (v : Table) (p : PrivateCluster) → Follows v w → Stands t w p → (after_all p (adds t v e) ≡ p) × (told_all p (adds t v e) ≡ [])) →
-    ((v : Table) → Follows v w → front_told v e ≡ []) → Kept w e w
-kept_nothing w e unchanged silent unsaid = record {
+    ((t : List ℕ) (v : Table) (p : PrivateCluster) → Follows v w → Stands t w p → (after_all p (adds t v e) ≡ p) × (told_all p (adds t v e) ≡ []) × (fits_all p (adds t v e) ≡ true)) →
+    ((v : Table) → Follows v w → front_told v e ≡ []) → w.clock ≡ clock_after e w.clock → Kept w e w
+kept_nothing w e unchanged nothing unsaid clock = record {
   follows = λ v f new. rw (unchanged v f) f;
-  stands = λ t v p f s. rw ((silent t v p f s).0) s;
+  stands = λ t v p f s. rw ((nothing t v p f s).0) s;
   outs = [];
   appended = sym (append-nil w.outputs.items);
-  told = λ t v p f s new u later. sym ((silent t v p f s).1);
+  told = λ t v p f s new u later. sym ((nothing t v p f s).1);
   front = λ v f new u later. sym (unsaid v f);
   whole = λ v f new u later. refl;
+  fits = λ t v p f s. (nothing t v p f s).2;
+  silent = λ d. refl;
+  down = λ d. d;
   up = λ i. refl;
+  incarnation = λ i. refl;
+  clock = clock;
 }
 
 pub kept_not_up : (w : World) (c i : ℕ) → up_at i w ≡ false → Kept w (Open c i) w
 unfolding watch adds front_told
-kept_not_up w c i down = kept_nothing w (Open c i) (λ v f. rw (sym (f.up i) ∙ down) refl) (λ t v p f s. (refl, refl)) (λ v f. refl)
+kept_not_up w c i down = kept_nothing w (Open c i) (λ v f. rw (sym (f.up i) ∙ down) refl) (λ t v p f s. (refl, refl, refl)) (λ v f. refl) refl
 
 pub kept_late_bytes : (w : World) (c m : ℕ) (piece : List ℕ) → nat_lt last_moment m ≡ true → Kept w (Bytes c m piece) w
 unfolding watch adds front_told
-kept_late_bytes w c m piece late = kept_nothing w (Bytes c m piece) (λ v f. rw late refl) (λ t v p f s. rw late (refl, refl)) (λ v f. rw late refl)
+kept_late_bytes w c m piece late = kept_nothing w (Bytes c m piece) (λ v f. rw late refl) (λ t v p f s. rw late (refl, refl, refl)) (λ v f. rw late refl) refl
 
 -- a tick that is refused changes no private cluster either
 pub kept_refused_tick : (w : World) (m : ℕ) → (nat_lt last_moment m || nat_lt m w.clock) ≡ true → Kept w (Tick m) w
-unfolding watch adds after told front_told
-kept_refused_tick w m refused = kept_nothing w (Tick m) (λ v f. refl) (λ t v p f s. (rw (← s.clock, refused) refl, refl)) (λ v f. refl)
+unfolding watch adds after told fits front_told
+kept_refused_tick w m refused = kept_nothing w (Tick m) (λ v f. refl) (λ t v p f s. (rw (← s.clock, refused) refl, refl, refl)) (λ v f. refl) (rw refused refl)
 
 -- a fault after steps that kept clock, outputs, faults and incarnation is one from before them
-pub faulted_after : (w mid w' : World) → mid.faults ≡ w.faults → mid.outputs.items ≡ w.outputs.items → mid.clock ≡ w.clock →
-    mid.instance.incarnation ≡ w.instance.incarnation → Faulted mid w' → Faulted w w'
-faulted_after w mid w' faults outputs clock incarnation f = record {
+pub stopped_after : (w mid w' : World) → mid.faults ≡ w.faults → mid.outputs.items ≡ w.outputs.items → mid.clock ≡ w.clock →
+    mid.instance.incarnation ≡ w.instance.incarnation → Stopped mid w' → Stopped w w'
+stopped_after w mid w' faults outputs clock incarnation f = record {
   counted = rw (← faults) f.counted;
   down = f.down;
-  unread = f.unread;
-  lost = f.lost;
   incarnation = λ i. f.incarnation i ∙ incarnation_same w mid incarnation i;
   outputs = f.outputs ∙ outputs;
   clock = f.clock ∙ clock;
@@ -150,7 +158,7 @@ max_later m clock h = omega arith
 
 pub kept_tick : (w w' : World) (m : ℕ) → (nat_lt last_moment m || nat_lt m w.clock) ≡ false → w'.clock ≡ m → w'.instance ≡ w.instance →
     w'.outputs.items ≡ w.outputs.items → Kept w (Tick m) w'
-unfolding watch adds after told front_told bytes_at up_at incarnation_at local_at
+unfolding watch adds after told fits front_told bytes_at up_at incarnation_at local_at
 kept_tick w w' m allowed clock instance outputs = record {
   follows = λ v f new. record { reading = rw instance f.reading; up = rw instance f.up };
   stands = λ t v p f s. rw (← s.clock, allowed) (record { clock = clock; up = rw instance s.up; incarnation = rw instance s.incarnation; local = rw instance s.local });
@@ -159,5 +167,10 @@ kept_tick w w' m allowed clock instance outputs = record {
   told = λ t v p f s new u later. refl;
   front = λ v f new u later. refl;
   whole = λ v f new u later. refl;
+  fits = λ t v p f s. refl;
+  silent = λ d. refl;
+  down = λ d. record { up = rw instance d.up; unread = rw instance d.unread; lost = rw instance d.lost };
   up = λ i. rw instance refl;
+  incarnation = λ i. rw instance refl;
+  clock = rw allowed clock;
 }

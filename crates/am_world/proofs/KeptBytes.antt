@@ -18,11 +18,11 @@ use Rattle.am_world.specs.declared.event.Output.TheVariants.{Reply}
 use Rattle.am_world.specs.Moments.{effective, last_moment}
 use Rattle.am_world.specs.declared.world.World.{World}
 use Rattle.am_world.specs.Happening.{Asked}
-use Rattle.am_world.specs.Local.{Local, blank, all_joined, joined_by, decision_at, reply_at, local_after, reply_by, local_by}
+use Rattle.am_world.specs.Local.{Local, blank, all_joined, joined_by, decision_at, reply_at, fits_at, local_after, reply_by, fits_by, local_by}
 use Rattle.am_world.specs.Outputs.{is_of_front, is_of_somebody, front_outputs, front_told, refused_by, refused_on, belongs, outputs_of}
 use Rattle.am_world.specs.Places.{local_in, local_at, incarnation_at, bytes_at}
 use Rattle.std.specs.List.{list_all}
-use Rattle.am_world.specs.PrivateCluster.{Accepted, PrivateInstance, PrivateCluster, serves, items_in, accepted_at, local_of, own_after, after, after_all, told, told_all}
+use Rattle.am_world.specs.PrivateCluster.{Accepted, PrivateInstance, PrivateCluster, serves, items_in, accepted_at, local_of, own_after, after, after_all, told, told_all, fits, fits_all}
 use Rattle.am_world.specs.Simulation.{Follows, Stands, Kept, Later, bytes_read}
 use Rattle.am_world.specs.Taking.{Takes, outs_by}
 use Rattle.am_world.specs.View.{Seen, Reading, AskedAs, TurnedAway, Table, look, watch, adds, noted, asked_by, asked_on, seen_as}
@@ -110,8 +110,9 @@ refused_front v w c m piece unread f = elim (nat_lt last_moment m) as (λ b. (if
 pub kept_unread_bytes : (w : World) (c m : ℕ) (piece : List ℕ) → bytes_of c w.instance.front ≡ None → Kept w (Bytes c m piece) w
 kept_unread_bytes w c m piece unread = kept_nothing w (Bytes c m piece)
     (λ v f. refused_watch v w c m piece unread f)
-    (λ t v p f s. rw (refused_adds t v w c m piece unread f) (refl, refl))
+    (λ t v p f s. rw (refused_adds t v w c m piece unread f) (refl, refl, refl))
     (λ v f. refused_front v w c m piece unread f)
+    refl
 
 -- ---- bytes that are taken
 
@@ -225,6 +226,29 @@ told_bytes fed.Waits t w p c m bytes v u s later = refl
 told_bytes (fed.Refused fault) t w p c m bytes v u s later = rw (later.away c (look_here c TurnedAway v)) refl
 told_bytes (fed.Request r) t w p c m bytes v u s later = told_asked t w p c m r u s (later.asked c r.tenant (look_here c (AskedAs r.tenant) v))
 
+-- ---- counts
+
+fits_asked : (t : List ℕ) (w : World) (p : PrivateCluster) (c m : ℕ) (r : Request) → Stands t w p →
+    fits_at 1 w.instance.incarnation (effective m w.clock) r (local_in r.tenant w.instance) ≡ true →
+    fits_all p (if same t r.tenant then Asked c 1 m r ∷ [] else []) ≡ true
+unfolding fits local_at incarnation_at
+fits_asked t w p c m r s fit =
+    let here : local_in t w.instance ≡ local_of (p.at 1) = s.local 1 in
+    let life : w.instance.incarnation ≡ p.incarnation 1 = s.incarnation 1 in
+    elim (same_tells t r.tenant) [
+      | inl e ↦
+          let asked : local_in r.tenant w.instance ≡ local_in t w.instance = ap (λ u. local_in u w.instance) (sym e.1) in
+          let fit_here = rw (asked, here, life, s.clock) at fit in
+          rw (e.0, fit_here) refl
+      | inr e ↦ rw (e.0) refl
+    ]
+
+fits_bytes : (told : Fed) (t : List ℕ) (w : World) (p : PrivateCluster) (c m : ℕ) → Stands t w p →
+    fits_by told 1 w.instance.incarnation (effective m w.clock) (λ s. local_in s w.instance) ≡ true → fits_all p (asked_by t c 1 m told) ≡ true
+fits_bytes fed.Waits t w p c m s fit = refl
+fits_bytes (fed.Refused fault) t w p c m s fit = refl
+fits_bytes (fed.Request r) t w p c m s fit = fits_asked t w p c m r s fit
+
 -- what the front says, and that nobody else says anything
 front_bytes : (told : Fed) (c i incarnation moment : ℕ) (locals : List ℕ → Local) (bytes : List ℕ) (v u : Table) → Later ((c, seen_as 1 bytes told) ∷ v) u →
     front_outputs u (outs_by c (reply_by told i incarnation moment locals)) ≡ refused_by c told
@@ -262,5 +286,10 @@ kept_bytes w w' c m before piece allowed here clock takes = record {
   whole = λ v f new u later.
       whole_bytes (verdict (before ++ piece)) c 1 w.instance.incarnation (effective m w.clock) (λ t. local_in t w.instance) (before ++ piece) v u
       (rw (sees v w c m before piece allowed here f) at later);
+  fits = λ t v p f s. rw (gives t v w c m before piece allowed here f) (fits_bytes (verdict (before ++ piece)) t w p c m s takes.fits);
+  silent = λ d. let never = sym here ∙ d.unread c 1 in cc;
+  down = λ d. let never = sym here ∙ d.unread c 1 in cc;
   up = up_same w w' takes.up;
+  incarnation = incarnation_same w w' takes.incarnation;
+  clock = clock;
 }

@@ -1,3 +1,4 @@
+mod Counts
 mod Joined
 mod Kept
 mod KeptBytes

@@ -1,5 +1,5 @@
 -- from single steps to whole runs; no kind of event is named here but in what a table remembers
-use Rattle.std.proofs.Common.{IsTrue, ◌≡◌, ◌≢◌, inl, inr, ◌∙◌, ℕ, nat_lt, Bool, true, false, List, [], ◌∷◌, ◌++◌, Option, None, Some, refl, sym, ap, arith, if◌then◌else◌, nat_eq}
+use Rattle.std.proofs.Common.{IsTrue, ◌&&◌, ◌≡◌, ◌≢◌, inl, inr, ◌∙◌, ℕ, nat_lt, Bool, true, false, List, [], ◌∷◌, ◌++◌, Option, None, Some, refl, sym, ap, arith, if◌then◌else◌, nat_eq}
 use Rattle.std.proofs.lemmas.Bool.Decides.{nat_tests}
 use Rattle.std.proofs.lemmas.List.{append-nil, append_assoc}
 use Rattle.std.proofs.Math.Seq.{drop-append_seam, take-append_seam}
@@ -13,7 +13,7 @@ use Rattle.am_world.specs.Happening.{Happening}
 use Rattle.am_world.specs.Outputs.{belongs, outputs_of, is_of_front, is_of_somebody, front_outputs, front_told, front_told_all}
 use Rattle.std.specs.List.{list_all}
 use Rattle.std.proofs.lemmas.List.Folds.{list_all-append}
-use Rattle.am_world.specs.PrivateCluster.{PrivateCluster, serves, after, after_all, told, told_all}
+use Rattle.am_world.specs.PrivateCluster.{PrivateCluster, serves, after, after_all, told, told_all, fits, fits_all}
 use Rattle.am_world.specs.Simulation.{Follows, Stands, Kept, Later, Faulted, Step, Run, Headline}
 use Rattle.am_world.specs.View.{Seen, Reading, AskedAs, TurnedAway, Table, look, watch, watch_all, adds, view, opens_new, names_once, noted}
 
@@ -71,21 +71,30 @@ after_all-append : (p : PrivateCluster) (xs ys : List Happening) → after_all p
 after_all-append p [] ys = refl
 after_all-append p (x ∷ xs) ys = after_all-append (after p x) xs ys
 
+-- counts that fit one after the other
+both_fit : (a b c : Bool) → (a && b) ≡ true → (b ≡ true → c ≡ true) → (a && c) ≡ true
+both_fit true b c h more = more h
+both_fit false b c h more = h
+
+fits_all-append : (p : PrivateCluster) (xs ys : List Happening) → fits_all p xs ≡ true → fits_all (after_all p xs) ys ≡ true → fits_all p (xs ++ ys) ≡ true
+fits_all-append p [] ys fit more = more
+fits_all-append p (x ∷ xs) ys fit more = both_fit (fits p x) (fits_all (after p x) xs) _ fit (λ rest. fits_all-append (after p x) xs ys rest more)
+
 -- a fault is counted for good
-faulted_counts : (w w' : World) → Faulted w w' → w'.faults ≢ 0
-faulted_counts w w' f e = let counted = f.counted in omega arith
+faulted_counts : (w : World) (e : Event) (w' : World) → Faulted w e w' → w'.faults ≢ 0
+faulted_counts w e w' f none = let counted = f.stopped.counted in omega arith
 
 faults_stay : (w : World) (es : List Event) (w' : World) → Run w es w' → w.faults ≢ 0 → w'.faults ≢ 0
 faults_stay w [] w' run some = λ none. some (sym (ap (λ (x : World). x.faults) run) ∙ none)
 faults_stay w (e ∷ es) w' (mid, step, run) some = faults_stay mid es w' run (elim step [
   | inl kept ↦ λ none. some (sym kept.0 ∙ none)
-  | inr faulted ↦ faulted_counts w mid faulted
+  | inr faulted ↦ faulted_counts w e mid faulted
 ])
 
 -- a step before a run without fault met none
 step_kept : (w : World) (e : Event) (mid : World) (es : List Event) (w' : World) → Step w e mid → Run mid es w' → w'.faults ≡ 0 → Kept w e mid
 step_kept w e mid es w' (inl kept) run none = kept.1
-step_kept w e mid es w' (inr faulted) run none = absurd (faults_stay mid es w' run (faulted_counts w mid faulted) none)
+step_kept w e mid es w' (inr faulted) run none = absurd (faults_stay mid es w' run (faulted_counts w e mid faulted) none)
 
 -- one event more
 pub run_more : (w : World) (es : List Event) (mid : World) (e : Event) (w' : World) → Run w es mid → Step mid e w' → Run w (es ++ e ∷ []) w'
@@ -99,6 +108,7 @@ record Ran (w : World) (es : List Event) (w' : World) (t : List ℕ) (v : Table)
   told : (u : Table) → Later (watch_all v es) u → outputs_of t u outs ≡ told_all p (view t v es)
   front : (u : Table) → Later (watch_all v es) u → front_outputs u outs ≡ front_told_all v es
   whole : (u : Table) → Later (watch_all v es) u → list_all (is_of_somebody u) outs ≡ true
+  fits : fits_all p (view t v es) ≡ true
   follows : Follows (watch_all v es) w'
   stands : Stands t w' (after_all p (view t v es))
 
@@ -120,6 +130,7 @@ first_step w e mid es w' t v p kept f s new once rest = record {
   whole = λ u later.
       list_all-append (is_of_somebody u) kept.outs rest.outs
       ∙ rw (kept.whole v f new u (later_after (watch v e) _ u (later_all (watch v e) es once) later), rest.whole u later) refl;
+  fits = fits_all-append p (adds t v e) (view t (watch v e) es) (kept.fits t v p f s) rest.fits;
   follows = rest.follows;
   stands = rw (after_all-append p (adds t v e) (view t (watch v e) es)) rest.stands;
 }
@@ -132,6 +143,7 @@ ran w [] w' t v p run none f s once = rw run (record {
   told = λ u later. refl;
   front = λ u later. refl;
   whole = λ u later. refl;
+  fits = refl;
   follows = f;
   stands = s;
 })
@@ -149,6 +161,7 @@ headline w es w' run none t v p f s once =
       front = rw (r.appended, drop-append_seam w.outputs.items r.outs) (r.front (watch_all v es) (later_itself (watch_all v es)));
       whole = rw (r.appended, drop-append_seam w.outputs.items r.outs) (r.whole (watch_all v es) (later_itself (watch_all v es)));
       stay = rw (r.appended, take-append_seam w.outputs.items r.outs) refl;
+      fits = r.fits;
       follows = r.follows;
       stands = r.stands;
     }

@@ -1,5 +1,6 @@
 -- what one tenant has at one instance, and what a request of the tenant does to it
-use Rattle.std.specs.Prelude.{ℕ, List, [], ◌∷◌, ◌+◌, length, Option, None, Some, if◌then◌else◌}
+use Rattle.std.specs.Prelude.{ℕ, Bool, true, List, [], ◌∷◌, ◌+◌, length, Option, None, Some, if◌then◌else◌}
+use Rattle.am_alert.specs.Made.{counts_fit}
 use Rattle.am_http.specs.Codes.{code_of, status_of}
 use Rattle.am_http.specs.Replies.{reply, refusal}
 use Rattle.am_http.specs.declared.fault.FrontFault.{FrontFault}
@@ -24,6 +25,10 @@ blank = record { held = []; used = 0 }
 unfoldable pub decision_at : (i incarnation moment : ℕ) → Request → Local → Decision
 decision_at i incarnation moment request local =
     decided request local.held moment (record { instance = i; incarnation = incarnation; used = local.used })
+
+-- no count of the stamps that the decision makes passes the greatest
+unfoldable pub fits_at : (i incarnation moment : ℕ) → Request → Local → Bool
+fits_at i incarnation moment request local = counts_fit (decision_at i incarnation moment request local).items
 
 -- the reply's bytes
 unfoldable pub reply_at : (i incarnation moment : ℕ) → Request → Local → List ℕ
@@ -52,6 +57,12 @@ abbrev pub reply_by : Fed → (i incarnation moment : ℕ) → (List ℕ → Loc
 reply_by fed.Waits i incarnation moment locals = None
 reply_by (fed.Refused fault) i incarnation moment locals = Some (refusal_reply fault)
 reply_by (fed.Request request) i incarnation moment locals = Some (reply_at i incarnation moment request (locals request.tenant))
+
+-- .. whether its counts fit ..
+abbrev pub fits_by : Fed → (i incarnation moment : ℕ) → (List ℕ → Local) → Bool
+fits_by fed.Waits i incarnation moment locals = true
+fits_by (fed.Refused fault) i incarnation moment locals = true
+fits_by (fed.Request request) i incarnation moment locals = fits_at i incarnation moment request (locals request.tenant)
 
 -- .. and what any tenant has afterwards
 abbrev pub local_by : Fed → List ℕ → (i incarnation moment : ℕ) → Local → Local

@@ -1,5 +1,5 @@
 -- what one tenant would have if nobody else were there: lists and recomputation alone
-use Rattle.std.specs.Prelude.{ℕ, ◌+◌, ◌==◌, Bool, List, [], ◌∷◌, ◌++◌, length, map, if◌then◌else◌}
+use Rattle.std.specs.Prelude.{ℕ, ◌+◌, ◌==◌, Bool, true, ◌&&◌, List, [], ◌∷◌, ◌++◌, length, map, if◌then◌else◌}
 use Rattle.am_http.specs.declared.request.Request.{Request}
 use Rattle.am_item.specs.declared.item.Item.{Item}
 use Rattle.am_item.specs.Best.{best}
@@ -7,7 +7,7 @@ use Rattle.am_world.specs.declared.event.Output.{Output}
 use Rattle.am_world.specs.declared.event.Output.TheVariants.{Reply}
 use Rattle.am_world.specs.Moments.{effective, is_refused_tick}
 use Rattle.am_world.specs.Happening.{Happening, Asked, Ticked}
-use Rattle.am_world.specs.Local.{Local, decision_at, reply_at}
+use Rattle.am_world.specs.Local.{Local, decision_at, reply_at, fits_at}
 
 -- an item, and the moment at which the instance accepted it
 pub record Accepted : Type 0 where
@@ -79,6 +79,11 @@ told p (Asked connection i moment request) =
     Reply connection (reply_at i (p.incarnation i) (effective moment p.clock) request (local_of (p.at i))) ∷ []
 told p (Ticked moment) = []
 
+-- no count of the stamps that this makes passes the greatest
+unfoldable pub fits : PrivateCluster → Happening → Bool
+fits p (Asked connection i moment request) = fits_at i (p.incarnation i) (effective moment p.clock) request (local_of (p.at i))
+fits p (Ticked moment) = true
+
 -- one thing after the other
 abbrev pub after_all : PrivateCluster → List Happening → PrivateCluster
 after_all p [] = p
@@ -88,3 +93,8 @@ after_all p (h ∷ hs) = after_all (after p h) hs
 abbrev pub told_all : PrivateCluster → List Happening → List Output
 told_all p [] = []
 told_all p (h ∷ hs) = told p h ++ told_all (after p h) hs
+
+-- .. and none passes it all along
+abbrev pub fits_all : PrivateCluster → List Happening → Bool
+fits_all p [] = true
+fits_all p (h ∷ hs) = fits p h && fits_all (after p h) hs

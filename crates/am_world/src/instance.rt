@@ -1,6 +1,6 @@
 //! One instance: what it reads, holds and counts, of all tenants.
 
-ghost use Rattle.std.specs.Prelude.{◌≡◌, ◌==◌, ◌+◌, length, true, ◌++◌, ◌≤◌, ℕ, List, [], Option, None, Some, IfOk, OnOk, IsSome, is_some, if◌then◌else◌, false};
+ghost use Rattle.std.specs.Prelude.{◌≡◌, ◌==◌, ◌+◌, ◌<◌, length, true, ◌++◌, ◌≤◌, ℕ, List, [], Option, None, Some, IfOk, OnOk, IsSome, is_some, if◌then◌else◌, false};
 ghost use Rattle.am_http.specs.Connections.{bytes_of, left_open};
 ghost use Rattle.am_http.specs.Verdict.{verdict};
 ghost use Rattle.am_item.specs.Book.{items_of};
@@ -75,7 +75,10 @@ pub struct Instance {
 
 impl Instance {
     ghost use Rattle.am_world.specs.Decision.{decision_of};
-    ghost use Rattle.am_world.specs.Local.{Local, blank, decision_at, reply_at, joined_by, local_after, reply_by, local_by};
+    ghost use Rattle.am_alert.specs.Made.{greatest_count};
+    ghost use Rattle.am_item.specs.Counts.{count_of};
+    ghost use Rattle.am_world.specs.Faults.{Counted};
+    ghost use Rattle.am_world.specs.Local.{Local, blank, decision_at, fits_at, reply_at, joined_by, local_after, reply_by, fits_by, local_by};
     ghost use Rattle.am_world.specs.Places.{local_in};
 
     /// An instance that is up, in this incarnation, and has nothing.
@@ -115,7 +118,7 @@ impl Instance {
     }
 
     /// Begins a connection, or begins one anew.
-    pub fn open(&mut self, alloc: Global, connection: ConnectionId) -> Result<(), Fault>
+    pub fn open(&mut self, alloc: Global, connection: ConnectionId) -> Result<(), AllocError>
         ensures front { OnOk result ((c : ℕ) → bytes_of c self.new.front ≡ (if c == connection then Some [] else bytes_of c self.old.front)) }
         ensures local { OnOk result ((t : List ℕ) → local_in t self.new ≡ local_in t self.old) }
         ensures up { OnOk result (self.new.up ≡ self.old.up) }
@@ -136,6 +139,8 @@ impl Instance {
         requires { IsSome (bytes_of connection self.old.front) }
         ensures reply { IfOk result (λ reply. (before : List ℕ) → bytes_of connection self.old.front ≡ Some before →
             reply ≡ reply_by (verdict (before ++ piece.now)) FIRST self.old.incarnation moment (λ t. local_in t self.old)) }
+        ensures counts { (before : List ℕ) → bytes_of connection self.old.front ≡ Some before →
+            Counted result (fits_by (verdict (before ++ piece.now)) FIRST self.old.incarnation moment (λ t. local_in t self.old)) }
         ensures local { OnOk result ((before : List ℕ) → bytes_of connection self.old.front ≡ Some before → (t : List ℕ) →
             local_in t self.new ≡ local_by (verdict (before ++ piece.now)) t FIRST self.old.incarnation moment (local_in t self.old)) }
         ensures front { OnOk result ((before : List ℕ) → bytes_of connection self.old.front ≡ Some before → (c : ℕ) →
@@ -159,6 +164,7 @@ impl Instance {
     /// Decides a whole request at this moment, keeps what it brings, and gives the reply's bytes.
     fn answer(&mut self, alloc: Global, request: &Request, moment: Moment) -> Result<Octets, Fault>
         ensures reply { IfOk result (λ reply. reply ≡ reply_at FIRST self.old.incarnation moment request.now (local_in request.now.tenant self.old)) }
+        ensures counts { Counted result (fits_at FIRST self.old.incarnation moment request.now (local_in request.now.tenant self.old)) }
         ensures local { OnOk result ((t : List ℕ) → local_in t self.new ≡
             (if same t request.now.tenant then local_after FIRST self.old.incarnation moment request.now (local_in t self.old) else local_in t self.old)) }
         ensures front { OnOk result (self.new.front ≡ self.old.front) }
@@ -173,7 +179,8 @@ impl Instance {
 
     /// The decision on a request of a tenant, by what is held of the tenant.
     fn decide(&self, alloc: Global, request: &Request, moment: Moment) -> Result<Decided, Fault>
-        ensures { IfOk result (λ d. decision_of d ≡ decision_at FIRST self.now.incarnation moment request.now (local_in request.now.tenant self.now)) }
+        ensures decision { IfOk result (λ d. decision_of d ≡ decision_at FIRST self.now.incarnation moment request.now (local_in request.now.tenant self.now)) }
+        ensures counts { Counted result (fits_at FIRST self.now.incarnation moment request.now (local_in request.now.tenant self.now)) }
     {
         let maker = Maker {
             instance: FIRST,
@@ -190,17 +197,21 @@ impl Instance {
         Ok(decided)
     }
 
-    /// Keeps the items of a tenant, and counts their stamps.
-    fn keep(&mut self, alloc: Global, tenant: &TenantName, items: Vec<Item>) -> Result<(), Fault>
+    /// Keeps the items of a tenant, and counts their stamps. No count may pass the greatest.
+    fn keep(
+        &mut self,
+        alloc: Global,
+        tenant: &TenantName,
+        items: Vec<Item>,
+    ) -> Result<(), AllocError>
+        requires { 0 < length items.items → count_of tenant.now self.old.counts + length items.items ≤ greatest_count }
         ensures local { OnOk result ((t : List ℕ) → local_in t self.new ≡ (if same t tenant.now then joined_by items.items (local_in t self.old) else local_in t self.old)) }
         ensures front { OnOk result (self.new.front ≡ self.old.front) }
         ensures up { OnOk result (self.new.up ≡ self.old.up) }
         ensures incarnation { self.new.incarnation ≡ self.old.incarnation }
     {
         let used = self.counts.used(tenant);
-        let count = used
-            .checked_add(items.len() as u64)
-            .ok_or(Fault::CountsExhausted)?;
+        let count = used + items.len() as u64;
         put_all(alloc, &mut self.book, tenant, items)?;
         self.counts.set(alloc, tenant, count)?;
         Ok(())

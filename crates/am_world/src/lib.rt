@@ -8,3 +8,7 @@ mod instance;
 pub mod setup;
 pub mod theorem;
 pub mod world;
+
+pub use event::{Event, LAST_MOMENT, Output, Refused};
+pub use setup::Setup;
+pub use world::World;

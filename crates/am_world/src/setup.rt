@@ -1,10 +1,10 @@
 //! What a world is opened with.
 
-ghost use Rattle.std.specs.Prelude.{◌≡◌, ◌↔◌, IsTrue, IsSome, IfSome, length, take};
+ghost use Rattle.std.specs.Prelude.{◌≡◌, ◌↔◌, ◌++◌, ◌-◌, IsTrue, IsSome, IfSome, length, replicate};
 ghost use Rattle.std.specs.List.{list_all};
 ghost use Rattle.am_world.specs.Setup.{all_differ, is_instance, is_ring, is_setup};
 
-/// The settings of a world.
+/// The settings of a world. Behind the ring's instances stand zeros, which are no instance's number.
 #[derive(Clone, Copy)]
 pub struct Setup {
     key: [u8; 32],
@@ -20,7 +20,7 @@ impl Setup {
     pub fn new(key: [u8; 32], ring: &[u8], cache: u32, start: u32) -> Option<Setup>
         ensures valid { IsSome result ↔ IsTrue (is_setup ring.now cache start) }
         ensures key { IfSome result (λ setup. setup.key ≡ key) }
-        ensures ring { IfSome result (λ setup. take (length ring.now) setup.ring ≡ ring.now) }
+        ensures ring { IfSome result (λ setup. setup.ring ≡ ring.now ++ replicate (8 - length ring.now) 0) }
         ensures cache { IfSome result (λ setup. setup.cache ≡ cache) }
         ensures start { IfSome result (λ setup. setup.start ≡ start) }
     {

@@ -4,6 +4,7 @@ ghost use Rattle.std.specs.Prelude.{◌≡◌, ℕ, List, [], true};
 ghost use Rattle.std.specs.List.{list_all};
 ghost use Rattle.am_world.specs.Outputs.{outputs_of, front_outputs, front_told_all, is_of_somebody};
 ghost use Rattle.am_world.specs.PrivateCluster.{opened, told_all};
+ghost use Rattle.am_world.specs.Simulation.{RunsFrom};
 ghost use Rattle.am_world.specs.View.{view, watch_all, names_once};
 
 use crate::event::Event;
@@ -15,6 +16,7 @@ use std::alloc::Global;
 /// tenant is, byte for byte and in order, what a private cluster puts out that has this tenant alone and sees
 /// what the events are to it; provided that no fault came and no connection's name is used twice.
 pub fn run_alone(alloc: Global, setup: Setup, events: &[Event]) -> World
+    ensures steps { RunsFrom setup.start events.now result }
     ensures alone { result.faults ≡ 0 → names_once [] events.now → (t : List ℕ) →
         outputs_of t (watch_all [] events.now) result.outputs.items ≡ told_all (opened setup.start) (view t [] events.now) }
     ensures front { result.faults ≡ 0 → names_once [] events.now →
@@ -36,6 +38,8 @@ pub fn run_both(
     other_setup: Setup,
     other_events: &[Event],
 ) -> (World, World)
+    ensures steps { RunsFrom setup.start events.now result.0 }
+    ensures other_steps { RunsFrom other_setup.start other_events.now result.1 }
     ensures equal { result.0.faults ≡ 0 → result.1.faults ≡ 0 → names_once [] events.now → names_once [] other_events.now →
         setup.start ≡ other_setup.start → (t : List ℕ) → view t [] events.now ≡ view t [] other_events.now →
         outputs_of t (watch_all [] events.now) result.0.outputs.items ≡ outputs_of t (watch_all [] other_events.now) result.1.outputs.items }

@@ -1,8 +1,9 @@
 //! The world: one way in, one way out.
 
-ghost use Rattle.std.specs.Prelude.{◌≡◌, ◌++◌, ◌≤◌, ◌<◌, ℕ, List, [], ◌∷◌, take, Option, None, Some, IfOk, OnOk, OnErr, IsOk, IsSome, MatchOption};
+ghost use Rattle.std.specs.Prelude.{◌≡◌, ◌++◌, ◌≤◌, ◌<◌, ℕ, List, [], ◌∷◌, take, Option, None, Some, IfOk, OnOk, OnErr, IsOk, IsErr, IsSome, IsTrue, MatchOption};
 ghost use Rattle.am_http.specs.Connections.{bytes_of};
-ghost use Rattle.am_world.specs.Moments.{last_moment, effective};
+ghost use Rattle.am_http.specs.Verdict.{verdict};
+ghost use Rattle.am_world.specs.Moments.{last_moment, effective, is_tick};
 
 use crate::event::{Event, LAST_MOMENT, Output, Refused};
 use crate::instance::{FIRST, Fault, Instance};
@@ -21,19 +22,18 @@ pub struct World {
 }
 
 impl World {
-    ghost use Rattle.am_world.specs.PrivateCluster.{PrivateCluster, opened};
+    ghost use Rattle.am_world.specs.Faults.{Counted};
+    ghost use Rattle.am_world.specs.Local.{fits_by};
+    ghost use Rattle.am_world.specs.PrivateCluster.{PrivateCluster};
     ghost use Rattle.am_world.specs.Refusal.{refusal};
-    ghost use Rattle.am_world.specs.Places.{up_at};
-    ghost use Rattle.am_world.specs.Simulation.{Follows, Stands, Step, Faulted, Run, Headline};
+    ghost use Rattle.am_world.specs.Places.{up_at, local_in};
+    ghost use Rattle.am_world.specs.Simulation.{Follows, Stands, Opens, IsDown, Kept, Step, Stopped, Run, Headline};
     ghost use Rattle.am_world.specs.Taking.{Takes};
     ghost use Rattle.am_world.specs.View.{Table};
 
     /// A world at moment 0, in which no connection is open and nothing is held.
     pub fn open(alloc: Global, setup: Setup) -> World
-        ensures follows { Follows [] result }
-        ensures stands { (t : List ℕ) → Stands t result (opened setup.start) }
-        ensures outputs { result.outputs.items ≡ [] }
-        ensures faults { result.faults ≡ 0 }
+        ensures { Opens setup.start result }
     {
         World {
             clock: Moment::from_milliseconds(0).unwrap(),
@@ -75,6 +75,7 @@ impl World {
         ensures kept { Step self.old event.now self.new }
         ensures refused { MatchOption (refusal self.old event.now) (IsOk result) (λ r. result ≡ Err r) }
         ensures err { OnErr result (self.new ≡ self.old) }
+        ensures down { IsDown self.old → OnOk result (IsTrue (is_tick event.now)) }
     {
         match event {
             Event::Open {
@@ -110,6 +111,7 @@ impl World {
         ensures kept { Step self.old (Event.Open connection instance) self.new }
         ensures refused { MatchOption (refusal self.old (Event.Open connection instance)) (IsOk result) (λ r. result ≡ Err r) }
         ensures err { OnErr result (self.new ≡ self.old) }
+        ensures down { IsDown self.old → IsErr result }
     {
         if !self.is_up(instance) {
             return Err(Refused::InstanceNotUp);
@@ -133,6 +135,7 @@ impl World {
         ensures kept { Step self.old (Event.Bytes connection moment piece.now) self.new }
         ensures refused { MatchOption (refusal self.old (Event.Bytes connection moment piece.now)) (IsOk result) (λ r. result ≡ Err r) }
         ensures err { OnErr result (self.new ≡ self.old) }
+        ensures down { IsDown self.old → IsErr result }
     {
         if moment > LAST_MOMENT {
             return Err(Refused::MomentRefused);
@@ -151,7 +154,8 @@ impl World {
     }
 
     fn on_tick(&mut self, moment: u64) -> Result<(), Refused>
-        ensures kept { Step self.old (Event.Tick moment) self.new }
+        ensures kept { Kept self.old (Event.Tick moment) self.new }
+        ensures faults { self.new.faults ≡ self.old.faults }
         ensures refused { MatchOption (refusal self.old (Event.Tick moment)) (IsOk result) (λ r. result ≡ Err r) }
         ensures err { OnErr result (self.new ≡ self.old) }
     {
@@ -190,6 +194,8 @@ impl World {
     ) -> Result<(), Fault>
         requires { IsSome (bytes_of connection self.old.instance.front) }
         ensures taken { OnOk result ((before : List ℕ) → bytes_of connection self.old.instance.front ≡ Some before → Takes self.old connection (before ++ piece.now) at self.new) }
+        ensures counts { (before : List ℕ) → bytes_of connection self.old.instance.front ≡ Some before →
+            Counted result (fits_by (verdict (before ++ piece.now)) FIRST self.old.instance.incarnation at (λ t. local_in t self.old.instance)) }
         ensures outputs { OnErr result (self.new.outputs.items ≡ self.old.outputs.items) }
         ensures incarnation { self.new.instance.incarnation ≡ self.old.instance.incarnation }
         ensures clock { self.new.clock ≡ self.old.clock }
@@ -203,7 +209,7 @@ impl World {
 
     /// Stops the instance and counts a fault.
     fn fault(&mut self, alloc: Global)
-        ensures { Faulted self.old self.new }
+        ensures { Stopped self.old self.new }
     {
         self.instance.stop(alloc);
         self.faults = self.faults.saturating_add(1);

@@ -1,3 +1,4 @@
 pub mod LineLemmas
 pub mod NamesLemmas
+pub mod PlayingLemmas
 pub mod ScenarioLemmas

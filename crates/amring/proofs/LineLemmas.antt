@@ -1,11 +1,11 @@
 -- Which words are numbers, and which lines are looked at as text.
-use Rattle.std.proofs.Common.{◌≡◌, ◌≢◌, ℕ, ◌^◌, ◌<◌, Bool, true, false, ◌||◌, eqb, List, length, get_or, Option, Some, None, Result, Ok, Err, refl, sym, arith}
+use Rattle.std.proofs.Common.{◌≡◌, ◌≢◌, ℕ, ◌^◌, ◌<◌, Bool, true, false, eqb, List, length, get_or, Some, None, Result, Ok, Err, arith}
 use Rattle.std.specs.Str.{is_utf8, all_ascii_digits, IsUtf8}
 use Rattle.std.specs.Str.Parse.{digits_value, ParsesUnsigned}
 use Rattle.std.proofs.lemmas.Bool.Decides.{nat_tests}
 use Rattle.std.proofs.lemmas.Str.{IsUtf8-from_is_utf8, is_utf8-from_IsUtf8}
 use Rattle.std.proofs.lemmas.Str.Parse.{IsNumeralModel, numerals_by_value, tells_all_ascii_digits, parse_plain}
-use Rattle.amring.specs.Line.{number_of, command_of, text_command, is_skipped}
+use Rattle.amring.specs.Line.{number_of, command_of, text_command}
 
 -- digits, and the number that they write
 own : IsNumeralModel (λ ds. all_ascii_digits ds ≡ true) (digits_value 10)

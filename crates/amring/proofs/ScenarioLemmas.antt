@@ -1,13 +1,17 @@
--- What a reader that is cut at its line ends has left, and the first line of that which is no command.
-use Rattle.std.proofs.Common.{◌≡◌, ℕ, suc, ◌+◌, ◌-◌, ◌<◌, ◌≤◌, Bool, true, false, cond, not, eqb, ltb, ◌&&◌, List, [], ◌∷◌, length, take, drop, get_or, Option, None, Some, IfSome, is_some, refl, sym, ap, ◌∙◌, ◌⊎◌, inl, inr, arith, if◌then◌else◌}
+-- What a reader that is cut at its line ends has left, and what playing that comes to.
+use Rattle.std.proofs.Common.{◌≡◌, ℕ, suc, ◌+◌, ◌-◌, ◌<◌, Bool, true, false, cond, eqb, ltb, ◌&&◌, List, [], ◌∷◌, length, take, get_or, Option, None, Some, IfSome, refl, sym, ap, ◌∙◌, ◌⊎◌, inl, inr, arith, ◌++◌, append-nil, append_assoc}
 use Rattle.std.specs.Bool.{⊤}
-use Rattle.std.specs.List.{slice_split, position_or_len, before_first, after_first, onto_first}
+use Rattle.std.specs.List.{onto_first}
 use Rattle.std.specs.Io.BufRead.{take_through, drop_through, strip_last, first_piece, DropsThrough}
 use Rattle.std.specs.Io.KnownBytes.{IsAtEnd}
 use Rattle.std.proofs.lemmas.Bool.Decides.{nat_tests}
 use Rattle.amring.specs.Line.{command_of}
-use Rattle.amring.specs.Scenario.{first_bad, lines_of, Ends}
+use Rattle.amring.specs.Playing.{Obeys, Plays}
+use Rattle.amring.specs.Scenario.{lines_of}
+use Rattle.amring.specs.declared.command.Command.{Command}
+use Rattle.amring.specs.declared.play.Played.{Played}
 use Rattle.amring.specs.declared.play.Played.TheVariants.{All, BadLine}
+use Rattle.amring.specs.declared.play.Player.{Player}
 
 -- a list that isn't empty, without its last byte where that is a line end
 strip_last-last : (t : List ℕ) (n : ℕ) → length t ≡ suc n → strip_last 10 t ≡ cond (eqb (get_or t n 0) 10) (take n t) t
@@ -40,49 +44,59 @@ lines_of-piece (x ∷ xs) = by (eqb x 10) refl (lines_of-piece xs)
     by false e (inl h) = inl (ap (onto_first x) h ∙ ap (λ p. p ∷ lines_of (drop_through 10 xs)) (sym (strip_last-cons x (take_through 10 xs) e)))
     by false e (inr h) = inr (ap (onto_first x) h.0 ∙ ap (λ p. p ∷ []) (sym (strip_last-cons x (take_through 10 xs) e)), h.1)
 
--- an empty scenario has no bad line
-first_bad-empty : (n : ℕ) → first_bad n (lines_of []) ≡ None
+-- the line that is empty does nothing, whatever its number
+plays_end : (n : ℕ) (p : Player) (played : Played) (written : List ℕ) → Plays n p [] played written → Plays n p (lines_of []) played written
 unfolding command_of
-first_bad-empty n = refl
+plays_end n p played written end = (p, [], written, (refl, refl), refl, end)
 
--- the first bad line is the first piece, or one of those behind it
-first_bad-piece : (n : ℕ) (xs : List ℕ) →
-    first_bad n (lines_of xs) ≡ (if is_some (command_of (first_piece 10 xs)) then first_bad (n + 1) (lines_of (drop_through 10 xs)) else Some n)
-first_bad-piece n xs = elim (lines_of-piece xs) [
-  | inl h ↦ ap (first_bad n) h
-  | inr h ↦ ap (first_bad n) h.0 ∙ ap (λ o. if is_some (command_of (first_piece 10 xs)) then o else Some n)
-      (sym (ap (λ rest. first_bad (n + 1) (lines_of rest)) h.1 ∙ first_bad-empty (n + 1)))
+plays_empty : (n m : ℕ) (p : Player) (played : Played) (written : List ℕ) → Plays n p (lines_of []) played written → Plays m p [] played written
+unfolding command_of
+plays_empty n m p played written (q, first, rest, (same, nothing), both, end) = rw (both, nothing, ← same) end
+
+-- the first piece of what is left is a line, and then come the lines behind it
+plays_line : (n : ℕ) (p mid : Player) (bytes : List ℕ) (command : Command) (played : Played) (first rest : List ℕ) → command_of (first_piece 10 bytes) ≡ Some command →
+    Obeys p command mid first → Plays (n + 1) mid (lines_of (drop_through 10 bytes)) played rest → Plays n p (lines_of bytes) played (first ++ rest)
+plays_line n p mid bytes command played first rest is obeys plays = elim (lines_of-piece bytes) [
+  | inl h ↦ rw (h, is) (mid, first, rest, obeys, refl, plays)
+  | inr h ↦ rw (h.0, is) (mid, first, rest, obeys, refl, plays_empty (n + 1) (n + 1) mid played rest (rw h.1 at plays))
 ]
 
--- where the bytes of a scenario are known, its first bad line is that of what is left after n lines
-abbrev pub Left : Option (List ℕ) → Option (List ℕ) → ℕ → Type 0
-Left None left n = ⊤
-Left (Some bytes) None n = ⊥
-Left (Some bytes) (Some rest) n = first_bad 1 (lines_of bytes) ≡ first_bad (n + 1) (lines_of rest)
+plays_bad : (n : ℕ) (p : Player) (bytes : List ℕ) → command_of (first_piece 10 bytes) ≡ None → Plays n p (lines_of bytes) (BadLine n) []
+plays_bad n p bytes bad = elim (lines_of-piece bytes) [
+  | inl h ↦ rw (h, bad) (refl, refl)
+  | inr h ↦ rw (h.0, bad) (refl, refl)
+]
+
+-- where the bytes of a scenario are known: what is written from here on, after n lines, stands behind what was written so far
+abbrev pub Left : Player → Option (List ℕ) → Player → Option (List ℕ) → ℕ → List ℕ → Type 0
+Left start None p left n done = ⊤
+Left start (Some bytes) p None n done = ⊥
+Left start (Some bytes) p (Some rest) n done = (played : Played) (more : List ℕ) → Plays (n + 1) p (lines_of rest) played more → Plays 1 start (lines_of bytes) played (done ++ more)
 
 -- the next line is the first piece of what is left
 abbrev pub IsNext : Option (List ℕ) → List ℕ → Type 0
 IsNext left line = IfSome left (λ xs. (0 < length xs) × (line ≡ first_piece 10 xs))
 
-pub Left-init : (o : Option (List ℕ)) → Left o o 0
-Left-init None = tt
-Left-init (Some bytes) = refl
+pub left_first : (start : Player) (o : Option (List ℕ)) → Left start o start o 0 []
+left_first start None = tt
+left_first start (Some bytes) = λ played more plays. plays
 
-pub Left-more : (o old new : Option (List ℕ)) (n : ℕ) (line : List ℕ) → Left o old n → IsNext old line → DropsThrough old new 10 → is_some (command_of line) ≡ true → Left o new (n + 1)
-Left-more None old new n line left next drops good = tt
-Left-more (Some bytes) None new n line left next drops good = absurd left
-Left-more (Some bytes) (Some rest) new n line left next drops good =
-    let piece : is_some (command_of (first_piece 10 rest)) ≡ true = rw (← next.1) good in
-    rw drops (left ∙ first_bad-piece (n + 1) rest ∙ ap (λ b. if b then first_bad (n + 1 + 1) (lines_of (drop_through 10 rest)) else Some (n + 1)) piece)
+pub left_more : (start p mid : Player) (o old new : Option (List ℕ)) (n : ℕ) (line : List ℕ) (command : Command) (done first : List ℕ) →
+    Left start o p old n done → IsNext old line → DropsThrough old new 10 → command_of line ≡ Some command → Obeys p command mid first → Left start o mid new (n + 1) (done ++ first)
+left_more start p mid None old new n line command done first left next drops is obeys = tt
+left_more start p mid (Some bytes) None new n line command done first left next drops is obeys = absurd left
+left_more start p mid (Some bytes) (Some rest) new n line command done first left next drops is obeys =
+    rw drops (λ played more plays. rw (append_assoc done first more) (left played (first ++ more) (plays_line (n + 1) p mid rest command played first more (rw (← next.1) is) obeys plays)))
 
-pub Left-bad : (o old : Option (List ℕ)) (n : ℕ) (line : List ℕ) → Left o old n → IsNext old line → command_of line ≡ None → IfSome o (λ bytes. Ends (BadLine (n + 1)) (first_bad 1 (lines_of bytes)))
-Left-bad None old n line left next bad = tt
-Left-bad (Some bytes) None n line left next bad = absurd left
-Left-bad (Some bytes) (Some rest) n line left next bad =
-    let piece : command_of (first_piece 10 rest) ≡ None = rw (← next.1) bad in
-    left ∙ first_bad-piece (n + 1) rest ∙ ap (λ o. if is_some o then first_bad (n + 1 + 1) (lines_of (drop_through 10 rest)) else Some (n + 1)) piece
+pub left_bad : (start p : Player) (o old : Option (List ℕ)) (n : ℕ) (line : List ℕ) (done : List ℕ) → Left start o p old n done → IsNext old line → command_of line ≡ None →
+    IfSome o (λ bytes. Plays 1 start (lines_of bytes) (BadLine (n + 1)) done)
+left_bad start p None old n line done left next bad = tt
+left_bad start p (Some bytes) None n line done left next bad = absurd left
+left_bad start p (Some bytes) (Some rest) n line done left next bad =
+    rw (← append-nil done) (left (BadLine (n + 1)) [] (plays_bad (n + 1) p rest (rw (← next.1) bad)))
 
-pub Left-end : (o old : Option (List ℕ)) (n : ℕ) → Left o old n → IsAtEnd old → IfSome o (λ bytes. Ends All (first_bad 1 (lines_of bytes)))
-Left-end None old n left end = tt
-Left-end (Some bytes) None n left end = absurd left
-Left-end (Some bytes) (Some rest) n left end = left ∙ ap (λ r. first_bad (n + 1) (lines_of r)) end ∙ first_bad-empty (n + 1)
+pub left_end : (start p : Player) (o old : Option (List ℕ)) (n : ℕ) (done last : List ℕ) → Left start o p old n done → IsAtEnd old → Plays (n + 1) p [] All last →
+    IfSome o (λ bytes. Plays 1 start (lines_of bytes) All (done ++ last))
+left_end start p None old n done last left end plays = tt
+left_end start p (Some bytes) None n done last left end plays = absurd left
+left_end start p (Some bytes) (Some rest) n done last left end plays = left All last (rw end (plays_end (n + 1) p All last plays))

@@ -2,5 +2,6 @@ pub mod CommandLine
 pub mod Line
 pub mod Names
 pub mod Output
+pub mod Playing
 pub mod Request
 pub mod Scenario

@@ -1,5 +1,5 @@
 -- The scenario language: what a line asks for. A line is given without its line end.
-use Rattle.std.specs.Prelude.{◌≡◌, ℕ, ◌^◌, ◌+◌, Bool, ◌&&◌, ◌||◌, ◌==◌, nat_lt, if◌then◌else◌, List, [], ◌∷◌, length, slice_index, Option, None, Some, option_map, option_and_then, Result, Ok, Err, ⊤, codes}
+use Rattle.std.specs.Prelude.{◌≡◌, ℕ, ◌^◌, Bool, ◌&&◌, ◌||◌, ◌==◌, nat_lt, if◌then◌else◌, List, [], length, slice_index, Option, None, Some, option_map, option_and_then, Result, Ok, Err, ⊤, codes}
 use Rattle.std.specs.Str.{is_utf8, bytes_eq, all_ascii_digits}
 use Rattle.std.specs.Str.Parse.{digits_value}
 use Rattle.std.specs.List.{position_or_len, before_first, after_first}

@@ -43,8 +43,8 @@ fn main(rt: HostRuntime) -> io::Result<ExitCode> {
 /// Plays the scenario on standard input.
 fn run<R: Input + Print + Eprint + AllocGlobal>(rt: &R, setup: Setup) -> io::Result<ExitCode> {
     let reader = BufReader::new(rt.alloc(), rt.reader())?;
-    let writer = BufWriter::new(rt.alloc(), io::writer(rt))?;
-    match play::play(rt.alloc(), setup, reader, writer)? {
+    let mut writer = BufWriter::new(rt.alloc(), io::writer(rt))?;
+    match play::play(rt.alloc(), setup, reader, &mut writer)? {
         Played::All => Ok(ExitCode::SUCCESS),
         Played::BadLine(number) => {
             eprintln!(rt; "line {number}: not a command")?;

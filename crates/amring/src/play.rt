@@ -1,13 +1,18 @@
-ghost use Rattle.std.specs.Prelude.{◌≡◌, IfOk, IfSome, string_bytes};
+ghost use Rattle.std.specs.Prelude.{◌≡◌, ◌&&◌, not, is_none, Some, IfOk, OnOk, string_bytes};
+ghost use Rattle.std.specs.List.{flat_map};
+ghost use Rattle.std.specs.Io.KnownBytes.{Appends};
+ghost use Rattle.am_world.specs.Refusal.{refusal};
 ghost use Rattle.amring.specs.Output.{reply_line, is_answered};
-ghost use Rattle.amring.specs.Scenario.{Ends, first_bad, lines_of};
+ghost use Rattle.amring.specs.Playing.{Writes, Happens, Gives, Calls, Obeys};
+ghost use Rattle.amring.specs.Playing.{faults_line, instance_of, output_line, refusal_line};
+ghost use Rattle.amring.specs.Scenario.{PlaysFrom, PlaysScenario};
 
 use crate::command::{Command, Request};
 use crate::connections::Connections;
 use crate::line::{LineFault, read_command};
 use am_http::ConnectionId;
 use am_text::{Octets, Text};
-use am_world::event::{Event, Output};
+use am_world::event::{Event, Output, Refused};
 use am_world::setup::Setup;
 use am_world::world::World;
 use serde_json::Value;
@@ -29,23 +34,24 @@ pub enum Played {
 
 /// Plays the scenario that `reader` holds against a new world, and writes its output lines to `writer`.
 /// An error is one of reading or writing, or has the kind `OutOfMemory`; what was written stays.
-pub fn play<R: BufRead + Drop, W: Write + Drop>(
+pub fn play<R: BufRead + Drop, W: Write>(
     alloc: Global,
     setup: Setup,
     reader: R,
-    mut writer: W,
+    writer: &mut W,
 ) -> io::Result<Played>
-    // Where the reader's bytes are known.
-    ensures { IfOk result (λ played. IfSome (R.remaining reader) (λ bytes. Ends played (first_bad 1 (lines_of bytes)))) }
+    // Where the bytes of the reader and of the writer are known.
+    ensures { IfOk result (λ played.
+        PlaysScenario setup (R.remaining reader) played (W.contents writer.old) (W.contents writer.new)) }
 {
     let mut player = Player {
         world: World::open(alloc, setup),
         connections: Connections::new(alloc),
         moment: 0,
     };
-    let played = player.play_lines(alloc, reader, &mut writer);
+    let played = player.play_lines(alloc, reader, writer)?;
     writer.flush()?;
-    played
+    Ok(played)
 }
 
 /// A scenario at one of its lines.
@@ -57,13 +63,15 @@ struct Player {
 }
 
 impl Player {
+    /// Plays the lines that are left, up to one that is no command.
     fn play_lines<R: BufRead + Drop, W: Write>(
         &mut self,
         alloc: Global,
         reader: R,
         writer: &mut W,
     ) -> io::Result<Played>
-        ensures { IfOk result (λ played. IfSome (R.remaining reader) (λ bytes. Ends played (first_bad 1 (lines_of bytes)))) }
+        ensures { IfOk result (λ played.
+            PlaysFrom self.old (R.remaining reader) played (W.contents writer.old) (W.contents writer.new)) }
     {
         let mut number = 0u64;
         for line in reader.split(alloc, b'\n') {
@@ -75,17 +83,14 @@ impl Player {
                 Err(LineFault::OutOfMemory) => return Err(io::ErrorKind::OutOfMemory.into()),
             }
         }
-        let faults = self.world.faults();
-        writeln!(writer, "faults {faults}")?;
+        write_faults(self.world.faults(), writer)?;
         Ok(Played::All)
     }
 
-    fn obey<W: Write>(
-        &mut self,
-        alloc: Global,
-        command: Command,
-        writer: &mut W,
-    ) -> io::Result<()> {
+    /// Does what a line asks for.
+    fn obey<W: Write>(&mut self, alloc: Global, command: Command, writer: &mut W) -> io::Result<()>
+        ensures { OnOk result (Writes (W.contents writer.old) (W.contents writer.new) (Obeys self.old command self.new)) }
+    {
         match command {
             Command::Skip | Command::Pump => Ok(()),
             Command::At(moment) => {
@@ -113,22 +118,28 @@ impl Player {
                 connection,
                 instance,
                 request,
-            } => self.call(alloc, &connection, instance, &request, writer),
+            } => {
+                let connection = self.connections.id(alloc, connection.as_str())?;
+                let text = request.to_text(alloc)?;
+                self.call(alloc, connection, instance, text.as_bytes(), writer)
+            }
         }
     }
 
+    /// Opens a connection and gives it a whole request.
     fn call<W: Write>(
         &mut self,
         alloc: Global,
-        connection: &Text,
+        connection: ConnectionId,
         instance: u64,
-        request: &Request,
+        request: &[u8],
         writer: &mut W,
-    ) -> io::Result<()> {
-        let connection = self.connections.id(alloc, connection.as_str())?;
-        let text = request.to_text(alloc)?;
+    ) -> io::Result<()>
+        ensures { OnOk result (Writes (W.contents writer.old) (W.contents writer.new)
+            (Calls connection self.old (instance_of instance) request.now self.new)) }
+    {
         if self.open(alloc, connection, instance, writer)? {
-            self.give(alloc, connection, text.as_bytes(), writer)?;
+            self.give(alloc, connection, request, writer)?;
         }
         Ok(())
     }
@@ -140,11 +151,15 @@ impl Player {
         connection: ConnectionId,
         instance: u64,
         writer: &mut W,
-    ) -> io::Result<bool> {
-        let instance = u8::try_from(instance).unwrap_or(u8::MAX);
+    ) -> io::Result<bool>
+        ensures taken { IfOk result (λ taken.
+            taken ≡ is_none (refusal self.old.world (Event.Open connection (instance_of instance)))) }
+        ensures happens { OnOk result (Writes (W.contents writer.old) (W.contents writer.new)
+            (Happens self.old (Event.Open connection (instance_of instance)) self.new)) }
+    {
         let event = Event::Open {
             connection,
-            instance,
+            instance: instance.min(u64::from(u8::MAX)) as u8,
         };
         self.happen(alloc, &event, writer)
     }
@@ -156,7 +171,9 @@ impl Player {
         connection: ConnectionId,
         bytes: &[u8],
         writer: &mut W,
-    ) -> io::Result<()> {
+    ) -> io::Result<()>
+        ensures { OnOk result (Writes (W.contents writer.old) (W.contents writer.new) (Gives connection self.old bytes.now self.new)) }
+    {
         for piece in bytes.chunks(PIECE) {
             let event = Event::Bytes {
                 connection,
@@ -164,22 +181,42 @@ impl Player {
                 piece: Octets::read(alloc, piece)?,
             };
             let is_taken = self.happen(alloc, &event, writer)?;
-            if !is_taken || is_answered(self.world.outputs(), connection) {
-                break;
+            if !self.goes_on(is_taken, connection) {
+                return Ok(());
             }
         }
         Ok(())
     }
 
+    /// Whether the bytes of a line go on after an event: it was taken, and didn't answer the line's connection.
+    fn goes_on(&self, is_taken: bool, connection: ConnectionId) -> bool
+        ensures { result ≡ (is_taken && not (is_answered connection self.now.world.outputs.items)) }
+    {
+        is_taken && !is_answered(self.world.outputs(), connection)
+    }
+
     /// Hands an event to the world and writes its outputs, and then its refusal. Says whether it was taken.
-    fn happen<W: Write>(
-        &mut self,
-        alloc: Global,
-        event: &Event,
-        writer: &mut W,
-    ) -> io::Result<bool> {
+    fn happen<W: Write>(&mut self, alloc: Global, event: &Event, writer: &mut W) -> io::Result<bool>
+        ensures taken { IfOk result (λ taken. taken ≡ is_none (refusal self.old.world event.now)) }
+        ensures happens { OnOk result (Writes (W.contents writer.old) (W.contents writer.new) (Happens self.old event.now self.new)) }
+    {
         self.world.clear_outputs();
         let taken = self.world.step(alloc, event);
+        self.write_outputs(alloc, writer)?;
+        match taken {
+            Ok(()) => Ok(true),
+            Err(refused) => {
+                write_refusal(refused, writer)?;
+                Ok(false)
+            }
+        }
+    }
+
+    /// Writes what the world put out at the last event.
+    fn write_outputs<W: Write>(&self, alloc: Global, writer: &mut W) -> io::Result<()>
+        ensures { OnOk result (Appends (W.contents writer.old) (W.contents writer.new)
+            (flat_map (output_line self.now.connections) self.now.world.outputs.items)) }
+    {
         for output in self.world.outputs() {
             let Output::Reply { connection, bytes } = output;
             if let Some(name) = self.connections.name(*connection) {
@@ -187,15 +224,23 @@ impl Player {
                 writer.write_all(line.as_bytes())?;
             }
         }
-        match taken {
-            Ok(()) => Ok(true),
-            Err(refused) => {
-                let code = refused.code();
-                writeln!(writer, "refused {code}")?;
-                Ok(false)
-            }
-        }
+        Ok(())
     }
+}
+
+/// Writes the line of a refusal.
+fn write_refusal<W: Write>(refused: Refused, writer: &mut W) -> io::Result<()>
+    ensures { OnOk result (Appends (W.contents writer.old) (W.contents writer.new) (refusal_line (Some refused))) }
+{
+    let code = refused.code();
+    writeln!(writer, "refused {code}")
+}
+
+/// Writes the last line of a scenario.
+fn write_faults<W: Write>(faults: u64, writer: &mut W) -> io::Result<()>
+    ensures { OnOk result (Appends (W.contents writer.old) (W.contents writer.new) (faults_line faults)) }
+{
+    writeln!(writer, "faults {faults}")
 }
 
 /// Whether the outputs have a reply on the connection.

@@ -1,6 +1,5 @@
-use Rattle.std.proofs.Common.{◌≡◌, ◌≢◌, ℕ, length, arith, rules, sym}
+use Rattle.std.proofs.Common.{◌≡◌, ◌≢◌, length, arith}
 use Rattle.std.proofs.lemmas.Bool.Decides.{nat_tests}
-use Rattle.std.specs.Str.{IsUtf8}
 use Rattle.amring.proofs.LineLemmas.{command_of-text, command_of-bytes}
 use Rattle.amring.specs.Line.{text_command, command_of}
 use Rattle.amring.proofs.line.read_command.Goals as goal

@@ -1,4 +1,4 @@
-use Rattle.std.proofs.Common.{◌≡◌, ◌+◌, length, rules}
+use Rattle.std.proofs.Common.{◌≡◌, ◌+◌, length, vec_len, rules}
 use Rattle.am_item.specs.Book.{items_of}
 use Rattle.am_item.specs.Counts.{count_of}
 use Rattle.am_tenant.specs.Names.{same}
@@ -10,7 +10,8 @@ use Rattle.am_world.proofs.instance.Instance.keep.Goals as goal
 pub returns-clause-local : goal.returns-clause-local
 unfolding local_in joined_by
 returns-clause-local c t =
-    let e : c.in_ok-count.count ≡ count_of c.args.tenant.now c.args.self.now.counts + length c.args.items.items = search rules in
+    let size : vec_len c.args.items ≡ length c.args.items.items = search rules in
     parts_by (same t c.args.tenant.now) (items_of t c.args.self.now.book) _ (all_joined (items_of t c.args.self.now.book) c.args.items.items)
     (count_of t c.args.self.now.counts) _ (count_of t c.args.self.now.counts + length c.args.items.items) (c.in_ok-put_all.ensures t)
-    (under_same t c.args.tenant.now (λ s. count_of s c.args.self.now.counts + length c.args.items.items) _ _ (rw e at (c.in_ok-set.ensures t)))
+    (under_same t c.args.tenant.now (λ s. count_of s c.args.self.now.counts + length c.args.items.items) _ _
+    (rw (c.used-used.ensures, c.len.ensures, size) at (c.in_ok-set.ensures t)))

@@ -5,9 +5,7 @@ use Rattle.am_world.proofs.world.World.fault.Goals as goal
 pub returns : goal.returns
 returns c = record {
   counted = c.saturating_add-self.ensures;
-  down = down_at _ c.stop.ensures.up;
-  unread = unread_at _ c.stop.ensures.unread;
-  lost = lost_at _ c.stop.ensures.local;
+  down = record { up = down_at _ c.stop.ensures.up; unread = unread_at _ c.stop.ensures.unread; lost = lost_at _ c.stop.ensures.local };
   incarnation = incarnation_same c.args.self.now _ c.stop.ensures.incarnation;
   outputs = refl;
   clock = refl;

@@ -1,6 +1,8 @@
-use Rattle.std.proofs.Common.{inl, inr, refl, arith}
+use Rattle.std.proofs.Common.{◌≡◌, ◌∙◌, nat_lt, false, inl, inr, refl, sym, arith}
 use Rattle.std.proofs.lemmas.Bool.Decides.{nat_tests}
-use Rattle.am_world.proofs.Kept.{kept_late_bytes, faulted_after}
+use Rattle.am_world.specs.Moments.{last_moment}
+use Rattle.am_world.specs.Places.{bytes_at}
+use Rattle.am_world.proofs.Kept.{kept_late_bytes, stopped_after}
 use Rattle.am_world.proofs.KeptBytes.{none_where, some_where, kept_unread_bytes, kept_bytes}
 use Rattle.am_world.proofs.world.World.on_bytes.Goals as goal
 
@@ -21,4 +23,17 @@ returns-in-Ok-clause-kept c =
 
 pub returns-in-Err-clause-kept : goal.returns-in-Err-clause-kept
 returns-in-Err-clause-kept c =
-    inr (faulted_after c.args.self.now _ _ c.take.ensures.faults c.in-Err.ensures.outputs c.take.ensures.clock c.take.ensures.incarnation c.fault.ensures)
+    let allowed : nat_lt last_moment c.args.moment ≡ false = grind (arith, nat_tests) in
+    inr (record {
+      taken = rw (allowed, sym c.if-not-is_reading.ensures) refl;
+      works = refl;
+      stopped = stopped_after c.args.self.now _ _ c.take.ensures.faults c.in-Err.ensures.outputs c.take.ensures.clock c.take.ensures.incarnation c.fault.ensures;
+    })
+
+pub returns-in-Ok-clause-down : goal.returns-in-Ok-clause-down
+unfolding bytes_at
+returns-in-Ok-clause-down c = λ d. let never = sym ((some_where _ c.if-not-is_reading.ensures).1) ∙ d.unread c.args.connection 1 in cc
+
+pub returns-in-Err-clause-down : goal.returns-in-Err-clause-down
+unfolding bytes_at
+returns-in-Err-clause-down c = λ d. let never = sym ((some_where _ c.if-not-is_reading.ensures).1) ∙ d.unread c.args.connection 1 in cc

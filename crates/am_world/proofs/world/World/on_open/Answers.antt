@@ -1,5 +1,5 @@
 use Rattle.std.proofs.Common.{◌∙◌, inl, inr, refl, sym}
-use Rattle.am_world.proofs.Kept.{kept_not_up, kept_open, faulted_after}
+use Rattle.am_world.proofs.Kept.{kept_not_up, kept_open, stopped_after}
 use Rattle.am_world.proofs.world.World.on_open.Goals as goal
 
 pub returns-then-not-is_up-clause-kept : goal.returns-then-not-is_up-clause-kept
@@ -13,4 +13,6 @@ returns-in-Ok-clause-kept c = inl (
 )
 
 pub returns-in-Err-clause-kept : goal.returns-in-Err-clause-kept
-returns-in-Err-clause-kept c = inr (faulted_after c.args.self.now _ _ refl refl refl c.open.ensures.incarnation c.fault.ensures)
+returns-in-Err-clause-kept c =
+    let up = sym c.is_up.ensures ∙ c.if-not-is_up.false in
+    inr (record { taken = rw up refl; works = refl; stopped = stopped_after c.args.self.now _ _ refl refl refl c.open.ensures.incarnation c.fault.ensures })

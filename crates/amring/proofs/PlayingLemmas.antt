@@ -1,0 +1,92 @@
+-- What is written bit by bit, and what pieces on a connection come to.
+use Rattle.std.proofs.Common.{◌≡◌, ℕ, ◌<◌, ◌≤◌, min, Bool, true, false, List, [], ◌∷◌, ◌++◌, length, Option, None, Some, MatchOption, Result, Ok, Err, IsOk, is_ok, refl, sym, ap, ◌∙◌, arith, append-nil, append_assoc}
+use Rattle.std.proofs.lemmas.Bool.Decides.{nat_tests}
+use Rattle.std.specs.Io.KnownBytes.{Appends, Keeps}
+use Rattle.am_world.specs.declared.event.Event.{Event}
+use Rattle.am_world.specs.declared.event.Event.TheVariants as event
+use Rattle.am_world.specs.declared.event.Refused.{Refused}
+use Rattle.am_world.specs.declared.world.World.{World}
+use Rattle.am_world.specs.Places.{up_at}
+use Rattle.am_world.specs.Refusal.{refusal}
+use Rattle.amring.specs.declared.play.Player.{Player}
+use Rattle.amring.specs.Playing.{Forgets, Happens, Either, Gives, goes_on, is_piece}
+
+-- nothing is written
+pub appends_nothing : (known : Option (List ℕ)) → Appends known known []
+appends_nothing None = tt
+appends_nothing (Some xs) = sym (append-nil xs)
+
+-- one after the other
+pub appends_more : (a b c : Option (List ℕ)) (xs ys : List ℕ) → Appends a b xs → Appends b c ys → Appends a c (xs ++ ys)
+appends_more None b c xs ys first rest = tt
+appends_more (Some a) None c xs ys first rest = absurd first
+appends_more (Some a) (Some b) None xs ys first rest = absurd rest
+appends_more (Some a) (Some b) (Some c) xs ys first rest = rest ∙ ap (λ s. s ++ ys) first ∙ append_assoc a xs ys
+
+-- .. and then the writer is flushed
+pub appends_kept : (a b c : Option (List ℕ)) (xs : List ℕ) → Appends a b xs → Keeps b c → Appends a c xs
+appends_kept None b c xs h keeps = tt
+appends_kept (Some a) None c xs h keeps = absurd h
+appends_kept (Some a) (Some b) None xs h keeps = absurd keeps
+appends_kept (Some a) (Some b) (Some c) xs h keeps = keeps ∙ h
+
+-- what a test decides
+pub either_first : (P Q : Type 0) (b : Bool) → b ≡ true → P → Either b P Q
+either_first P Q true e first = first
+either_first P Q false e first = absurd (cc)
+
+pub either_second : (P Q : Type 0) (b : Bool) → b ≡ false → Q → Either b P Q
+either_second P Q true e second = absurd (cc)
+either_second P Q false e second = second
+
+-- refusals don't depend on what was put out
+pub refusal_same : (w w' : World) (e : Event) → Forgets w w' → refusal w' e ≡ refusal w e
+unfolding up_at
+refusal_same w w' (event.Open c i) forgets = rw forgets.instance refl
+refusal_same w w' (event.Bytes c moment piece) forgets = rw forgets.instance refl
+refusal_same w w' (event.Tick moment) forgets = rw forgets.clock refl
+
+-- whether an event was refused, by what came of it
+pub taken_none : {T : Type 0} (o : Option Refused) (r : Result T Refused) (x : T) → r ≡ Ok x → MatchOption o (IsOk r) (λ e. r ≡ Err e) → o ≡ None
+taken_none None r x is told = refl
+taken_none (Some e) r x is told = let clash : Ok x ≡ Err e = sym is ∙ told in absurd (cc)
+
+pub refused_some : {T : Type 0} (o : Option Refused) (r : Result T Refused) (e : Refused) → r ≡ Err e → MatchOption o (IsOk r) (λ e. r ≡ Err e) → o ≡ Some e
+refused_some {T} None r e is told = let told_ok : is_ok {T = T} {E = Refused} (Err e) ≡ true = rw is at told in absurd (cc)
+refused_some (Some d) r e is told =
+    let both : Err d ≡ Err e = sym told ∙ is in
+    let same : d ≡ e = cc in
+    ap Some same
+
+-- a chunk is a piece
+pub piece_fits : (size : ℕ) (piece rest : List ℕ) → size ≡ 4096 → length piece ≡ min size (length rest) → 0 < length rest → is_piece piece ≡ true
+piece_fits size piece rest is_size cut some =
+    let low : 0 < length piece = omega arith in
+    let high : length piece ≤ 4096 = omega arith in
+    grind (arith, nat_tests)
+
+-- no bytes came
+pub gives_nothing : (c : ℕ) (p : Player) → Gives c p [] p []
+gives_nothing c p = record { pieces = []; left = []; cut = refl; sizes = refl; come = (refl, refl, refl) }
+
+-- a piece came, and then others
+pub gives_more : (c : ℕ) (p mid p' : Player) (piece bytes first rest : List ℕ) → is_piece piece ≡ true → Happens p (event.Bytes c p.moment piece) mid first →
+    goes_on c p (event.Bytes c p.moment piece) mid ≡ true → Gives c mid bytes p' rest → Gives c p (piece ++ bytes) p' (first ++ rest)
+gives_more c p mid p' piece bytes first rest size happens goes given = record {
+  pieces = piece ∷ given.pieces;
+  left = given.left;
+  cut = ap (λ s. piece ++ s) given.cut ∙ sym (append_assoc piece _ given.left);
+  sizes = rw size given.sizes;
+  come = (mid, first, rest, happens, refl, rw goes given.come);
+}
+
+-- a piece came and ended the line
+pub gives_last : (c : ℕ) (p mid : Player) (piece left first : List ℕ) → is_piece piece ≡ true → Happens p (event.Bytes c p.moment piece) mid first →
+    goes_on c p (event.Bytes c p.moment piece) mid ≡ false → Gives c p (piece ++ left) mid first
+gives_last c p mid piece left first size happens ends = record {
+  pieces = piece ∷ [];
+  left = left;
+  cut = ap (λ s. s ++ left) (sym (append-nil piece));
+  sizes = rw size refl;
+  come = (mid, first, [], happens, sym (append-nil first), rw ends (refl, refl, refl));
+}
