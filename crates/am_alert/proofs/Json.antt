@@ -1,8 +1,7 @@
 -- The JSON value of bytes that may be no text.
-use Rattle.std.proofs.Common.{◌≡◌, ℕ, Bool, true, false, cond, List, Option, None, refl}
+use Rattle.std.proofs.Common.{◌≡◌, ℕ, Bool, true, false, cond, List, None, refl}
 use Rattle.std.specs.Str.{IsUtf8, is_utf8}
 use Rattle.std.proofs.lemmas.Str.{IsUtf8-from_is_utf8, is_utf8-from_IsUtf8}
-use Rattle.serde_json.specs.Data.{Data}
 use Rattle.serde_json.specs.Read.{read}
 use Rattle.am_alert.specs.Posted.{json}
 

@@ -7,7 +7,6 @@ use Rattle.am_text.specs.Moment.{greatest_moment}
 use Rattle.am_labels.specs.declared.Label.{Label}
 use Rattle.am_labels.specs.Labels.{labels_cmp}
 use Rattle.am_item.specs.declared.item.Alert.{Alert}
-use Rattle.am_item.specs.declared.item.Stamp.{Stamp}
 use Rattle.am_item.specs.declared.item.Item.{Item}
 use Rattle.am_alert.specs.declared.maker.Maker.{Maker}
 use Rattle.am_alert.specs.declared.maker.ItemsFault.{ItemsFault}

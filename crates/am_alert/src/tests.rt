@@ -2,11 +2,14 @@
 
 use super::*;
 use PostedFault::{BadForm, EndsBeforeStart, NoLabels};
+use am_item::{Alert, Book};
+use am_labels::Label;
+use am_tenant::TenantName;
 use am_text::Moment;
 use std::alloc::{AllocError, Global};
 use std::test::Fail;
 
-const REFUSED: [(&str, PostedFault); 42] = [
+const REFUSED: [(&str, PostedFault); 46] = [
     // No JSON, or no list of objects.
     ("", BadForm),
     ("[", BadForm),
@@ -18,6 +21,10 @@ const REFUSED: [(&str, PostedFault); 42] = [
     ("[[]]", BadForm),
     (r#"[{"labels":{"a":"\ud800"}}]"#, BadForm),
     (r#"[{"labels":{"a":"b"},"x":1e999}]"#, BadForm),
+    ("[{\"labels\":{\"a\":\"\u{1}\"}}]", BadForm),
+    (r#"[{"labels":{"a":"\x"}}]"#, BadForm),
+    (r#"[{"labels":{"a":"b"}},]"#, BadForm),
+    ("\u{feff}[]", BadForm),
     // A field in a wrong form.
     (r#"[{"labels":null}]"#, BadForm),
     (r#"[{"labels":[]}]"#, BadForm),
@@ -90,32 +97,113 @@ const REFUSED: [(&str, PostedFault); 42] = [
     ),
 ];
 
-const TAKEN: [(&str, usize); 9] = [
-    ("[]", 0),
-    (" [ ] ", 0),
-    (r#"[{"labels":{"a":"b"}},{"labels":{"a":"b"}}]"#, 2),
-    (r#"[{"labels":{"a":"","a":"b"}}]"#, 1),
+// What is taken, and what it says: names and values, then starts and ends in milliseconds after 15:00 of that day.
+const TAKEN: [(&str, &str); 19] = [
+    ("[]", ""),
+    (" [ ] ", ""),
+    // What is absent: the start is the end that is given, else the moment; the end is five minutes after the moment.
+    (r#"[{"labels":{"a":"b"}}]"#, "a=b,;;400000;700000;\n"),
     (
-        r#"[{"labels":{"a":"b"},"startsAt":1,"startsAt":"2025-06-15T15:06:40Z"}]"#,
-        1,
+        r#"[{"labels":{"a":"b"},"endsAt":"2025-06-15T15:06:39Z"}]"#,
+        "a=b,;;399000;399000;\n",
+    ),
+    (
+        r#"[{"labels":{"a":"b"},"startsAt":"2025-06-15T15:06:39Z"}]"#,
+        "a=b,;;399000;700000;\n",
     ),
     (
         r#"[{"labels":{"a":"b"},"startsAt":"0001-01-01T00:00:00Z","endsAt":"0001-01-01T00:00:00Z"}]"#,
-        1,
+        "a=b,;;400000;700000;\n",
     ),
+    // All is given; the end may be the start, and digits finer than milliseconds are cut off.
     (
-        r#"[{"labels":{"a":"b"},"startsAt":"2025-06-15T15:06:40Z","endsAt":"2025-06-15T15:06:40Z"}]"#,
-        1,
+        r#"[{"labels":{"a":"b"},"annotations":{"d":"e","c":""},"startsAt":"2025-06-15T17:06:40.0019+02:00",
+            "endsAt":"2025-06-15T15:06:40.001Z","generatorURL":"http://h/?q=1"}]"#,
+        "a=b,;c=,d=e,;400001;400001;http://h/?q=1\n",
     ),
     (
         r#"[{"labels":{"a":"b"},"startsAt":"2025-06-15T15:11:40Z"}]"#,
-        1,
+        "a=b,;;700000;700000;\n",
+    ),
+    // Labels in order of name, those with an empty value dropped.
+    (
+        r#"[{"labels":{"b":"1","c":"","a":"2","_0":"3","B":"4"}}]"#,
+        "B=4,_0=3,a=2,b=1,;;400000;700000;\n",
+    ),
+    // Of repeated keys the last counts.
+    (r#"[{"labels":{"a":"","a":"b"}}]"#, "a=b,;;400000;700000;\n"),
+    (
+        r#"[{"labels":1,"labels":{"a":"b"}}]"#,
+        "a=b,;;400000;700000;\n",
     ),
     (
-        r#"[{"labels":{"a":"\"\u0000"},"annotations":{"a":""},"status":null,"receivers":[1e99]}]"#,
-        1,
+        r#"[{"labels":{"a":"b"},"annotations":{"c":"d"},"annotations":{}}]"#,
+        "a=b,;;400000;700000;\n",
+    ),
+    (
+        r#"[{"labels":{"a":"b"},"startsAt":1,"startsAt":"2025-06-15T15:06:40Z"}]"#,
+        "a=b,;;400000;700000;\n",
+    ),
+    (
+        r#"[{"labels":{"a":"b"},"endsAt":"2025-06-15T15:06:40Z","endsAt":"2025-06-15T15:06:41Z"}]"#,
+        "a=b,;;401000;401000;\n",
+    ),
+    // Keys of other names, in whatever form.
+    (
+        r#"[{"labels":{"a":"b"},"status":null,"receivers":[1e308],"starts_at":1,"STARTSAT":true,"":{}}]"#,
+        "a=b,;;400000;700000;\n",
+    ),
+    // Quotation marks, backslashes, control characters and other characters of a text.
+    (
+        r#"[{"labels":{"a":"\"\\\/\u0000\u001f\n\u00e9\ud83d\ude00"}}]"#,
+        "a=\"\\/\u{0}\u{1f}\n\u{e9}\u{1f600},;;400000;700000;\n",
+    ),
+    (
+        "[{\"labels\":{\"a\":\"\u{7f}é\"}}]",
+        "a=\u{7f}é,;;400000;700000;\n",
+    ),
+    // A list in its order, alerts of equal labels too.
+    (
+        r#"[{"labels":{"a":"b"}},{"labels":{"a":"a"}}]"#,
+        "a=b,;;400000;700000;\na=a,;;400000;700000;\n",
+    ),
+    (
+        r#"[{"labels":{"a":"b"}},{"labels":{"a":"b"},"generatorURL":"x"}]"#,
+        "a=b,;;400000;700000;\na=b,;;400000;700000;x\n",
     ),
 ];
+
+fn push_pairs(told: &mut String, pairs: &[Label]) -> Result<(), AllocError> {
+    for pair in pairs {
+        told.push_str(pair.name.as_str())?;
+        told.push('=')?;
+        told.push_str(pair.value.as_str())?;
+        told.push(',')?;
+    }
+    Ok(())
+}
+
+fn push_moment(alloc: Global, told: &mut String, moment: Moment) -> Result<(), AllocError> {
+    let since = moment.milliseconds().saturating_sub(1_749_999_600_000);
+    let text = format!(in alloc; ";{since}")?;
+    told.push_str(text.as_str())
+}
+
+// What alerts say, one in each line.
+fn told(alloc: Global, alerts: &[Alert]) -> Result<String, AllocError> {
+    let mut told = String::new(alloc);
+    for alert in alerts {
+        push_pairs(&mut told, alert.labels.labels())?;
+        told.push(';')?;
+        push_pairs(&mut told, alert.annotations.labels())?;
+        push_moment(alloc, &mut told, alert.starts_at)?;
+        push_moment(alloc, &mut told, alert.ends_at)?;
+        told.push(';')?;
+        told.push_str(alert.generator_url.as_str())?;
+        told.push('\n')?;
+    }
+    Ok(told)
+}
 
 // A list of one alert with a field of arrays that makes it so deep.
 fn nested(alloc: Global, depth: usize) -> Result<String, AllocError> {
@@ -130,12 +218,12 @@ fn nested(alloc: Global, depth: usize) -> Result<String, AllocError> {
     Ok(body)
 }
 
-// A list of one alert with so many labels and one that is empty.
-fn labelled(alloc: Global, count: usize) -> Result<String, AllocError> {
-    let mut body = String::from_str(alloc, r#"[{"labels":{"#)?;
+// A list of one alert with one label, and so many pairs and one that is empty in this field.
+fn filled(alloc: Global, field: &str, count: usize) -> Result<String, AllocError> {
+    let mut body = format!(in alloc; r#"[{{"labels":{{"a":"b"}},"{field}":{{"#)?;
     for number in 0..count {
-        let label = format!(in alloc; "\"l{number}\":\"v\",")?;
-        body.push_str(label.as_str())?;
+        let pair = format!(in alloc; "\"l{number}\":\"v\",")?;
+        body.push_str(pair.as_str())?;
     }
     body.push_str(r#""empty":""}}]"#)?;
     Ok(body)
@@ -149,9 +237,10 @@ fn posted_bodies(rt: HostRuntime) -> Result<(), Fail> {
         let refused = read_posted(alloc, body.as_bytes(), moment, 300_000).err();
         assert_eq!(rt; refused, Some(*fault), "{body}");
     }
-    for (body, count) in &TAKEN {
+    for (body, said) in &TAKEN {
         let posted = read_posted(alloc, body.as_bytes(), moment, 300_000)?;
-        assert_eq!(rt; posted.len(), *count, "{body}");
+        let told = told(alloc, &posted)?;
+        assert_eq!(rt; told.as_str(), *said, "{body}");
     }
     Ok(())
 }
@@ -163,12 +252,54 @@ fn limits(rt: HostRuntime) -> Result<(), Fail> {
     let bodies = [
         (nested(alloc, 127)?, None),
         (nested(alloc, 128)?, Some(BadForm)),
-        (labelled(alloc, 64)?, None),
-        (labelled(alloc, 65)?, Some(BadForm)),
+        (filled(alloc, "labels", 64)?, None),
+        (filled(alloc, "labels", 65)?, Some(BadForm)),
+        (filled(alloc, "annotations", 63)?, None),
+        (filled(alloc, "annotations", 64)?, Some(BadForm)),
     ];
     for (body, fault) in &bodies {
         let refused = read_posted(alloc, body.as_bytes(), moment, 300_000).err();
         assert_eq!(rt; refused, *fault);
     }
+    let no_text = read_posted(alloc, b"[{\"labels\":{\"a\":\"\xff\"}}]", moment, 300_000).err();
+    assert_eq!(rt; no_text, Some(BadForm));
+    Ok(())
+}
+
+#[test]
+fn posts_make_items(rt: HostRuntime) -> Result<(), Fail> {
+    let alloc = rt.alloc();
+    let moment = Moment::from_milliseconds(1_750_000_000_000).ok_or("a moment")?;
+    let tenant = TenantName::read(b"a")?;
+    let mut book = Book::new(alloc);
+    let body =
+        br#"[{"labels":{"a":"b"}},{"labels":{"c":"d"}},{"labels":{"a":"b"},"generatorURL":"x"}]"#;
+    // The counts used before, and of each item a label and its stamp's moment, after 15:00, and count.
+    let posts = [
+        (6, [("c", "d", 400_000, 7), ("a", "b", 400_000, 8)]),
+        (8, [("c", "d", 400_001, 9), ("a", "b", 400_001, 10)]),
+    ];
+    for (used, expected) in posts {
+        let posted = read_posted(alloc, body, moment, 300_000)?;
+        let maker = Maker {
+            instance: 1,
+            incarnation: 1,
+            used,
+        };
+        let items = items_of_post(alloc, posted, book.best(&tenant), moment, maker)?;
+        assert_eq!(rt; items.len(), expected.len());
+        for (item, (name, value, since, count)) in items.iter().zip(expected) {
+            let moment = item.stamp.moment.milliseconds();
+            assert_eq!(rt; item.alert.labels.get(name), value);
+            assert_eq!(rt; moment.saturating_sub(1_749_999_600_000), since);
+            assert_eq!(rt; item.stamp.count, count);
+        }
+        for item in items {
+            book.put(alloc, &tenant, item)?;
+        }
+    }
+    let held = AlertBook::new(book.best(&tenant));
+    assert_eq!(rt; held.firing(alloc, moment.plus(299_999))?.len(), 2);
+    assert_eq!(rt; held.firing(alloc, moment.plus(300_000))?.len(), 0);
     Ok(())
 }

@@ -289,12 +289,9 @@ fn bytes(rt: HostRuntime) -> Result<(), Fail> {
 // A request has its five parts, and nothing of what follows it.
 #[test]
 fn parts(rt: HostRuntime) -> Result<(), Fail> {
-    let text =
-        "POST @?a=%20?b HTTP/1.1\r\nX-Scope-OrgID: \ta.b \r\nContent-Length: 2\r\n\r\n[]more".replace(
-            rt.alloc(),
-            "@",
-            ALERTS,
-        )?;
+    let head =
+        "POST @?a=%20?b HTTP/1.1\r\nX-Scope-OrgID: \ta.b \r\nContent-Length: 2\r\n\r\n[]more";
+    let text = head.replace(rt.alloc(), "@", ALERTS)?;
     match fed(rt.alloc(), text.as_bytes(), 10)? {
         Fed::Request(request) => {
             assert_eq!(rt; request.tenant.as_str(), "a.b");

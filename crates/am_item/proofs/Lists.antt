@@ -119,6 +119,20 @@ module _ (m n : BTreeMap (List ℕ) (Vec Item Global)) (tenant : List ℕ) (now 
       (λ h.
       ap items_in (cond-false _ (Some now) (get tenants m t) (test ∙ h)) ∙ sym (items_of-pairs_of t m are.ordered) ∙ sym (cond-false _ (joined old item) old h))
 
+  -- what a book has of each tenant once the list of one was put back as it was
+  pub items_put_back : (was fresh : Vec Item Global) → AreHeld m → IsOrdered tenants n
+      → ((q : List ℕ) → get tenants n q ≡ cond (is_at (tenants tenant) q) (Some now) (get tenants m q))
+      → fresh.items ≡ [] → was ≡ unwrap_or (get tenants m tenant) fresh → now.items ≡ was.items
+      → (t : List ℕ) → items_of t (pairs_of n) ≡ items_of t (pairs_of m)
+  items_put_back was fresh are ordered gets none found back t =
+      let test : is_at (tenants tenant) t ≡ same t tenant = is_eq-name_cmp tenant t ∙ same-sym tenant t in
+      items_of-pairs_of t n ordered ∙ ap items_in (gets t)
+      ∙ by_cases (same t tenant)
+      (λ h.
+      let held : was.items ≡ items_of t (pairs_of m) = ap (λ v. v.items) found ∙ in_found (get tenants m tenant) fresh none ∙ ap (λ q. items_in (get tenants m q)) (sym (eq_from_same t tenant h)) ∙ sym (items_of-pairs_of t m are.ordered) in
+      ap items_in (cond-true _ (Some now) (get tenants m t) (test ∙ h)) ∙ back ∙ held)
+      (λ h. ap items_in (cond-false _ (Some now) (get tenants m t) (test ∙ h)) ∙ sym (items_of-pairs_of t m are.ordered))
+
 -- from one map to an equal one
 pub held_same : (n m : BTreeMap (List ℕ) (Vec Item Global)) → AreHeld m → n ≡ m → AreHeld n
 held_same n m are e = subst AreHeld (sym e) are
@@ -126,3 +140,13 @@ held_same n m are e = subst AreHeld (sym e) are
 -- equal maps have the same items of a tenant
 pub items_same : (t : List ℕ) (n m : BTreeMap (List ℕ) (Vec Item Global)) (xs : List Item) → items_of t (pairs_of m) ≡ xs → n ≡ m → items_of t (pairs_of n) ≡ xs
 items_same t n m xs h e = ap (λ k. items_of t (pairs_of k)) e ∙ h
+
+-- maps of the same entries have the same items of a tenant
+pub items_unchanged : (t : List ℕ) (n m : BTreeMap (List ℕ) (Vec Item Global)) → n.entries ≡ m.entries → items_of t (pairs_of n) ≡ items_of t (pairs_of m)
+unfolding pairs_of
+items_unchanged t n m e = ap (λ es. items_of t (pairs_in es)) e
+
+-- what is so whatever a call returned is so at its error
+pub at_error : {T E X : Type 0} (r : Result T E) → X → OnErr r X
+at_error (Ok _) x = tt
+at_error (Err _) x = x

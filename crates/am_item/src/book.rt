@@ -52,9 +52,11 @@ impl Book {
     }
 
     /// Puts an item of a tenant: it goes to its key's place, unless an item of that key is held whose
-    /// stamp is no smaller. Other tenants' items stay. After an error nothing is known of the items.
+    /// stamp is no smaller. Other tenants' items stay. An error, which is want of memory, leaves all items as
+    /// they were.
     pub fn put(&mut self, alloc: Global, tenant: &TenantName, item: Item) -> Result<(), AllocError>
-        ensures { OnOk result ((t : List ℕ) → items_of t self.new ≡ (if same t tenant.now then joined (items_of t self.old) item else items_of t self.old)) }
+        ensures joined { OnOk result ((t : List ℕ) → items_of t self.new ≡ (if same t tenant.now then joined (items_of t self.old) item else items_of t self.old)) }
+        ensures err { OnErr result ((t : List ℕ) → items_of t self.new ≡ items_of t self.old) }
     {
         let held = self.lists.entry(*tenant)?.or_insert(Vec::new(alloc));
         join(held, item)

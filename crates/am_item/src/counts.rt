@@ -1,4 +1,4 @@
-ghost use Rattle.std.specs.Prelude.{◌≡◌, ℕ, List, [], OnOk, if◌then◌else◌};
+ghost use Rattle.std.specs.Prelude.{◌≡◌, ℕ, List, [], OnErr, OnOk, if◌then◌else◌};
 ghost use Rattle.am_tenant.specs.Names.{same};
 ghost use Rattle.am_item.specs.Counts.{count_of};
 
@@ -38,10 +38,11 @@ impl Counts {
         self.used.get(tenant).copied().unwrap_or(0)
     }
 
-    /// Sets how many counts a tenant has used. Other tenants' counts stay. After an error nothing is
-    /// known of the counts.
+    /// Sets how many counts a tenant has used. Other tenants' counts stay. An error, which is want
+    /// of memory, leaves all counts as they were.
     pub fn set(&mut self, _alloc: Global, tenant: &TenantName, count: u64) -> Result<(), AllocError>
-        ensures { OnOk result ((t : List ℕ) → count_of t self.new ≡ (if same t tenant.now then count else count_of t self.old)) }
+        ensures counted { OnOk result ((t : List ℕ) → count_of t self.new ≡ (if same t tenant.now then count else count_of t self.old)) }
+        ensures err { OnErr result ((t : List ℕ) → count_of t self.new ≡ count_of t self.old) }
     {
         self.used.insert(*tenant, count)?;
         Ok(())

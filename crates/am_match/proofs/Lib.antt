@@ -5,3 +5,5 @@ pub mod PrintingLemmas
 pub mod SpellingLemmas
 pub mod TakingLemmas
 pub mod RoundTrip
+pub mod FormsRead
+pub mod FormsFound

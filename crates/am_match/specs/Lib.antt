@@ -4,6 +4,8 @@ pub mod Matchers
 pub mod Meaning
 -- the grammar of a text of matchers
 pub mod Reading
+-- the texts of matchers as they may be written
+pub mod Forms
 -- what was read, as UTF-8
 pub mod InBytes
 -- which fault a text of matchers gets

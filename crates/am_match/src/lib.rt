@@ -6,6 +6,7 @@
 #![tactic(auto)]
 
 mod checking;
+pub mod laws;
 mod matcher;
 mod printing;
 mod reading;

@@ -1,12 +1,62 @@
-//! Worked examples. Patterns run here alone, since a test that runs one is slow to build.
+//! Worked examples. Tests that run a pattern stand here alone, for this crate and the one below it: a program that runs
+//! one is slow to build.
 use crate::{MatchFault, TakeFault, print_matchers, read_matchers, spell_matchers, take_matchers};
 use am_labels::{Label, LabelSet};
 use am_pattern::{Build, PatternCache};
 use am_text::Text;
-use std::alloc::Global;
+use std::alloc::{AllocError, Global};
 use std::test::Fail;
 
-// The matchers of a text, as they are printed.
+// The text with so many of the character behind it.
+fn longer(alloc: Global, text: &str, c: char, count: usize) -> Result<String, AllocError> {
+    let mut longer = String::from_str(alloc, text)?;
+    for _ in 0..count {
+        longer.push(c)?;
+    }
+    Ok(longer)
+}
+
+#[test]
+fn patterns_answer(rt: HostRuntime) -> Result<(), Fail> {
+    let mut cache = PatternCache::new(rt.alloc(), 1);
+    let rows = [
+        // The whole value is matched, by each alternative alone.
+        ("a|b", "b", Ok(true)),
+        ("a|b", "ab", Ok(false)),
+        ("^a|b$", "ab", Ok(false)),
+        ("a+?", "aaa", Ok(true)),
+        // A pattern may take the empty value, and may be empty itself.
+        (".*", "", Ok(true)),
+        ("", "", Ok(true)),
+        ("", "a", Ok(false)),
+        // Letters without regard to case, and Unicode's classes.
+        ("(?i)straße", "STRASSE", Ok(false)),
+        ("(?i)éa", "ÉA", Ok(true)),
+        ("\\p{Greek}+", "αβγ", Ok(true)),
+        ("\\d", "٣", Ok(true)),
+        (".", "\n", Ok(false)),
+        // Anchored it could be read, but not alone.
+        ("a)|(b", "a", Err(Build::Syntax)),
+        ("(", "", Err(Build::Syntax)),
+        ("(a{1000}){1000}", "a", Err(Build::TooBig)),
+    ];
+    for (pattern, value, expected) in rows {
+        let answer = cache.answer(rt.alloc(), pattern, value);
+        assert_eq!(rt; answer, expected, "{pattern} at {value}");
+    }
+    let deepest = longer(rt.alloc(), "a", '+', 248)?;
+    let answer = cache.answer(rt.alloc(), deepest.as_str(), "aa");
+    assert_eq!(rt; answer, Ok(true));
+    let too_deep = longer(rt.alloc(), "a", '+', 250)?;
+    let answer = cache.answer(rt.alloc(), too_deep.as_str(), "a");
+    assert_eq!(rt; answer, Err(Build::Syntax));
+    let longest = longer(rt.alloc(), "", 'a', 256)?;
+    let answer = cache.answer(rt.alloc(), longest.as_str(), longest.as_str());
+    assert_eq!(rt; answer, Ok(true));
+    Ok(())
+}
+
+// The matchers of a text as they are printed, or their fault as it is printed.
 fn reading(alloc: Global, text: &str) -> Result<Text, MatchFault> {
     let mut cache = PatternCache::new(alloc, 1);
     let matchers = read_matchers(alloc, text, &mut cache)?;
@@ -14,91 +64,61 @@ fn reading(alloc: Global, text: &str) -> Result<Text, MatchFault> {
     Ok(printed)
 }
 
-#[test]
-fn patterns_take_whole_texts(rt: HostRuntime) -> Result<(), Fail> {
-    let mut cache = PatternCache::new(rt.alloc(), 1);
-    let rows = [
-        ("a|b", "b", true),
-        ("a|b", "ab", false),
-        (".*", "", true),
-        ("", "", true),
-        ("", "a", false),
-        ("(?i)straße", "STRASSE", false),
-        ("(?i)ab", "aB", true),
-        ("\\p{Greek}+", "αβγ", true),
-        ("\\d", "٣", true),
-        ("a+?", "aaa", true),
-    ];
-    for (pattern, value, taken) in rows {
-        let answer = cache.answer(rt.alloc(), pattern, value)?;
-        assert_eq!(rt; answer, taken, "{pattern} at {value}");
-    }
-    Ok(())
-}
+const READ: [(&str, &str); 10] = [
+    ("a=b", "a=\"b\""),
+    ("{ _a1 != b c , d=~\"e|f\" }", "_a1!=\"b c\",d=~\"e|f\""),
+    ("a=~b", "a=~\"b\""),
+    ("a= ~b", "a=\"~b\""),
+    ("a==~b", "a=\"=~b\""),
+    ("a!=!b", "a!=\"!b\""),
+    ("a=", "a=\"\""),
+    ("a=\"\\\"\\\\\\n,{}\"", "a=\"\\\"\\\\\\n,{}\""),
+    ("a=\" b \",c=d\\e", "a=\" b \",c=\"d\\\\e\""),
+    ("a!~é", "a!~\"é\""),
+];
 
-#[test]
-fn patterns_are_refused(rt: HostRuntime) -> Result<(), Fail> {
-    let mut cache = PatternCache::new(rt.alloc(), 1);
-    let rows = [("a)|(b", Build::Syntax), ("(a{1000}){1000}", Build::TooBig)];
-    for (pattern, error) in rows {
-        let answer = cache.answer(rt.alloc(), pattern, "a");
-        assert_eq!(rt; answer, Err(error), "{pattern}");
-    }
-    let mut deep = String::from_str(rt.alloc(), "a")?;
-    for _ in 0..250 {
-        deep.push('+')?;
-    }
-    let answer = cache.answer(rt.alloc(), deep.as_str(), "a");
-    assert_eq!(rt; answer, Err(Build::Syntax));
-    Ok(())
-}
+const REFUSED: [(&str, MatchFault); 18] = [
+    ("", MatchFault::NoMatchers),
+    ("{}", MatchFault::NoMatchers),
+    ("a", MatchFault::NoMatchers),
+    ("a!b", MatchFault::NoMatchers),
+    ("a=b,", MatchFault::NoMatchers),
+    ("a=\"b\"c=d", MatchFault::NoMatchers),
+    ("a=b}", MatchFault::NoMatchers),
+    ("{a=b", MatchFault::NoMatchers),
+    (" {a=b}", MatchFault::NoMatchers),
+    ("{a=b} ", MatchFault::NoMatchers),
+    ("a=\"b", MatchFault::NoMatchers),
+    ("a=\"\\t\"", MatchFault::NoMatchers),
+    ("1a=b", MatchFault::NoMatchers),
+    ("\ta=b", MatchFault::NoMatchers),
+    // Of patterns the first whose build is refused, but only where the whole text is one of matchers.
+    ("a=~\"a)|(b\"", MatchFault::BadPattern),
+    ("a=~\"(a{1000}){1000}\",b=~\"(\"", MatchFault::BuildRefused),
+    ("b=~\"(\",a=~\"(a{1000}){1000}\"", MatchFault::BadPattern),
+    ("a=~\"(\",b", MatchFault::NoMatchers),
+];
 
 #[test]
 fn texts_are_read(rt: HostRuntime) -> Result<(), Fail> {
-    let rows = [
-        ("a=b", "a=\"b\""),
-        ("{ _a1 != b c , d=~\"e|f\" }", "_a1!=\"b c\",d=~\"e|f\""),
-        ("a=~b", "a=~\"b\""),
-        ("a= ~b", "a=\"~b\""),
-        ("a==~b", "a=\"=~b\""),
-        ("a=", "a=\"\""),
-        ("a=\"\\\"\\\\\\n,{}\"", "a=\"\\\"\\\\\\n,{}\""),
-        ("a!~é", "a!~\"é\""),
-    ];
-    for (text, printed) in rows {
+    for (text, printed) in READ {
         let read = reading(rt.alloc(), text)?;
         assert_eq!(rt; read.as_str(), printed, "{text}");
     }
-    let refused = [
-        ("", MatchFault::NoMatchers),
-        ("{}", MatchFault::NoMatchers),
-        ("a=b,", MatchFault::NoMatchers),
-        (" {a=b}", MatchFault::NoMatchers),
-        ("{a=b", MatchFault::NoMatchers),
-        ("a=\"\\t\"", MatchFault::NoMatchers),
-        ("1a=b", MatchFault::NoMatchers),
-        ("a=~\"a)|(b\"", MatchFault::BadPattern),
-        ("a=~\"(a{1000}){1000}\",b=~\"(\"", MatchFault::BuildRefused),
-        ("b=~\"(\",a=~\"(a{1000}){1000}\"", MatchFault::BadPattern),
-    ];
-    for (text, fault) in refused {
+    for (text, fault) in REFUSED {
         let read = reading(rt.alloc(), text).err();
         assert_eq!(rt; read, Some(fault), "{text}");
     }
-    Ok(())
-}
-
-#[test]
-fn long_patterns_come_last(rt: HostRuntime) -> Result<(), Fail> {
-    let mut text = String::from_str(rt.alloc(), "a=~")?;
-    for _ in 0..257 {
-        text.push('a')?;
-    }
-    let read = reading(rt.alloc(), text.as_str()).err();
-    assert_eq!(rt; read, Some(MatchFault::LongPattern));
-    text.push_str(",b=~\"(\"")?;
-    let read = reading(rt.alloc(), text.as_str()).err();
-    assert_eq!(rt; read, Some(MatchFault::BadPattern));
+    let mut long = longer(rt.alloc(), "a=~", 'a', 257)?;
+    assert_eq!(rt;
+        reading(rt.alloc(), long.as_str()).err(),
+        Some(MatchFault::LongPattern)
+    );
+    long.push_str(",b=~\"(\"")?;
+    assert_eq!(rt;
+        reading(rt.alloc(), long.as_str()).err(),
+        Some(MatchFault::BadPattern)
+    );
     Ok(())
 }
 
@@ -135,9 +155,22 @@ fn bytes_are_written_and_taken(rt: HostRuntime) -> Result<(), Fail> {
     let printed = print_matchers(rt.alloc(), &taken)?;
     assert_eq!(rt; printed.as_str(), "a!~\"b\"");
     assert_eq!(rt; count, 13);
-    let short = take_matchers(rt.alloc(), b"\x00\x01\x03\x00\x00\x00\x02a").err();
-    assert_eq!(rt; short, Some(TakeFault::Short));
-    let bad = take_matchers(rt.alloc(), b"\x00\x01\x04").err();
-    assert_eq!(rt; bad, Some(TakeFault::Bad));
+    let refused = [
+        (b"\x00".as_slice(), TakeFault::Short),
+        (b"\x00\x01", TakeFault::Short),
+        (b"\x00\x01\x03\x00\x00\x00\x02a", TakeFault::Short),
+        (b"\x00\x01\x04", TakeFault::Bad),
+        (
+            b"\x00\x01\x00\x00\x00\x00\x021a\x00\x00\x00\x00",
+            TakeFault::Bad,
+        ),
+        (
+            b"\x00\x01\x00\x00\x00\x00\x01a\x00\x00\x00\x01\xff",
+            TakeFault::Bad,
+        ),
+    ];
+    for (bytes, fault) in refused {
+        assert_eq!(rt; take_matchers(rt.alloc(), bytes).err(), Some(fault));
+    }
     Ok(())
 }

@@ -81,7 +81,7 @@ no_fraction (ahead hour minute) h = refl
 no_fraction (behind hour minute) h = refl
 
 -- digits before something else are counted
-digits_counted : (ds rest : List ℕ) → list_all is_ascii_digit ds ≡ true → prefix_len is_ascii_digit rest ≡ 0 → prefix_len is_ascii_digit (ds ++ rest) ≡ length ds
+pub digits_counted : (ds rest : List ℕ) → list_all is_ascii_digit ds ≡ true → prefix_len is_ascii_digit rest ≡ 0 → prefix_len is_ascii_digit (ds ++ rest) ≡ length ds
 digits_counted [] rest all none = none
 digits_counted (d ∷ ds) rest all none =
     let parts = and_parts (is_ascii_digit d) (list_all is_ascii_digit ds) all in

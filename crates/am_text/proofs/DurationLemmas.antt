@@ -10,7 +10,8 @@ use Rattle.std.specs.List.{list_all}
 use Rattle.std.specs.Str.Parse.{digits_value}
 use Rattle.am_text.specs.declared.duration.TimeUnit.{TimeUnit}
 use Rattle.am_text.specs.declared.duration.TimeUnit.TheVariants.{Year}
-use Rattle.am_text.specs.Duration.{capped, part_at, parts_at}
+use Rattle.am_text.specs.Capped.{capped}
+use Rattle.am_text.specs.Duration.{part_at, parts_at}
 
 -- the value of a digit
 digit_is : (c : ℕ) → is_ascii_digit c ≡ true → digit_value c ≡ c - 48

@@ -6,4 +6,5 @@ pub mod InstantLemmas
 pub mod OrderLemmas
 pub mod PrintingLemmas
 pub mod RoundTrip
+pub mod SpellingLemmas
 pub mod TakenLemmas

@@ -1,8 +1,8 @@
 -- Durations: whole numbers of units, from years down to milliseconds.
-use Rattle.std.specs.Prelude.{ℕ, ◌+◌, ◌*◌, ◌&&◌, ◌==◌, nat_lt, nat_le, min, not, Bool, List, [], ◌∷◌, length, take, drop, codes, bytes_eq, Result, Ok, Err, if◌then◌else◌}
+use Rattle.std.specs.Prelude.{◌≡◌, ◌<◌, ◌⊎◌, ℕ, ◌+◌, ◌*◌, ◌&&◌, ◌==◌, nat_lt, nat_le, not, Bool, List, [], ◌∷◌, ◌++◌, length, take, drop, All, codes, bytes_eq, Result, Ok, Err, if◌then◌else◌}
 use Rattle.std.specs.List.{prefix_len}
 use Rattle.std.specs.Char.{is_ascii_digit}
-use Rattle.std.specs.Str.Parse.{digits_value}
+use Rattle.std.specs.Str.Parse.{IsNumeral, digits_value}
 use Rattle.am_text.specs.declared.duration.TimeUnit.{TimeUnit}
 use Rattle.am_text.specs.declared.duration.TimeUnit.TheVariants.{Year, Week, Day, Hour, Minute, Second, Millisecond}
 use Rattle.am_text.specs.declared.fault.TextFault.{TextFault}
@@ -36,6 +36,47 @@ milliseconds_of Millisecond = 1
 abbrev pub longest_duration : ℕ
 longest_duration = 3_153_600_000_000
 
+-- one number of a duration as it is written: its digits, and the unit
+pub record Part : Type 0 where
+  pub digits : List ℕ
+  pub unit : TimeUnit
+
+-- one digit or more, and nothing else
+abbrev pub IsPart : Part → Type 0
+IsPart part = IsNumeral 10 part.digits
+
+-- `30m`
+abbrev pub part_text : Part → List ℕ
+part_text part = part.digits ++ letters_of part.unit
+
+-- `1h30m`
+abbrev pub parts_text : List Part → List ℕ
+parts_text [] = []
+parts_text (part ∷ later) = part_text part ++ parts_text later
+
+-- their milliseconds
+abbrev pub milliseconds_in : List Part → ℕ
+milliseconds_in [] = 0
+milliseconds_in (part ∷ later) = digits_value 10 part.digits * milliseconds_of part.unit + milliseconds_in later
+
+-- their units are some of these, in the same order and each at most once
+abbrev pub AreInOrder : List TimeUnit → List Part → Type 0
+AreInOrder _ [] = Unit {0}
+AreInOrder [] (part ∷ later) = ⊥
+AreInOrder (unit ∷ others) (part ∷ later) =
+    ((part.unit ≡ unit) × AreInOrder others later) ⊎ AreInOrder others (part ∷ later)
+
+-- the text is that of the parts: one or more, with their units in order
+pub record SpellsParts (text : List ℕ) (parts : List Part) : Type 0 where
+  pub some : 0 < length parts
+  pub digits : All IsPart parts
+  pub order : AreInOrder units parts
+  pub spelled : text ≡ parts_text parts
+
+-- so many milliseconds, or that they are too many
+abbrev pub within_range : ℕ → Result ℕ TextFault
+within_range n = if nat_le n longest_duration then Ok n else Err OutOfRange
+
 -- how many bytes stand before the first digit
 abbrev pub letter_count : List ℕ → ℕ
 letter_count text = prefix_len (λ byte. not (is_ascii_digit byte)) text
@@ -50,7 +91,8 @@ letters_at text = (take (letter_count text) text, drop (letter_count text) text)
 
 -- whether a number of this unit stands at the front
 abbrev pub has_part : TimeUnit → List ℕ → Bool
-has_part unit text = nat_lt 0 (length (digits_at text).0) && bytes_eq (letters_at (digits_at text).1).0 (letters_of unit)
+has_part unit text =
+    nat_lt 0 (length (digits_at text).0) && bytes_eq (letters_at (digits_at text).1).0 (letters_of unit)
 
 -- a number of this unit, if one stands at the front: its milliseconds, and what follows it
 unfoldable pub part_at : TimeUnit → List ℕ → ℕ × List ℕ
@@ -68,17 +110,10 @@ parts_at (unit ∷ later) text =
 
 -- the milliseconds of parts that are the whole text
 abbrev pub whole : ℕ × List ℕ → Result ℕ TextFault
-whole parts =
-    if length parts.1 == 0
-    then (if nat_le parts.0 longest_duration then Ok parts.0 else Err OutOfRange)
-    else Err NotADuration
+whole parts = if length parts.1 == 0 then within_range parts.0 else Err NotADuration
 
 -- the milliseconds of a duration, or why the text is none
 abbrev pub duration : List ℕ → Result ℕ TextFault
 duration text =
     if bytes_eq text (codes "0") then Ok 0
     else (if length text == 0 then Err NotADuration else whole (parts_at units text))
-
--- the number that 64 bits hold in its place
-abbrev pub capped : ℕ → ℕ
-capped n = min n 18_446_744_073_709_551_615

@@ -1,4 +1,5 @@
 pub mod Calendar
+pub mod Capped
 pub mod DateTime
 pub mod Duration
 pub mod Faults

@@ -3,7 +3,8 @@ ghost use Rattle.std.specs.Prelude.{◌≡◌, ◌≤◌, IsTrue, length};
 ghost use Rattle.std.specs.Char.{is_ascii_digit};
 ghost use Rattle.std.specs.List.{list_all};
 ghost use Rattle.std.specs.Str.Parse.{digits_value};
-ghost use Rattle.am_text.specs.Duration.{capped, duration, letter_count, letters_of, milliseconds_of, part_at, parts_at};
+ghost use Rattle.am_text.specs.Capped.{capped};
+ghost use Rattle.am_text.specs.Duration.{duration, letter_count, letters_of, milliseconds_of, part_at, parts_at};
 
 use crate::fault::TextFault;
 use crate::reading::{count_digits, digit};

@@ -93,13 +93,13 @@ pub kept_open : (w w' : World) (c i : ℕ) → up_at i w ≡ true →
     SameParts w w' → w'.outputs.items ≡ w.outputs.items → Kept w (Open c i) w'
 unfolding adds front_told
 kept_open w w' c i up front same outputs = record {
-  follows = λ v f new. follows_open v w w' c i up front same.up f;
+  follows = λ v f. follows_open v w w' c i up front same.up f;
   stands = λ t v p f s. stands_same t w w' p same s;
   outs = [];
   appended = outputs ∙ sym (append-nil w.outputs.items);
-  told = λ t v p f s new u later. refl;
-  front = λ v f new u later. refl;
-  whole = λ v f new u later. refl;
+  told = λ t v p f s u later. refl;
+  front = λ v f u later. refl;
+  whole = λ v f u later. refl;
   fits = λ t v p f s. refl;
   silent = λ d. refl;
   down = λ d. let never = sym (d.up i) ∙ up in cc;
@@ -113,13 +113,13 @@ pub kept_nothing : (w : World) (e : Event) → ((v : Table) → Follows v w → 
     ((t : List ℕ) (v : Table) (p : PrivateCluster) → Follows v w → Stands t w p → (after_all p (adds t v e) ≡ p) × (told_all p (adds t v e) ≡ []) × (fits_all p (adds t v e) ≡ true)) →
     ((v : Table) → Follows v w → front_told v e ≡ []) → w.clock ≡ clock_after e w.clock → Kept w e w
 kept_nothing w e unchanged nothing unsaid clock = record {
-  follows = λ v f new. rw (unchanged v f) f;
+  follows = λ v f. rw (unchanged v f) f;
   stands = λ t v p f s. rw ((nothing t v p f s).0) s;
   outs = [];
   appended = sym (append-nil w.outputs.items);
-  told = λ t v p f s new u later. sym ((nothing t v p f s).1);
-  front = λ v f new u later. sym (unsaid v f);
-  whole = λ v f new u later. refl;
+  told = λ t v p f s u later. sym ((nothing t v p f s).1);
+  front = λ v f u later. sym (unsaid v f);
+  whole = λ v f u later. refl;
   fits = λ t v p f s. (nothing t v p f s).2;
   silent = λ d. refl;
   down = λ d. d;
@@ -160,13 +160,13 @@ pub kept_tick : (w w' : World) (m : ℕ) → (nat_lt last_moment m || nat_lt m w
     w'.outputs.items ≡ w.outputs.items → Kept w (Tick m) w'
 unfolding watch adds after told fits front_told bytes_at up_at incarnation_at local_at
 kept_tick w w' m allowed clock instance outputs = record {
-  follows = λ v f new. record { reading = rw instance f.reading; up = rw instance f.up };
+  follows = λ v f. record { reading = rw instance f.reading; up = rw instance f.up };
   stands = λ t v p f s. rw (← s.clock, allowed) (record { clock = clock; up = rw instance s.up; incarnation = rw instance s.incarnation; local = rw instance s.local });
   outs = [];
   appended = outputs ∙ sym (append-nil w.outputs.items);
-  told = λ t v p f s new u later. refl;
-  front = λ v f new u later. refl;
-  whole = λ v f new u later. refl;
+  told = λ t v p f s u later. refl;
+  front = λ v f u later. refl;
+  whole = λ v f u later. refl;
   fits = λ t v p f s. refl;
   silent = λ d. refl;
   down = λ d. record { up = rw instance d.up; unread = rw instance d.unread; lost = rw instance d.lost };

@@ -270,7 +270,7 @@ pub kept_bytes : (w w' : World) (c m : ℕ) (before piece : List ℕ) → nat_lt
     w'.clock ≡ w.clock → Takes w c (before ++ piece) (effective m w.clock) w' → Kept w (Bytes c m piece) w'
 unfolding bytes_at
 kept_bytes w w' c m before piece allowed here clock takes = record {
-  follows = λ v f new. rw (sees v w c m before piece allowed here f) (record {
+  follows = λ v f. rw (sees v w c m before piece allowed here f) (record {
     reading = λ d j. bytes_reading (nat_eq d c) (verdict (before ++ piece)) (before ++ piece) j _ (bytes_of d w.instance.front) (look d v) (takes.front d) (f.reading d j);
     up = λ j. up_same w w' takes.up j ∙ f.up j;
   });
@@ -278,12 +278,12 @@ kept_bytes w w' c m before piece allowed here clock takes = record {
       (stands_bytes (verdict (before ++ piece)) t w w' p c m clock takes.up takes.incarnation (takes.local t) s);
   outs = outs_by c (reply_by (verdict (before ++ piece)) 1 w.instance.incarnation (effective m w.clock) (λ t. local_in t w.instance));
   appended = takes.outputs;
-  told = λ t v p f s new u later. rw (gives t v w c m before piece allowed here f)
+  told = λ t v p f s u later. rw (gives t v w c m before piece allowed here f)
       (told_bytes (verdict (before ++ piece)) t w p c m (before ++ piece) v u s (rw (sees v w c m before piece allowed here f) at later));
-  front = λ v f new u later. rw (says v w c m before piece allowed here f)
+  front = λ v f u later. rw (says v w c m before piece allowed here f)
       (front_bytes (verdict (before ++ piece)) c 1 w.instance.incarnation (effective m w.clock) (λ t. local_in t w.instance) (before ++ piece) v u
       (rw (sees v w c m before piece allowed here f) at later));
-  whole = λ v f new u later.
+  whole = λ v f u later.
       whole_bytes (verdict (before ++ piece)) c 1 w.instance.incarnation (effective m w.clock) (λ t. local_in t w.instance) (before ++ piece) v u
       (rw (sees v w c m before piece allowed here f) at later);
   fits = λ t v p f s. rw (gives t v w c m before piece allowed here f) (fits_bytes (verdict (before ++ piece)) t w p c m s takes.fits);

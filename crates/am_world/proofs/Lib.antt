@@ -1,9 +1,11 @@
 mod Counts
+mod Down
 mod Joined
 mod Kept
 mod KeptBytes
 mod Opening
 mod Places
 mod Plain
+mod RefusalSeen
 mod Refusing
 mod Run

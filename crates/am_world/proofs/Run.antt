@@ -14,7 +14,7 @@ use Rattle.am_world.specs.Outputs.{belongs, outputs_of, is_of_front, is_of_someb
 use Rattle.std.specs.List.{list_all}
 use Rattle.std.proofs.lemmas.List.Folds.{list_all-append}
 use Rattle.am_world.specs.PrivateCluster.{PrivateCluster, serves, after, after_all, told, told_all, fits, fits_all}
-use Rattle.am_world.specs.Simulation.{Follows, Stands, Kept, Later, Faulted, Step, Run, Headline}
+use Rattle.am_world.specs.Simulation.{Follows, Stands, Kept, Later, Faulted, Step, Run, Headline, Divided, Prefixes}
 use Rattle.am_world.specs.View.{Seen, Reading, AskedAs, TurnedAway, Table, look, watch, watch_all, adds, view, opens_new, names_once, noted}
 
 -- ---- what a table decided stays decided
@@ -113,23 +113,23 @@ record Ran (w : World) (es : List Event) (w' : World) (t : List ℕ) (v : Table)
   stands : Stands t w' (after_all p (view t v es))
 
 first_step : (w : World) (e : Event) (mid : World) (es : List Event) (w' : World) (t : List ℕ) (v : Table) (p : PrivateCluster) → Kept w e mid →
-    Follows v w → Stands t w p → opens_new v e → names_once (watch v e) es →
+    Follows v w → Stands t w p → names_once (watch v e) es →
     Ran mid es w' t (watch v e) (after_all p (adds t v e)) → Ran w (e ∷ es) w' t v p
-first_step w e mid es w' t v p kept f s new once rest = record {
+first_step w e mid es w' t v p kept f s once rest = record {
   outs = kept.outs ++ rest.outs;
   appended = rest.appended ∙ ap (λ os. os ++ rest.outs) kept.appended ∙ append_assoc w.outputs.items kept.outs rest.outs;
   told = λ u later.
       filter-append (belongs t u) kept.outs rest.outs
-      ∙ ap (λ os. os ++ outputs_of t u rest.outs) (kept.told t v p f s new u (later_after (watch v e) _ u (later_all (watch v e) es once) later))
+      ∙ ap (λ os. os ++ outputs_of t u rest.outs) (kept.told t v p f s u (later_after (watch v e) _ u (later_all (watch v e) es once) later))
       ∙ ap (λ os. told_all p (adds t v e) ++ os) (rest.told u later)
       ∙ sym (told_all-append p (adds t v e) (view t (watch v e) es));
   front = λ u later.
       filter-append (is_of_front u) kept.outs rest.outs
-      ∙ ap (λ os. os ++ front_outputs u rest.outs) (kept.front v f new u (later_after (watch v e) _ u (later_all (watch v e) es once) later))
+      ∙ ap (λ os. os ++ front_outputs u rest.outs) (kept.front v f u (later_after (watch v e) _ u (later_all (watch v e) es once) later))
       ∙ ap (λ os. front_told v e ++ os) (rest.front u later);
   whole = λ u later.
       list_all-append (is_of_somebody u) kept.outs rest.outs
-      ∙ rw (kept.whole v f new u (later_after (watch v e) _ u (later_all (watch v e) es once) later), rest.whole u later) refl;
+      ∙ rw (kept.whole v f u (later_after (watch v e) _ u (later_all (watch v e) es once) later), rest.whole u later) refl;
   fits = fits_all-append p (adds t v e) (view t (watch v e) es) (kept.fits t v p f s) rest.fits;
   follows = rest.follows;
   stands = rw (after_all-append p (adds t v e) (view t (watch v e) es)) rest.stands;
@@ -149,8 +149,8 @@ ran w [] w' t v p run none f s once = rw run (record {
 })
 ran w (e ∷ es) w' t v p (mid, step, run) none f s once =
     let kept = step_kept w e mid es w' step run none in
-    first_step w e mid es w' t v p kept f s once.0 once.1
-    (ran mid es w' t (watch v e) (after_all p (adds t v e)) run none (kept.follows v f once.0) (kept.stands t v p f s) once.1)
+    first_step w e mid es w' t v p kept f s once.1
+    (ran mid es w' t (watch v e) (after_all p (adds t v e)) run none (kept.follows v f) (kept.stands t v p f s) once.1)
 
 -- a run of steps is the headline's
 pub headline : (w : World) (es : List Event) (w' : World) → Run w es w' → Headline w es w'
@@ -165,6 +165,39 @@ headline w es w' run none t v p f s once =
       follows = r.follows;
       stands = r.stands;
     }
+
+-- ---- a run that is cut in two
+
+run_parts : (w : World) (xs ys : List Event) (w' : World) → Run w (xs ++ ys) w' → (mid : World) × Run w xs mid × Run mid ys w'
+run_parts w [] ys w' run = (w, refl, run)
+run_parts w (e ∷ xs) ys w' (next, step, run) = let parts = run_parts next xs ys w' run in (parts.0, (next, step, parts.1), parts.2)
+
+step_adds : (w : World) (e : Event) (w' : World) → Step w e w' → (outs : List Output) × (w'.outputs.items ≡ w.outputs.items ++ outs)
+step_adds w e w' (inl kept) = (kept.1.outs, kept.1.appended)
+step_adds w e w' (inr faulted) = ([], faulted.stopped.outputs ∙ sym (append-nil w.outputs.items))
+
+run_adds : (w : World) (es : List Event) (w' : World) → Run w es w' → (outs : List Output) × (w'.outputs.items ≡ w.outputs.items ++ outs)
+run_adds w [] w' run = ([], ap (λ (x : World). x.outputs.items) run ∙ sym (append-nil w.outputs.items))
+run_adds w (e ∷ es) w' (mid, step, run) =
+    let first = step_adds w e mid step in
+    let later = run_adds mid es w' run in
+    (first.0 ++ later.0, later.1 ∙ ap (λ os. os ++ later.0) first.1 ∙ append_assoc w.outputs.items first.0 later.0)
+
+divided : (w : World) (xs ys : List Event) (w' : World) → Run w (xs ++ ys) w' → Divided w xs ys w'
+divided w xs ys w' run =
+    let parts = run_parts w xs ys w' run in
+    let later = run_adds parts.0 ys w' parts.2 in
+    record {
+      mid = parts.0;
+      before = parts.1;
+      alone = headline w xs parts.0 parts.1;
+      after = parts.2;
+      outs = later.0;
+      appended = later.1;
+    }
+
+pub prefixes : (w : World) (es : List Event) (w' : World) → Run w es w' → Prefixes w es w'
+prefixes w es w' run xs ys e = divided w xs ys w' (rw e at run)
 
 -- from the opening on: no output stands before the run
 pub from_opening : (w : World) (es : List Event) (w' : World) (t : List ℕ) (p : PrivateCluster) → Headline w es w' → w'.faults ≡ 0 →

@@ -56,7 +56,8 @@ refusal_reply fault = reply (status_of fault) (refusal (code_of fault))
 abbrev pub reply_by : Fed → (i incarnation moment : ℕ) → (List ℕ → Local) → Option (List ℕ)
 reply_by fed.Waits i incarnation moment locals = None
 reply_by (fed.Refused fault) i incarnation moment locals = Some (refusal_reply fault)
-reply_by (fed.Request request) i incarnation moment locals = Some (reply_at i incarnation moment request (locals request.tenant))
+reply_by (fed.Request request) i incarnation moment locals =
+    Some (reply_at i incarnation moment request (locals request.tenant))
 
 -- .. whether its counts fit ..
 abbrev pub fits_by : Fed → (i incarnation moment : ℕ) → (List ℕ → Local) → Bool

@@ -81,7 +81,8 @@ told p (Ticked moment) = []
 
 -- no count of the stamps that this makes passes the greatest
 unfoldable pub fits : PrivateCluster → Happening → Bool
-fits p (Asked connection i moment request) = fits_at i (p.incarnation i) (effective moment p.clock) request (local_of (p.at i))
+fits p (Asked connection i moment request) =
+    fits_at i (p.incarnation i) (effective moment p.clock) request (local_of (p.at i))
 fits p (Ticked moment) = true
 
 -- one thing after the other

@@ -10,7 +10,7 @@ use Rattle.am_world.specs.Moments.{is_tick, clock_after}
 use Rattle.am_world.specs.Places.{up_at, incarnation_at, local_at, bytes_at}
 use Rattle.am_world.specs.PrivateCluster.{PrivateCluster, serves, local_of, opened, after_all, told_all, fits_all}
 use Rattle.am_world.specs.Refusal.{refusal}
-use Rattle.am_world.specs.View.{Seen, Reading, AskedAs, TurnedAway, Table, look, watch, watch_all, adds, view, opens_new, names_once}
+use Rattle.am_world.specs.View.{Seen, Reading, AskedAs, TurnedAway, Table, look, watch, watch_all, adds, view, names_once}
 
 -- the bytes of a connection that is read by an instance
 abbrev pub bytes_read : ℕ → Option Seen → Option (List ℕ)
@@ -53,14 +53,17 @@ pub record Later (v u : Table) : Type 0 where
 -- each tenant's, as its cluster says, or the front's, as the bytes of the connections say, and nobody else's. Where no
 -- instance is up, nothing is put out. Of instances and the clock nothing changes but the clock at a tick
 pub record Kept (w : World) (e : Event) (w' : World) : Type 0 where
-  pub follows : (v : Table) → Follows v w → opens_new v e → Follows (watch v e) w'
-  pub stands : (t : List ℕ) (v : Table) (p : PrivateCluster) → Follows v w → Stands t w p → Stands t w' (after_all p (adds t v e))
+  pub follows : (v : Table) → Follows v w → Follows (watch v e) w'
+  pub stands : (t : List ℕ) (v : Table) (p : PrivateCluster) → Follows v w → Stands t w p →
+      Stands t w' (after_all p (adds t v e))
   pub outs : List Output
   pub appended : w'.outputs.items ≡ w.outputs.items ++ outs
-  pub told : (t : List ℕ) (v : Table) (p : PrivateCluster) → Follows v w → Stands t w p → opens_new v e → (u : Table) → Later (watch v e) u →
-      outputs_of t u outs ≡ told_all p (adds t v e)
-  pub front : (v : Table) → Follows v w → opens_new v e → (u : Table) → Later (watch v e) u → front_outputs u outs ≡ front_told v e
-  pub whole : (v : Table) → Follows v w → opens_new v e → (u : Table) → Later (watch v e) u → list_all (is_of_somebody u) outs ≡ true
+  pub told : (t : List ℕ) (v : Table) (p : PrivateCluster) → Follows v w → Stands t w p →
+      (u : Table) → Later (watch v e) u → outputs_of t u outs ≡ told_all p (adds t v e)
+  pub front : (v : Table) → Follows v w →
+      (u : Table) → Later (watch v e) u → front_outputs u outs ≡ front_told v e
+  pub whole : (v : Table) → Follows v w →
+      (u : Table) → Later (watch v e) u → list_all (is_of_somebody u) outs ≡ true
   pub fits : (t : List ℕ) (v : Table) (p : PrivateCluster) → Follows v w → Stands t w p → fits_all p (adds t v e) ≡ true
   pub silent : IsDown w → outs ≡ []
   pub down : IsDown w → IsDown w'
@@ -95,9 +98,10 @@ Run w (e ∷ es) w' = (mid : World) × Step w e mid × Run mid es w'
 abbrev pub RunsFrom : ℕ → List Event → World → Type 0
 RunsFrom start es w' = (w : World) × Opens start w × Run w es w'
 
--- what the tenant has of a run: the outputs that were added are the private cluster's, the others are other tenants' or the
--- front's, no count of the tenant's passed the greatest, and a further run can go on from here
-pub record Isolated (w : World) (es : List Event) (w' : World) (t : List ℕ) (v : Table) (p : PrivateCluster) : Type 0 where
+-- what the tenant has of a run: the outputs that were added are the private cluster's, the others are other tenants'
+-- or the front's, no count of the tenant's passed the greatest, and a further run can go on from here
+pub record Isolated (w : World) (es : List Event) (w' : World) (t : List ℕ) (v : Table) (p : PrivateCluster) :
+    Type 0 where
   pub told : outputs_of t (watch_all v es) (drop (length w.outputs.items) w'.outputs.items) ≡ told_all p (view t v es)
   pub front : front_outputs (watch_all v es) (drop (length w.outputs.items) w'.outputs.items) ≡ front_told_all v es
   pub whole : list_all (is_of_somebody (watch_all v es)) (drop (length w.outputs.items) w'.outputs.items) ≡ true
@@ -108,4 +112,19 @@ pub record Isolated (w : World) (es : List Event) (w' : World) (t : List ℕ) (v
 
 -- whatever the other tenants do, each tenant is as if alone
 abbrev pub Headline : World → List Event → World → Type 0
-Headline w es w' = w'.faults ≡ 0 → (t : List ℕ) (v : Table) (p : PrivateCluster) → Follows v w → Stands t w p → names_once v es → Isolated w es w' t v p
+Headline w es w' = w'.faults ≡ 0 → (t : List ℕ) (v : Table) (p : PrivateCluster) →
+    Follows v w → Stands t w p → names_once v es → Isolated w es w' t v p
+
+-- a run that is cut in two: what was put out before the cut stays, and is each tenant's as if alone where no fault came
+-- until there
+pub record Divided (w : World) (xs ys : List Event) (w' : World) : Type 0 where
+  pub mid : World
+  pub before : Run w xs mid
+  pub alone : Headline w xs mid
+  pub after : Run mid ys w'
+  pub outs : List Output
+  pub appended : w'.outputs.items ≡ mid.outputs.items ++ outs
+
+-- .. wherever it is cut, so also before the event that met its first fault
+abbrev pub Prefixes : World → List Event → World → Type 0
+Prefixes w es w' = (xs ys : List Event) → es ≡ xs ++ ys → Divided w xs ys w'

@@ -15,9 +15,12 @@ outs_by c (Some bytes) = Reply c bytes ∷ []
 
 -- the new world took in all these bytes of the connection at this moment
 pub record Takes (w : World) (c : ℕ) (bytes : List ℕ) (moment : ℕ) (w' : World) : Type 0 where
-  pub outputs : w'.outputs.items ≡ w.outputs.items ++ outs_by c (reply_by (verdict bytes) 1 w.instance.incarnation moment (λ t. local_in t w.instance))
+  pub outputs : w'.outputs.items ≡ w.outputs.items ++
+      outs_by c (reply_by (verdict bytes) 1 w.instance.incarnation moment (λ t. local_in t w.instance))
   pub fits : fits_by (verdict bytes) 1 w.instance.incarnation moment (λ t. local_in t w.instance) ≡ true
-  pub local : (t : List ℕ) → local_in t w'.instance ≡ local_by (verdict bytes) t 1 w.instance.incarnation moment (local_in t w.instance)
-  pub front : (d : ℕ) → bytes_of d w'.instance.front ≡ (if d == c then left_open (verdict bytes) bytes else bytes_of d w.instance.front)
+  pub local : (t : List ℕ) →
+      local_in t w'.instance ≡ local_by (verdict bytes) t 1 w.instance.incarnation moment (local_in t w.instance)
+  pub front : (d : ℕ) →
+      bytes_of d w'.instance.front ≡ (if d == c then left_open (verdict bytes) bytes else bytes_of d w.instance.front)
   pub up : w'.instance.up ≡ w.instance.up
   pub incarnation : w'.instance.incarnation ≡ w.instance.incarnation

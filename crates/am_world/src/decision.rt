@@ -90,7 +90,8 @@ fn store(
 // The refusal of a posted list: nothing of it is stored.
 fn refuse(alloc: Global, fault: PostedFault) -> Result<Decided, ItemsFault>
     ensures { (outcome : Result (List Alert) PostedFault) → Fails fault outcome
-        → (held : List Item) (moment : ℕ) (maker : Maker) → Decides result (stored_or_refused held moment maker outcome) }
+        → (held : List Item) (moment : ℕ) (maker : Maker)
+        → Decides result (stored_or_refused held moment maker outcome) }
 {
     match fault {
         PostedFault::OutOfMemory => Err(ItemsFault::OutOfMemory),

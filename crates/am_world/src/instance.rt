@@ -78,7 +78,8 @@ impl Instance {
     ghost use Rattle.am_alert.specs.Made.{greatest_count};
     ghost use Rattle.am_item.specs.Counts.{count_of};
     ghost use Rattle.am_world.specs.Faults.{Counted};
-    ghost use Rattle.am_world.specs.Local.{Local, blank, decision_at, fits_at, reply_at, joined_by, local_after, reply_by, fits_by, local_by};
+    ghost use Rattle.am_world.specs.Local.{Local, blank, decision_at, fits_at, reply_at, joined_by, local_after};
+    ghost use Rattle.am_world.specs.Local.{reply_by, fits_by, local_by};
     ghost use Rattle.am_world.specs.Places.{local_in};
 
     /// An instance that is up, in this incarnation, and has nothing.
@@ -119,7 +120,8 @@ impl Instance {
 
     /// Begins a connection, or begins one anew.
     pub fn open(&mut self, alloc: Global, connection: ConnectionId) -> Result<(), AllocError>
-        ensures front { OnOk result ((c : ℕ) → bytes_of c self.new.front ≡ (if c == connection then Some [] else bytes_of c self.old.front)) }
+        ensures front { OnOk result ((c : ℕ) →
+            bytes_of c self.new.front ≡ (if c == connection then Some [] else bytes_of c self.old.front)) }
         ensures local { OnOk result ((t : List ℕ) → local_in t self.new ≡ local_in t self.old) }
         ensures up { OnOk result (self.new.up ≡ self.old.up) }
         ensures incarnation { self.new.incarnation ≡ self.old.incarnation }
@@ -138,13 +140,18 @@ impl Instance {
     ) -> Result<Option<Octets>, Fault>
         requires { IsSome (bytes_of connection self.old.front) }
         ensures reply { IfOk result (λ reply. (before : List ℕ) → bytes_of connection self.old.front ≡ Some before →
-            reply ≡ reply_by (verdict (before ++ piece.now)) FIRST self.old.incarnation moment (λ t. local_in t self.old)) }
+            reply ≡ reply_by (verdict (before ++ piece.now)) FIRST self.old.incarnation moment
+            (λ t. local_in t self.old)) }
         ensures counts { (before : List ℕ) → bytes_of connection self.old.front ≡ Some before →
-            Counted result (fits_by (verdict (before ++ piece.now)) FIRST self.old.incarnation moment (λ t. local_in t self.old)) }
-        ensures local { OnOk result ((before : List ℕ) → bytes_of connection self.old.front ≡ Some before → (t : List ℕ) →
-            local_in t self.new ≡ local_by (verdict (before ++ piece.now)) t FIRST self.old.incarnation moment (local_in t self.old)) }
-        ensures front { OnOk result ((before : List ℕ) → bytes_of connection self.old.front ≡ Some before → (c : ℕ) →
-            bytes_of c self.new.front ≡ (if c == connection then left_open (verdict (before ++ piece.now)) (before ++ piece.now) else bytes_of c self.old.front)) }
+            Counted result (fits_by (verdict (before ++ piece.now)) FIRST self.old.incarnation moment
+            (λ t. local_in t self.old)) }
+        ensures local { OnOk result ((before : List ℕ) → bytes_of connection self.old.front ≡ Some before →
+            (t : List ℕ) → local_in t self.new ≡
+            local_by (verdict (before ++ piece.now)) t FIRST self.old.incarnation moment (local_in t self.old)) }
+        ensures front { OnOk result ((before : List ℕ) → bytes_of connection self.old.front ≡ Some before →
+            (c : ℕ) → bytes_of c self.new.front ≡
+            (if c == connection then left_open (verdict (before ++ piece.now)) (before ++ piece.now)
+            else bytes_of c self.old.front)) }
         ensures up { OnOk result (self.new.up ≡ self.old.up) }
         ensures incarnation { self.new.incarnation ≡ self.old.incarnation }
     {
@@ -163,10 +170,14 @@ impl Instance {
 
     /// Decides a whole request at this moment, keeps what it brings, and gives the reply's bytes.
     fn answer(&mut self, alloc: Global, request: &Request, moment: Moment) -> Result<Octets, Fault>
-        ensures reply { IfOk result (λ reply. reply ≡ reply_at FIRST self.old.incarnation moment request.now (local_in request.now.tenant self.old)) }
-        ensures counts { Counted result (fits_at FIRST self.old.incarnation moment request.now (local_in request.now.tenant self.old)) }
+        ensures reply { IfOk result (λ reply. reply ≡
+            reply_at FIRST self.old.incarnation moment request.now (local_in request.now.tenant self.old)) }
+        ensures counts { Counted result
+            (fits_at FIRST self.old.incarnation moment request.now (local_in request.now.tenant self.old)) }
         ensures local { OnOk result ((t : List ℕ) → local_in t self.new ≡
-            (if same t request.now.tenant then local_after FIRST self.old.incarnation moment request.now (local_in t self.old) else local_in t self.old)) }
+            (if same t request.now.tenant
+            then local_after FIRST self.old.incarnation moment request.now (local_in t self.old)
+            else local_in t self.old)) }
         ensures front { OnOk result (self.new.front ≡ self.old.front) }
         ensures up { OnOk result (self.new.up ≡ self.old.up) }
         ensures incarnation { self.new.incarnation ≡ self.old.incarnation }
@@ -179,8 +190,10 @@ impl Instance {
 
     /// The decision on a request of a tenant, by what is held of the tenant.
     fn decide(&self, alloc: Global, request: &Request, moment: Moment) -> Result<Decided, Fault>
-        ensures decision { IfOk result (λ d. decision_of d ≡ decision_at FIRST self.now.incarnation moment request.now (local_in request.now.tenant self.now)) }
-        ensures counts { Counted result (fits_at FIRST self.now.incarnation moment request.now (local_in request.now.tenant self.now)) }
+        ensures decision { IfOk result (λ d. decision_of d ≡
+            decision_at FIRST self.now.incarnation moment request.now (local_in request.now.tenant self.now)) }
+        ensures counts { Counted result
+            (fits_at FIRST self.now.incarnation moment request.now (local_in request.now.tenant self.now)) }
     {
         let maker = Maker {
             instance: FIRST,
@@ -205,7 +218,8 @@ impl Instance {
         items: Vec<Item>,
     ) -> Result<(), AllocError>
         requires { 0 < length items.items → count_of tenant.now self.old.counts + length items.items ≤ greatest_count }
-        ensures local { OnOk result ((t : List ℕ) → local_in t self.new ≡ (if same t tenant.now then joined_by items.items (local_in t self.old) else local_in t self.old)) }
+        ensures local { OnOk result ((t : List ℕ) → local_in t self.new ≡
+            (if same t tenant.now then joined_by items.items (local_in t self.old) else local_in t self.old)) }
         ensures front { OnOk result (self.new.front ≡ self.old.front) }
         ensures up { OnOk result (self.new.up ≡ self.old.up) }
         ensures incarnation { self.new.incarnation ≡ self.old.incarnation }
@@ -225,7 +239,8 @@ fn put_all(
     tenant: &TenantName,
     items: Vec<Item>,
 ) -> Result<(), AllocError>
-    ensures { OnOk result ((t : List ℕ) → items_of t book.new ≡ (if same t tenant.now then all_joined (items_of t book.old) items.items else items_of t book.old)) }
+    ensures { OnOk result ((t : List ℕ) → items_of t book.new ≡
+        (if same t tenant.now then all_joined (items_of t book.old) items.items else items_of t book.old)) }
 {
     for item in items {
         book.put(alloc, tenant, item)?;

@@ -18,10 +18,12 @@ use std::alloc::Global;
 pub fn run_alone(alloc: Global, setup: Setup, events: &[Event]) -> World
     ensures steps { RunsFrom setup.start events.now result }
     ensures alone { result.faults ≡ 0 → names_once [] events.now → (t : List ℕ) →
-        outputs_of t (watch_all [] events.now) result.outputs.items ≡ told_all (opened setup.start) (view t [] events.now) }
+        outputs_of t (watch_all [] events.now) result.outputs.items ≡
+        told_all (opened setup.start) (view t [] events.now) }
     ensures front { result.faults ≡ 0 → names_once [] events.now →
         front_outputs (watch_all [] events.now) result.outputs.items ≡ front_told_all [] events.now }
-    ensures whole { result.faults ≡ 0 → names_once [] events.now → list_all (is_of_somebody (watch_all [] events.now)) result.outputs.items ≡ true }
+    ensures whole { result.faults ≡ 0 → names_once [] events.now →
+        list_all (is_of_somebody (watch_all [] events.now)) result.outputs.items ≡ true }
 {
     let mut world = World::open(alloc, setup);
     world.run(alloc, events);
@@ -40,9 +42,11 @@ pub fn run_both(
 ) -> (World, World)
     ensures steps { RunsFrom setup.start events.now result.0 }
     ensures other_steps { RunsFrom other_setup.start other_events.now result.1 }
-    ensures equal { result.0.faults ≡ 0 → result.1.faults ≡ 0 → names_once [] events.now → names_once [] other_events.now →
+    ensures equal { result.0.faults ≡ 0 → result.1.faults ≡ 0 →
+        names_once [] events.now → names_once [] other_events.now →
         setup.start ≡ other_setup.start → (t : List ℕ) → view t [] events.now ≡ view t [] other_events.now →
-        outputs_of t (watch_all [] events.now) result.0.outputs.items ≡ outputs_of t (watch_all [] other_events.now) result.1.outputs.items }
+        outputs_of t (watch_all [] events.now) result.0.outputs.items ≡
+        outputs_of t (watch_all [] other_events.now) result.1.outputs.items }
 {
     let world = run_alone(alloc, setup, events);
     let other = run_alone(alloc, other_setup, other_events);

@@ -25,9 +25,10 @@ impl World {
     ghost use Rattle.am_world.specs.Faults.{Counted};
     ghost use Rattle.am_world.specs.Local.{fits_by};
     ghost use Rattle.am_world.specs.PrivateCluster.{PrivateCluster};
-    ghost use Rattle.am_world.specs.Refusal.{refusal};
+    ghost use Rattle.am_world.specs.Refusal.{refusal, refusal_seen};
     ghost use Rattle.am_world.specs.Places.{up_at, local_in};
-    ghost use Rattle.am_world.specs.Simulation.{Follows, Stands, Opens, IsDown, Kept, Step, Stopped, Run, Headline};
+    ghost use Rattle.am_world.specs.Simulation.{Follows, Stands, Opens, IsDown, Kept, Step, Stopped};
+    ghost use Rattle.am_world.specs.Simulation.{Run, Headline, Prefixes};
     ghost use Rattle.am_world.specs.Taking.{Takes};
     ghost use Rattle.am_world.specs.View.{Table};
 
@@ -75,6 +76,8 @@ impl World {
         ensures kept { Step self.old event.now self.new }
         ensures refused { MatchOption (refusal self.old event.now) (IsOk result) (λ r. result ≡ Err r) }
         ensures err { OnErr result (self.new ≡ self.old) }
+        ensures seen { (v : Table) → Follows v self.old →
+            MatchOption (refusal_seen v self.old.clock event.now) (IsOk result) (λ r. result ≡ Err r) }
         ensures down { IsDown self.old → OnOk result (IsTrue (is_tick event.now)) }
     {
         match event {
@@ -92,10 +95,12 @@ impl World {
     }
 
     /// Handles events one after the other, and goes on after a refused one. Each tenant's outputs are those of its
-    /// private cluster, also on a further run.
+    /// private cluster, also on a further run, and what was put out before a first fault is so too.
     pub fn run(&mut self, alloc: Global, events: &[Event])
         ensures steps { Run self.old events.now self.new }
         ensures headline { Headline self.old events.now self.new }
+        ensures prefixes { Prefixes self.old events.now self.new }
+        ensures down { IsDown self.old → IsDown self.new × (self.new.outputs.items ≡ self.old.outputs.items) }
     {
         for event in events {
             let _ = self.step(alloc, event);
@@ -133,7 +138,8 @@ impl World {
         piece: &Octets,
     ) -> Result<(), Refused>
         ensures kept { Step self.old (Event.Bytes connection moment piece.now) self.new }
-        ensures refused { MatchOption (refusal self.old (Event.Bytes connection moment piece.now)) (IsOk result) (λ r. result ≡ Err r) }
+        ensures refused { MatchOption (refusal self.old (Event.Bytes connection moment piece.now))
+            (IsOk result) (λ r. result ≡ Err r) }
         ensures err { OnErr result (self.new ≡ self.old) }
         ensures down { IsDown self.old → IsErr result }
     {
@@ -193,9 +199,11 @@ impl World {
         at: Moment,
     ) -> Result<(), Fault>
         requires { IsSome (bytes_of connection self.old.instance.front) }
-        ensures taken { OnOk result ((before : List ℕ) → bytes_of connection self.old.instance.front ≡ Some before → Takes self.old connection (before ++ piece.now) at self.new) }
+        ensures taken { OnOk result ((before : List ℕ) → bytes_of connection self.old.instance.front ≡ Some before →
+            Takes self.old connection (before ++ piece.now) at self.new) }
         ensures counts { (before : List ℕ) → bytes_of connection self.old.instance.front ≡ Some before →
-            Counted result (fits_by (verdict (before ++ piece.now)) FIRST self.old.instance.incarnation at (λ t. local_in t self.old.instance)) }
+            Counted result (fits_by (verdict (before ++ piece.now)) FIRST self.old.instance.incarnation at
+            (λ t. local_in t self.old.instance)) }
         ensures outputs { OnErr result (self.new.outputs.items ≡ self.old.outputs.items) }
         ensures incarnation { self.new.instance.incarnation ≡ self.old.instance.incarnation }
         ensures clock { self.new.clock ≡ self.old.clock }

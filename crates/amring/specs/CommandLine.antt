@@ -1,5 +1,5 @@
 -- The command lines that the program takes, as clap describes a command.
-use Rattle.std.specs.Prelude.{◌≡◌, [], ◌∷◌, true, codes, take, replicate, Result, IfErr}
+use Rattle.std.specs.Prelude.{◌≡◌, [], ◌∷◌, true, codes, replicate, Result, IfErr}
 use Rattle.am_world.specs.declared.setup.Setup.{Setup}
 use Rattle.clap.specs.Words.{App, new_app, with_subcommand, kind_of}
 use Rattle.clap.specs.declared.error.Error.{Error}
@@ -17,10 +17,10 @@ command_line = with_subcommand top (new_app (codes "run")).top
 abbrev pub FailsForMemory : {T : Type 0} → Result T Error → Type 0
 FailsForMemory r = IfErr r (λ e. kind_of e ≡ OutOfMemory)
 
--- the settings of a command line without options: a key of zeros, the ring of 1, 2 and 3, 512 cached patterns, the
--- first incarnation 1
+-- the settings of a command line without options: a key of zeros, the ring of 1, 2 and 3 (zeros behind them are no
+-- instances), 512 cached patterns, the first incarnation 1
 pub record IsDefault (setup : Setup) : Type 0 where
   pub key : setup.key ≡ replicate 32 0
-  pub ring : take 3 setup.ring ≡ 1 ∷ 2 ∷ 3 ∷ []
+  pub ring : setup.ring ≡ 1 ∷ 2 ∷ 3 ∷ 0 ∷ 0 ∷ 0 ∷ 0 ∷ 0 ∷ []
   pub cache : setup.cache ≡ 512
   pub start : setup.start ≡ 1

@@ -6,7 +6,8 @@ use Rattle.json.specs.Print.{quoted}
 use Rattle.am_world.specs.declared.event.Output.{Output}
 use Rattle.am_world.specs.declared.event.Output.TheVariants.{Reply}
 
--- the line of a reply: the connection's name and the bytes as a JSON text, in which bytes that are no UTF-8 stand as U+FFFD
+-- the line of a reply: the connection's name and the bytes as a JSON text, in which bytes that are no UTF-8 stand as
+-- U+FFFD
 abbrev pub reply_line : List ℕ → List ℕ → List ℕ
 reply_line name bytes = codes "reply " ++ (name ++ (32 ∷ (quoted (utf8_lossy bytes) ++ 10 ∷ [])))
 

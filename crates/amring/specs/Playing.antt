@@ -9,10 +9,9 @@ use Rattle.am_world.specs.declared.event.Output.TheVariants.{Reply}
 use Rattle.am_world.specs.declared.event.Refused.{Refused}
 use Rattle.am_world.specs.declared.setup.Setup.{Setup}
 use Rattle.am_world.specs.declared.world.World.{World}
-use Rattle.am_world.specs.PrivateCluster.{opened}
 use Rattle.am_world.specs.Refusal.{refusal}
 use Rattle.am_world.specs.RefusalCode.{code_of}
-use Rattle.am_world.specs.Simulation.{Follows, Stands, Step}
+use Rattle.am_world.specs.Simulation.{Opens, Step}
 use Rattle.amring.specs.declared.command.Command.{Command}
 use Rattle.amring.specs.declared.command.Command.TheVariants.{Skip, At, Tick, Open, Bytes, Call, Pump}
 use Rattle.amring.specs.declared.play.Played.{Played}
@@ -72,7 +71,9 @@ goes_on c p e p' = is_none (refusal p.world e) && not (is_answered c p'.world.ou
 abbrev pub Come : ℕ → Player → List (List ℕ) → List ℕ → Player → List ℕ → Type 0
 Come c p [] left p' written = (left ≡ []) × (p' ≡ p) × (written ≡ [])
 Come c p (piece ∷ pieces) left p' written =
-    (mid : Player) × (first rest : List ℕ) × Happens p (event.Bytes c p.moment piece) mid first × (written ≡ first ++ rest)
+    (mid : Player) × (first rest : List ℕ)
+    × Happens p (event.Bytes c p.moment piece) mid first
+    × (written ≡ first ++ rest)
     × Either (goes_on c p (event.Bytes c p.moment piece) mid)
     (Come c mid pieces left p' rest)
     ((pieces ≡ []) × (p' ≡ mid) × (rest ≡ []))
@@ -134,9 +135,6 @@ Plays n p (line ∷ lines) played written = MatchOption (command_of line)
 
 -- where a scenario begins: a new world, no connection, the moment 0
 pub record IsStart (setup : Setup) (p : Player) : Type 0 where
-  pub follows : Follows [] p.world
-  pub stands : (t : List ℕ) → Stands t p.world (opened setup.start)
-  pub outputs : p.world.outputs.items ≡ []
-  pub faults : p.world.faults ≡ 0
+  pub opens : Opens setup.start p.world
   pub connections : p.connections ≡ []
   pub moment : p.moment ≡ 0

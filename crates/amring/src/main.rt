@@ -20,7 +20,18 @@ use std::{env, io};
 const REFUSED: u8 = 2;
 
 fn main(rt: HostRuntime) -> io::Result<ExitCode> {
-    let words: Vec<String> = match env::args(&rt) {
+    match start(&rt) {
+        Err(fault) if fault.kind() == io::ErrorKind::OutOfMemory => {
+            eprintln!(rt; "error: out of memory")?;
+            Ok(ExitCode::FAILURE)
+        }
+        ended => ended,
+    }
+}
+
+/// Reads the command line and does what it asks for.
+fn start(rt: &HostRuntime) -> io::Result<ExitCode> {
+    let words: Vec<String> = match env::args(rt) {
         Ok(words) => words.collect(rt.alloc())?,
         Err(fault) if fault.kind() == io::ErrorKind::InvalidData => {
             eprintln!(rt; "error: a word of the command line is no UTF-8")?;
@@ -29,7 +40,7 @@ fn main(rt: HostRuntime) -> io::Result<ExitCode> {
         Err(fault) => return Err(fault),
     };
     match options::options(rt.alloc(), words.as_slice()) {
-        Ok(setup) => run(&rt, setup),
+        Ok(setup) => run(rt, setup),
         Err(fault) if fault.kind() == ErrorKind::OutOfMemory => {
             Err(io::ErrorKind::OutOfMemory.into())
         }

@@ -89,7 +89,8 @@ impl Player {
 
     /// Does what a line asks for.
     fn obey<W: Write>(&mut self, alloc: Global, command: Command, writer: &mut W) -> io::Result<()>
-        ensures { OnOk result (Writes (W.contents writer.old) (W.contents writer.new) (Obeys self.old command self.new)) }
+        ensures { OnOk result (Writes (W.contents writer.old) (W.contents writer.new)
+            (Obeys self.old command self.new)) }
     {
         match command {
             Command::Skip | Command::Pump => Ok(()),
@@ -172,7 +173,8 @@ impl Player {
         bytes: &[u8],
         writer: &mut W,
     ) -> io::Result<()>
-        ensures { OnOk result (Writes (W.contents writer.old) (W.contents writer.new) (Gives connection self.old bytes.now self.new)) }
+        ensures { OnOk result (Writes (W.contents writer.old) (W.contents writer.new)
+            (Gives connection self.old bytes.now self.new)) }
     {
         for piece in bytes.chunks(PIECE) {
             let event = Event::Bytes {
@@ -198,7 +200,8 @@ impl Player {
     /// Hands an event to the world and writes its outputs, and then its refusal. Says whether it was taken.
     fn happen<W: Write>(&mut self, alloc: Global, event: &Event, writer: &mut W) -> io::Result<bool>
         ensures taken { IfOk result (λ taken. taken ≡ is_none (refusal self.old.world event.now)) }
-        ensures happens { OnOk result (Writes (W.contents writer.old) (W.contents writer.new) (Happens self.old event.now self.new)) }
+        ensures happens { OnOk result (Writes (W.contents writer.old) (W.contents writer.new)
+            (Happens self.old event.now self.new)) }
     {
         self.world.clear_outputs();
         let taken = self.world.step(alloc, event);

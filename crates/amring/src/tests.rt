@@ -4,6 +4,8 @@ use crate::options::options;
 use crate::play::{Played, play};
 use serde_json::Value;
 use std::alloc::Global;
+use std::io;
+use std::io::Write;
 use std::test::Fail;
 
 // One alert is posted and read back.
@@ -159,13 +161,57 @@ fn a_request_may_be_cut_anywhere(rt: HostRuntime) -> Result<(), Fail> {
     let alloc = rt.alloc();
     let (whole, wanted) = POSTED_AND_READ;
     let posts = whole.split_once("call g").ok_or("no second request")?.0;
-    for size in [1, 2, 3, 7, 40] {
+    for size in 1..READ.len() {
         let mut scenario = String::from_str(alloc, posts)?;
         scenario.push_str("open g 1\n")?;
         push_pieces(alloc, &mut scenario, "g", READ, size)?;
         let (end, written) = played(alloc, scenario.as_bytes())?;
         assert_eq!(rt; end, Played::All, "pieces of {size}");
         assert!(rt; written.as_slice() == wanted.as_bytes(), "pieces of {size}");
+    }
+    Ok(())
+}
+
+/// A writer with room for so many bytes, which takes at most seven in a call and fails once it is full.
+#[derive(Drop)]
+struct Narrow {
+    taken: Vec<u8>,
+    room: usize,
+}
+
+impl Write for Narrow {
+    fn write(&mut self, bytes: &[u8]) -> io::Result<usize> {
+        let count = bytes.len().min(7).min(self.room);
+        if count == 0 {
+            return Err(io::ErrorKind::BrokenPipe.into());
+        }
+        self.taken.extend_from_slice(&bytes[..count])?;
+        self.room -= count;
+        Ok(count)
+    }
+
+    fn flush(&mut self) -> io::Result<()> {
+        Ok(())
+    }
+}
+
+#[test]
+fn a_writer_fails(rt: HostRuntime) -> Result<(), Fail> {
+    let alloc = rt.alloc();
+    let (scenario, wanted) = POSTED_TWICE;
+    for room in 0..wanted.len() + 2 {
+        let setup = options(alloc, ["amring", "run"].as_slice())?;
+        let mut writer = Narrow {
+            taken: Vec::new(alloc),
+            room,
+        };
+        let ended = play(alloc, setup, scenario.as_bytes(), &mut writer).is_ok();
+        assert_eq!(rt; ended, wanted.len() <= room, "room for {room}");
+        let written = room.min(wanted.len());
+        assert!(rt;
+            writer.taken.as_slice() == &wanted.as_bytes()[..written],
+            "room for {room}"
+        );
     }
     Ok(())
 }

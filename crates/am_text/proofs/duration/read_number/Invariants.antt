@@ -1,6 +1,6 @@
 use Rattle.std.proofs.Common.{◌≡◌, take}
 use Rattle.std.specs.Str.Parse.{digits_value}
-use Rattle.am_text.specs.Duration.{capped}
+use Rattle.am_text.specs.Capped.{capped}
 use Rattle.am_text.proofs.duration.read_number.Given as goal
 
 abbrev pub invariant-loop-byte : goal.invariant-loop-byte

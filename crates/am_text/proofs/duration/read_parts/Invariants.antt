@@ -1,5 +1,6 @@
 use Rattle.std.proofs.Common.{◌≡◌, ◌+◌, ◌<◌, ◌^◌, drop}
-use Rattle.am_text.specs.Duration.{capped, parts_at}
+use Rattle.am_text.specs.Capped.{capped}
+use Rattle.am_text.specs.Duration.{parts_at}
 use Rattle.am_text.proofs.duration.read_parts.Given as goal
 
 abbrev pub invariant-loop-unit : goal.invariant-loop-unit

@@ -7,13 +7,6 @@ returns g c =
     let played = c.in_ok-played.ensures in
     record {
       start = record { world = c.open.result; connections = c.new.result; moment = 0 };
-      is_start = record {
-        follows = c.open.ensures.follows;
-        stands = c.open.ensures.stands;
-        outputs = c.open.ensures.outputs;
-        faults = c.open.ensures.faults;
-        connections = c.new.ensures;
-        moment = refl;
-      };
+      is_start = record { opens = c.open.ensures; connections = c.new.ensures; moment = refl };
       plays = record { written = played.written; appends = appends_kept _ _ _ _ played.appends c.flush.ensures.bytes; plays = played.plays };
     }

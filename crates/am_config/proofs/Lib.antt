@@ -1,0 +1,5 @@
+pub mod Stops
+pub mod Fronts
+pub mod Shapes
+pub mod Judgements
+pub mod Inherits

@@ -1,0 +1,89 @@
+-- The checks of what a draft says, each over the whole of it.
+use Rattle.std.specs.Prelude.{ℕ, Bool, true, false, not, ◌&&◌, ◌||◌, ◌==◌, nat_le, List, [], ◌∷◌, length, Option, Some, None, Result, Ok, Err}
+use Rattle.std.specs.List.{list_all, list_any}
+use Rattle.std.specs.Str.{bytes_eq}
+use Rattle.am_text.specs.Duration.{duration}
+use Rattle.am_text.specs.declared.fault.TextFault.{TextFault}
+use Rattle.am_draft.specs.declared.draft.Draft.{Draft}
+use Rattle.am_draft.specs.declared.receiver.ReceiverDraft.{ReceiverDraft}
+use Rattle.am_draft.specs.declared.route.Intervals.{Intervals}
+use Rattle.am_draft.specs.declared.route.RouteDraft.{RouteDraft}
+use Rattle.am_draft.specs.declared.tree.Node.{Node}
+
+-- the limits
+abbrev pub most_routes : ℕ
+most_routes = 1000
+
+abbrev pub deepest : ℕ
+deepest = 16
+
+abbrev pub most_receivers : ℕ
+most_receivers = 1000
+
+abbrev pub most_webhooks : ℕ
+most_webhooks = 16
+
+-- the shortest of an interval, in milliseconds
+abbrev pub shortest_interval : ℕ
+shortest_interval = 1000
+
+-- one of the receivers has this name
+abbrev pub is_listed : List ReceiverDraft → List ℕ → Bool
+is_listed receivers name = list_any (λ (receiver : ReceiverDraft). bytes_eq receiver.name name) receivers
+
+-- two receivers have one name
+unfoldable pub is_repeated : List ReceiverDraft → Bool
+is_repeated [] = false
+is_repeated (receiver ∷ receivers) = is_listed receivers receiver.name || is_repeated receivers
+
+-- the receiver that a route names is listed; a route that names none has that of the route around it
+abbrev pub has_listed : List ReceiverDraft → Option (List ℕ) → Bool
+has_listed receivers None = true
+has_listed receivers (Some name) = is_listed receivers name
+
+abbrev pub have_listed : List ReceiverDraft → List (Node RouteDraft) → Bool
+have_listed receivers routes = list_all (λ (node : Node RouteDraft). has_listed receivers node.item.receiver) routes
+
+unfoldable pub receivers_fit : Draft → Bool
+receivers_fit draft = not (is_repeated draft.receivers) && have_listed draft.receivers draft.routes
+
+-- the root takes every alert
+unfoldable pub is_root_bare : List (Node RouteDraft) → Bool
+is_root_bare [] = true
+is_root_bare (root ∷ routes) = length root.item.matchers == 0
+
+-- at least so many milliseconds
+abbrev pub lasts : ℕ → Result ℕ TextFault → Bool
+lasts least (Ok milliseconds) = nat_le least milliseconds
+lasts least (Err fault) = false
+
+-- a duration of at least so many milliseconds, where one is written
+abbrev pub is_span : ℕ → Option (List ℕ) → Bool
+is_span least None = true
+is_span least (Some text) = lasts least (duration text)
+
+abbrev pub are_spans : Intervals → Bool
+are_spans intervals =
+    is_span 0 intervals.group_wait
+    && (is_span shortest_interval intervals.group_interval && is_span shortest_interval intervals.repeat_interval)
+
+abbrev pub have_spans : List (Node RouteDraft) → Bool
+have_spans routes = list_all (λ (node : Node RouteDraft). are_spans node.item.intervals) routes
+
+unfoldable pub durations_fit : Draft → Bool
+durations_fit draft = is_span 0 draft.global.resolve_timeout && have_spans draft.routes
+
+abbrev pub is_shallow : Node RouteDraft → Bool
+is_shallow node = nat_le node.item.depth deepest
+
+abbrev pub are_routes_few : List (Node RouteDraft) → Bool
+are_routes_few routes = nat_le (length routes) most_routes && list_all is_shallow routes
+
+abbrev pub has_few_webhooks : ReceiverDraft → Bool
+has_few_webhooks receiver = nat_le (length receiver.webhooks) most_webhooks
+
+abbrev pub are_receivers_few : List ReceiverDraft → Bool
+are_receivers_few receivers = nat_le (length receivers) most_receivers && list_all has_few_webhooks receivers
+
+unfoldable pub counts_fit : Draft → Bool
+counts_fit draft = are_routes_few draft.routes && are_receivers_few draft.receivers

@@ -1,0 +1,27 @@
+-- The configuration that holds where none is stored, or a stored text isn't read: every alert goes to a receiver that tells nobody.
+use Rattle.std.specs.Prelude.{ℕ, List, [], ◌∷◌, codes, None, false}
+use Rattle.am_draft.specs.declared.tree.Node.{Node}
+use Rattle.am_config.specs.declared.parts.Receiver.{Receiver}
+use Rattle.am_config.specs.declared.parts.Route.{Route}
+use Rattle.am_config.specs.Completing.{default_resolve_timeout}
+use Rattle.am_config.specs.Configuration.{Configuration}
+use Rattle.am_config.specs.Inheriting.{defaults}
+
+-- the text that says it
+abbrev pub default_text : List ℕ
+default_text = codes "{\"route\":{\"receiver\":\"default\"},\"receivers\":[{\"name\":\"default\"}]}"
+
+abbrev pub default_route : Node Route
+default_route = record { item = record { settings = defaults; grouping = None; matchers = []; goes_on = false }; within = 0 }
+
+abbrev pub default_receiver : Receiver
+default_receiver = record { name = codes "default"; webhooks = [] }
+
+abbrev pub default_configuration : Configuration
+default_configuration = record {
+  text = default_text;
+  resolve_timeout = default_resolve_timeout;
+  routes = default_route ∷ [];
+  receivers = default_receiver ∷ [];
+  rules = [];
+}

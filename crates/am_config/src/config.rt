@@ -1,0 +1,70 @@
+//! A configuration that was read.
+
+ghost use Rattle.std.specs.Prelude.{◌≡◌, ◌≤◌, length};
+ghost use Rattle.am_draft.specs.Trees.{IsTree};
+
+use crate::parts::{Receiver, Route, Rule};
+use am_draft::{Listed, Node};
+use am_text::Text;
+use std::marker::Model;
+
+/// A configuration that passed every check, with everything that its text says.
+#[derive(Drop)]
+pub struct Config {
+    pub(crate) text: Text,
+    pub(crate) resolve_timeout: u64,
+    pub(crate) routes: Listed<Node<Route>>,
+    pub(crate) receivers: Listed<Receiver>,
+    pub(crate) rules: Listed<Rule>,
+}
+
+impl Model for Config {
+    ghost use Rattle.std.specs.Prelude.{◌≤◌, length};
+    ghost use Rattle.am_draft.specs.Trees.{IsTree};
+    ghost use Rattle.am_config.specs.Configuration.{Configuration};
+
+    ghost Value = { Configuration };
+
+    ghost view = { λ c. record { text = c.text; resolve_timeout = c.resolve_timeout; routes = c.routes; receivers = c.receivers; rules = c.rules } };
+
+    ghost invariant = { λ c. IsTree c.routes × (length c.routes ≤ 1000) };
+}
+
+impl Config {
+    /// The configuration's text, as it was posted: what reading it again gives the same configuration.
+    pub fn text(&self) -> &str
+        ensures { result.now ≡ self.now.text }
+    {
+        self.text.as_str()
+    }
+
+    /// How long an alert without an end fires, in milliseconds: `resolve_timeout`, 5 minutes where it isn't written.
+    pub fn resolve_timeout(&self) -> u64
+        ensures { result ≡ self.now.resolve_timeout }
+    {
+        self.resolve_timeout
+    }
+
+    /// The routes, each before those within it, the root first; a route's number is its place here.
+    pub fn routes(&self) -> &[Node<Route>]
+        ensures routes { result.now ≡ self.now.routes }
+        ensures tree { IsTree self.now.routes }
+        ensures few { length self.now.routes ≤ 1000 }
+    {
+        self.routes.as_slice()
+    }
+
+    /// The receivers in the order in which they are written.
+    pub fn receivers(&self) -> &[Receiver]
+        ensures { result.now ≡ self.now.receivers }
+    {
+        self.receivers.as_slice()
+    }
+
+    /// The inhibit rules in the order in which they are written.
+    pub fn rules(&self) -> &[Rule]
+        ensures { result.now ≡ self.now.rules }
+    {
+        self.rules.as_slice()
+    }
+}

@@ -1,0 +1,114 @@
+//! Why a configuration is refused.
+
+ghost use Rattle.std.specs.Prelude.{◌≡◌};
+ghost use Rattle.am_config.specs.declared.fault.ConfigFault.TheVariants.{OutOfMemory};
+ghost use Rattle.am_config.specs.Code.{code_of};
+ghost use Rattle.am_config.specs.Outcome.{of_draft, of_match};
+
+use am_draft::DraftFault;
+use am_match::MatchFault;
+use std::alloc::{AllocError, AllocFailed};
+use thiserror::Error;
+
+/// Why a configuration is refused: the first check that fails over the whole text.
+#[derive(Clone, Copy, Debug, PartialEq, Eq, Error)]
+pub enum ConfigFault {
+    /// The document or the text within it is not JSON (RFC 8259), or nests more than 127 deep.
+    #[error("the document or the configuration's text is not JSON")]
+    NotJson,
+    /// A key is unknown, a required one is absent, a value is of the wrong kind, or a name of a label is none.
+    #[error("a key or a value of the configuration is not of its form")]
+    BadForm,
+    /// A route names a receiver that isn't listed, or two receivers have one name.
+    #[error("a receiver is not listed, or two have one name")]
+    BadReceiver,
+    /// The root has matchers.
+    #[error("the root has matchers")]
+    RootMatchers,
+    /// A duration is not read, or `group_interval` or `repeat_interval` is shorter than a second.
+    #[error("a duration is not read, or an interval is shorter than a second")]
+    BadDuration,
+    /// A key stands that amring leaves out.
+    #[error("a key that is left out")]
+    LeftOut,
+    /// A text gives no matchers, or a pattern of it is not read or longer than 256 bytes.
+    #[error("a matcher is not read")]
+    BadMatcher,
+    /// There are more than 1,000 routes or receivers, more than 16 webhooks of one receiver, or a route is deeper than
+    /// 16.
+    #[error("a count is past its limit")]
+    TooMany,
+    /// The URL of a webhook is not one that amring sends to.
+    #[error("the URL of a webhook is not of its form")]
+    BadUrl,
+    /// The build of a pattern was refused, as for its size.
+    #[error("the build of a pattern was refused")]
+    BuildRefused,
+    /// Memory ran out, which says nothing of the configuration.
+    #[error("out of memory")]
+    OutOfMemory,
+}
+
+impl ConfigFault {
+    /// The code that a refusal shows, as `C1`. Empty for want of memory, which is no refusal.
+    pub fn code(self) -> &'static str
+        ensures { result.now ≡ code_of self }
+    {
+        match self {
+            ConfigFault::NotJson => "C1",
+            ConfigFault::BadForm => "C2",
+            ConfigFault::BadReceiver => "C3",
+            ConfigFault::RootMatchers => "C4",
+            ConfigFault::BadDuration => "C5",
+            ConfigFault::LeftOut => "C6",
+            ConfigFault::BadMatcher => "C7",
+            ConfigFault::TooMany => "C8",
+            ConfigFault::BadUrl => "C9",
+            ConfigFault::BuildRefused => "B2",
+            ConfigFault::OutOfMemory => "",
+        }
+    }
+}
+
+impl From<AllocError> for ConfigFault {
+    ghost from_gives = { λ _ fault. fault ≡ OutOfMemory };
+
+    fn from(_error: AllocError) -> ConfigFault {
+        ConfigFault::OutOfMemory
+    }
+}
+
+impl<T: Drop> From<AllocFailed<T>> for ConfigFault {
+    ghost from_gives = { λ _ fault. fault ≡ OutOfMemory };
+
+    fn from(_error: AllocFailed<T>) -> ConfigFault {
+        ConfigFault::OutOfMemory
+    }
+}
+
+impl From<DraftFault> for ConfigFault {
+    ghost from_gives = { λ error fault. fault ≡ of_draft error };
+
+    fn from(error: DraftFault) -> ConfigFault {
+        match error {
+            DraftFault::NotJson => ConfigFault::NotJson,
+            DraftFault::BadForm => ConfigFault::BadForm,
+            DraftFault::OutOfMemory => ConfigFault::OutOfMemory,
+        }
+    }
+}
+
+/// A text that gives no matchers; a build that was refused is told apart.
+impl From<MatchFault> for ConfigFault {
+    ghost from_gives = { λ error fault. fault ≡ of_match error };
+
+    fn from(error: MatchFault) -> ConfigFault {
+        match error {
+            MatchFault::NoMatchers | MatchFault::BadPattern | MatchFault::LongPattern => {
+                ConfigFault::BadMatcher
+            }
+            MatchFault::BuildRefused => ConfigFault::BuildRefused,
+            MatchFault::OutOfMemory => ConfigFault::OutOfMemory,
+        }
+    }
+}

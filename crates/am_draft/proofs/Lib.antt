@@ -1,0 +1,4 @@
+pub mod Json
+pub mod Fronts
+pub mod Held
+pub mod Counted

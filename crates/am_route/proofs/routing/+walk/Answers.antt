@@ -1,0 +1,58 @@
+use Rattle.std.proofs.Common.{rules, ◌≡◌, ◌∙◌, true, false, arith, sym}
+use Rattle.am_route.specs.Routes.{route_takes}
+use Rattle.am_route.proofs.FaultLemmas.{ArePart, back_is_part, behind_is_part, fault_of_part, front_is_part, handed_on}
+use Rattle.am_route.proofs.RoutesLemmas.{head_of, passed, routes_none, taken_last, taken_on}
+use Rattle.am_route.proofs.routing.+walk.Goals as goal
+use Rattle.am_route.proofs.routing.+walk.Goals.{walk-then-branch+in_ok-enter+else-not-node, walk-else-branch}
+
+pub walk-split_at-requires : goal.walk-split_at-requires
+walk-split_at-requires t c =
+    (head_of c.args.labels.now c.sibling.number c.sibling.rest.now c.in-Some.node.now c.in-Some.behind.now c.in-Some.ensures.cases.0 c.sibling.invariant.forest).fits
+
+pub walk-enter-requires : goal.walk-enter-requires
+walk-enter-requires t c =
+    let head = head_of c.args.labels.now c.sibling.number c.sibling.rest.now c.in-Some.node.now c.in-Some.behind.now c.in-Some.ensures.cases.0 c.sibling.invariant.forest in
+    let split = c.split_at.ensures in
+    let behind = c.in-Some.ensures.cases.1 in
+    (omega (arith, split.front_len, split.back_len, behind), (rw split.front head.within, omega (arith, split.front_len, split.back_len, behind)))
+
+pub walk-sibling-preserved : goal.walk-sibling-preserved
+walk-sibling-preserved t c =
+    let head = head_of c.args.labels.now c.sibling.number c.sibling.rest.now c.in-Some.node.now c.in-Some.behind.now c.in-Some.ensures.cases.0 c.sibling.invariant.forest in
+    let split = c.split_at.ensures in
+    let behind = c.in-Some.ensures.cases.1 in
+    record {
+      forest = rw split.back head.after;
+      few = omega (arith, split.back_len, behind);
+      part = rw split.back (λ node at. c.sibling.invariant.part node (rw c.in-Some.ensures.cases.0 (behind_is_part c.in-Some.node.now c.in-Some.behind.now node (back_is_part c.in-Some.node.now.within c.in-Some.behind.now node at))));
+      shorter = omega (arith, split.back_len, behind);
+      routes = elim c.if-branch.branch [
+        | walk-then-branch+in_ok-enter+else-not-node w ↦
+            let takes : route_takes c.in-Some.node.now.item c.args.labels.now ≡ true = rw (← c.as_slice.ensures) (sym c.in_ok-takes_all.ensures.value ∙ w.if-branch.true) in
+            rw (w.found-is, w.in_ok-enter.ensures.routes, split.front, split.back)
+            (taken_on c.args.labels.now c.sibling.number c.sibling.rest.now c.in-Some.node.now c.in-Some.behind.now c.in-Some.ensures.cases.0 c.sibling.invariant.forest takes w.if-not-node.false c.sibling.found.items ∙ c.sibling.invariant.routes)
+        | walk-else-branch w ↦
+            let takes : route_takes c.in-Some.node.now.item c.args.labels.now ≡ false = rw (← c.as_slice.ensures) (sym c.in_ok-takes_all.ensures.value ∙ w.if-branch.false) in
+            rw (w.found-is, split.back)
+            (passed c.args.labels.now c.sibling.number c.sibling.rest.now c.in-Some.node.now c.in-Some.behind.now c.in-Some.ensures.cases.0 c.sibling.invariant.forest takes c.sibling.found.items ∙ c.sibling.invariant.routes)
+      ];
+      kept = elim c.if-branch.branch [ walk-then-branch+in_ok-enter+else-not-node w ↦ search rules | walk-else-branch w ↦ search rules ];
+      capacity = elim c.if-branch.branch [ walk-then-branch+in_ok-enter+else-not-node w ↦ search rules | walk-else-branch w ↦ search rules ];
+    }
+
+pub walk-returns-then-not-node-clause-routes : goal.walk-returns-then-not-node-clause-routes
+walk-returns-then-not-node-clause-routes t c =
+    let takes : route_takes c.in-Some.node.now.item c.args.labels.now ≡ true = rw (← c.as_slice.ensures) (sym c.in_ok-takes_all.ensures.value ∙ c.if-branch.true) in
+    rw (c.in_ok-enter.ensures.routes, c.split_at.ensures.front)
+    (taken_last c.args.labels.now c.sibling.number c.sibling.rest.now c.in-Some.node.now c.in-Some.behind.now c.in-Some.ensures.cases.0 c.sibling.invariant.forest takes c.if-not-node.true c.sibling.found.items ∙ c.sibling.invariant.routes)
+
+pub walk-returns-in_default-clause-routes : goal.walk-returns-in_default-clause-routes
+walk-returns-in_default-clause-routes t c =
+    sym (routes_none c.args.labels.now c.sibling.number c.sibling.rest.now c.sibling.found.items c.in_default.ensures.cases) ∙ c.sibling.invariant.routes
+
+pub walk-returns-in_err-enter-clause-fault : goal.walk-returns-in_err-enter-clause-fault
+walk-returns-in_err-enter-clause-fault t c =
+    let among : ArePart c.split_at.result.0.now c.args.nodes.now = rw c.split_at.ensures.front (λ node at. c.sibling.invariant.part node (rw c.in-Some.ensures.cases.0 (behind_is_part c.in-Some.node.now c.in-Some.behind.now node (front_is_part c.in-Some.node.now.within c.in-Some.behind.now node at)))) in
+    let old : c.takes_all.new.cache.refused ≡ c.args.cache.now.refused = c.in_ok-takes_all.ensures.kept ∙ c.sibling.invariant.kept in
+    handed_on _ c.from_residual-in_err-enter.result c.in_err-enter.field-0.0 c.from_residual-in_err-enter.ensures.1
+    (fault_of_part c.split_at.result.0.now c.args.nodes.now c.args.cache.now.refused c.enter.new.cache.refused c.in_err-enter.field-0.0 among (rw old at c.in_err-enter.ensures.fault))

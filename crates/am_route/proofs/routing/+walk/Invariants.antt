@@ -1,0 +1,28 @@
+use Rattle.std.proofs.Common.{◌≡◌, ◌+◌, ◌*◌, ◌++◌, ◌≤◌, ◌^◌, length}
+use Rattle.std.specs.List.{Contains}
+use Rattle.am_draft.specs.declared.tree.Node.{Node}
+use Rattle.am_config.specs.declared.parts.Route.{Route}
+use Rattle.am_route.specs.Routes.{routes_among}
+use Rattle.am_route.specs.Trees.{IsForest, forest_of}
+use Rattle.am_route.proofs.routing.+walk.Given as goal
+
+abbrev pub decreases-enter : goal.decreases-enter
+decreases-enter l = 2 * length l.within.now + 1
+
+abbrev pub decreases-walk : goal.decreases-walk
+decreases-walk l = 2 * length l.nodes.now
+
+abbrev pub invariant-walk-sibling : goal.invariant-walk-sibling
+invariant-walk-sibling l =
+    record {
+      forest : IsForest l.rest;
+      few : l.number + length l.rest ≤ 2 ^ 62;
+      part : (node : Node Route) → Contains l.rest node → Contains l.nodes node;
+      shorter : length l.rest ≤ length l.nodes;
+      routes : l.found.items ++ routes_among l.labels l.number (forest_of l.rest) ≡ l.fn.found.items ++ routes_among l.labels l.first (forest_of l.nodes);
+      kept : l.cache.refused ≡ l.fn.cache.refused;
+      capacity : l.cache.capacity ≡ l.fn.cache.capacity;
+    }
+
+abbrev pub decreases-walk-sibling : goal.decreases-walk-sibling
+decreases-walk-sibling l = length l.rest
