@@ -19,3 +19,6 @@ pub use receiver::{ReceiverDraft, WebhookDraft};
 pub use route::{Grouping, Intervals, RouteDraft};
 pub use rule::RuleDraft;
 pub use tree::Node;
+
+#[cfg(test)]
+mod tests;

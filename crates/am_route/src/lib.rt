@@ -4,6 +4,8 @@
 mod id;
 pub mod laws;
 mod routing;
+#[cfg(test)]
+mod tests;
 
 pub use id::RouteId;
 pub use routing::routes_of;
