@@ -1,7 +1,6 @@
 //! One value within an object.
 
-ghost use Rattle.std.specs.Prelude.{◌≡◌, ◌==◌, ◌||◌, [], None, Ok};
-ghost use Rattle.std.specs.Char.{is_ascii_alphanumeric};
+ghost use Rattle.std.specs.Prelude.{◌≡◌, [], None, Ok};
 ghost use Rattle.std.specs.List.{list_all};
 ghost use Rattle.serde_json.specs.Find.{get};
 ghost use Rattle.serde_json.specs.View.{view, items_view};
@@ -11,6 +10,7 @@ ghost use Rattle.am_draft.specs.Outcome.{Gives};
 
 use crate::fault::DraftFault;
 use crate::listed::Listed;
+use am_labels::is_label_name;
 use am_text::Text;
 use serde_json::Value;
 use std::alloc::Global;
@@ -122,23 +122,4 @@ fn are_label_names(names: &[Text]) -> bool
     ensures { result ≡ list_all is_label_name names.now }
 {
     names.iter().all(|name| is_label_name(name.as_str()))
-}
-
-#[tactic(auto, unfolding(am_labels::specs::Labels::is_label_name))]
-fn is_label_name(text: &str) -> bool
-    ensures { result ≡ is_label_name text.now }
-{
-    match text.as_bytes() {
-        [] => false,
-        [first, rest @ ..] => (first.is_ascii_alphabetic() || *first == b'_')
-            && are_name_bytes(rest),
-    }
-}
-
-fn are_name_bytes(bytes: &[u8]) -> bool
-    ensures { result ≡ list_all (λ byte. is_ascii_alphanumeric byte || byte == 95) bytes.now }
-{
-    bytes
-        .iter()
-        .all(|byte| byte.is_ascii_alphanumeric() || *byte == b'_')
 }

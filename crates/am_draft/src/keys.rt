@@ -109,7 +109,6 @@ fn templates_in(value: &Value) -> Result<bool, DraftFault>
 }
 
 // Whether the object of templates' files holds one.
-
 fn template_files_in(value: &Value) -> Result<bool, DraftFault>
     ensures { Gives (λ out. out) result (template_files_in (view value.now)) }
 {

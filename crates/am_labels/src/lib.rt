@@ -4,6 +4,7 @@
 mod annotations;
 mod hash;
 mod label_set;
+mod names;
 mod pairs;
 
 ghost use Rattle.std.specs.Prelude.{◌≡◌, IfOk};
@@ -13,6 +14,7 @@ use am_text::Text;
 pub use annotations::Annotations;
 pub use hash::{place, print_fingerprint};
 pub use label_set::LabelSet;
+pub use names::is_label_name;
 use std::alloc::{AllocError, AllocFailed, Global};
 use std::error::Error;
 use std::fmt;

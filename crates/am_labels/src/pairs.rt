@@ -2,10 +2,11 @@ ghost use Rattle.std.specs.Prelude.{◌≡◌, ◌↔◌, IsTrue, IfOk, OnOk, Ma
 ghost use Rattle.std.specs.List.{list_all};
 ghost use Rattle.std.specs.List.Sorted.{IsPermutation, IsSorted, IsStrictlySortedBy};
 ghost use Rattle.std.specs.Option.{option_copied};
-ghost use Rattle.am_labels.specs.Labels.{is_label_name, label_cmp, may_begin, may_follow, name_cmp};
+ghost use Rattle.am_labels.specs.Labels.{is_label_name, label_cmp, name_cmp};
 ghost use Rattle.am_labels.specs.Faults.{Refuses, label_fault};
 ghost use Rattle.am_labels.specs.Sets.{IsAnnotations, in_order, value_of};
 
+use crate::names::is_label_name;
 use crate::{Label, LabelFault};
 use std::alloc::{AllocError, Global};
 
@@ -40,34 +41,7 @@ fn are_label_names(labels: &[Label]) -> bool
 {
     labels
         .iter()
-        .all(|label| is_label_name(label.name.as_str().as_bytes()))
-}
-
-// Whether this is a label name.
-#[tactic(auto, unfolding(crate::specs::Labels::is_label_name))]
-fn is_label_name(name: &[u8]) -> bool
-    ensures { result ≡ is_label_name name.now }
-{
-    match name {
-        [] => false,
-        [first, rest @ ..] => may_begin(*first) && all_may_follow(rest),
-    }
-}
-
-// Whether a label name may begin with this byte.
-fn may_begin(byte: u8) -> bool
-    ensures { result ≡ may_begin byte }
-{
-    byte.is_ascii_alphabetic() || byte == b'_'
-}
-
-// Whether these bytes may stand in a label name after the first.
-fn all_may_follow(bytes: &[u8]) -> bool
-    ensures { result ≡ list_all may_follow bytes.now }
-{
-    bytes
-        .iter()
-        .all(|byte| byte.is_ascii_alphanumeric() || *byte == b'_')
+        .all(|label| is_label_name(label.name.as_str()))
 }
 
 // Whether each name is below the next.

@@ -1,12 +1,10 @@
-ghost use Rattle.std.specs.Prelude.{◌≡◌, ◌||◌, ◌==◌, IfOk, IfErr, IsTrue, SomeIff, IsUtf8};
-ghost use Rattle.std.specs.List.{list_all};
-ghost use Rattle.std.specs.Char.{is_ascii_alphanumeric};
+ghost use Rattle.std.specs.Prelude.{◌≡◌, IfOk, IfErr, IsTrue, SomeIff, IsUtf8};
 ghost use Rattle.am_labels.specs.Labels.{is_label_name};
 ghost use Rattle.am_pattern.specs.Refused.{IsCauseOf, refused_after, IsRefusedRightly};
 ghost use Rattle.am_match.specs.Matchers.{is_on_pattern};
 ghost use Rattle.am_match.specs.Meaning.{takes_labels, IsTakingOf};
 
-use am_labels::LabelSet;
+use am_labels::{LabelSet, is_label_name};
 use am_pattern::{Build, PatternCache};
 use am_text::Text;
 use std::alloc::{AllocError, Global};
@@ -61,7 +59,7 @@ impl Matcher {
     pub fn new(operator: Operator, name: Text, value: Text) -> Option<Matcher>
         ensures { SomeIff result (IsTrue (is_label_name name)) (record { operator = operator; name = name; value = value }) }
     {
-        if is_name(name.as_str()) {
+        if is_label_name(name.as_str()) {
             Some(Matcher {
                 operator,
                 name,
@@ -135,24 +133,4 @@ impl Matcher {
             value: self.value.copy(alloc)?,
         })
     }
-}
-
-// Whether the text is a label name.
-#[tactic(auto, unfolding(am_labels::specs::Labels::is_label_name))]
-pub(crate) fn is_name(text: &str) -> bool
-    ensures { result ≡ is_label_name text.now }
-{
-    match text.as_bytes() {
-        [] => false,
-        [first, rest @ ..] => (first.is_ascii_alphabetic() || *first == b'_')
-            && are_name_bytes(rest),
-    }
-}
-
-fn are_name_bytes(bytes: &[u8]) -> bool
-    ensures { result ≡ list_all (λ byte. is_ascii_alphanumeric byte || byte == 95) bytes.now }
-{
-    bytes
-        .iter()
-        .all(|byte| byte.is_ascii_alphanumeric() || *byte == b'_')
 }

@@ -4,7 +4,8 @@ ghost use Rattle.am_match.specs.Matchers.{MatcherText};
 ghost use Rattle.am_match.specs.Spelling.{Spells};
 ghost use Rattle.am_match.specs.Taking.{take_bytes, take_number, take_operator, take_text, take_name, take_matcher, take_several, taken};
 
-use crate::matcher::{Matcher, Operator, is_name};
+use crate::matcher::{Matcher, Operator};
+use am_labels::is_label_name;
 use am_text::Text;
 use byteorder::{BigEndian, ByteOrder};
 use std::alloc::{AllocError, AllocFailed, Global};
@@ -107,7 +108,7 @@ fn read_name(bytes: &[u8]) -> Result<(&str, &[u8]), TakeFault>
     ensures label { IfOk result (λ p. IsTrue (is_label_name p.0.now)) }
 {
     let (name, rest) = read_str(bytes)?;
-    if is_name(name) {
+    if is_label_name(name) {
         Ok((name, rest))
     } else {
         Err(TakeFault::Bad)
