@@ -55,14 +55,18 @@ abbrev pub or_fault : {A : Type 0} → Option A → FrontFault → Result A Fron
 or_fault None fault = Err fault
 or_fault (Some x) fault = Ok x
 
--- the length of the body: it is stated in one way, it isn't missing, and it is at most 1,048,576 bytes
+-- the greatest length of a body, in bytes
+abbrev pub longest_body : ℕ
+longest_body = 1_048_576
+
+-- the length of the body: it is stated in one way, it isn't missing, and it is at most `longest_body` bytes
 unfoldable pub body_stated : List ℕ → Fields → Result ℕ FrontFault
 body_stated method fields = do
   stated ← content_length fields
   -- a missing length is answered as a bad head
   _ ← refused_if (lacks_length method fields stated) BadHead
   -- so is a body that is too long
-  _ ← refused_if (nat_lt 1048576 (unwrap_or stated 0)) BadHead
+  _ ← refused_if (nat_lt longest_body (unwrap_or stated 0)) BadHead
   Ok (unwrap_or stated 0)
 
 -- the method: there is the path, and it takes the method

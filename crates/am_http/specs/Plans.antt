@@ -5,7 +5,7 @@ use Rattle.httparse.specs.declared.spans.RequestSpans.{RequestSpans}
 use Rattle.httparse.specs.Grammar.{RequestHead}
 use Rattle.httparse.specs.Spans.{IsWithin, IsHeaderWithin, header_bytes, span_bytes, name_and_value}
 use Rattle.am_http.specs.declared.head.Plan.{Plan}
-use Rattle.am_http.specs.Checks.{Wanted}
+use Rattle.am_http.specs.Checks.{Wanted, longest_body}
 use Rattle.am_http.specs.Reading.{read_head}
 
 -- what a plan says of its head
@@ -22,7 +22,7 @@ wanted_at head plan =
 pub record IsPlanAt (head : List ℕ) (plan : Plan) : Type 0 where
   pub within : IsWithin (length head) plan.target
   pub text : IsUtf8 (span_bytes head plan.target)
-  pub short : plan.body_len ≤ 1048576
+  pub short : plan.body_len ≤ longest_body
 
 -- the spans cover the parts of the head h, which the text is
 pub record IsHeadAt (text : List ℕ) (headers : List HeaderSpan) (spans : RequestSpans) (h : RequestHead) : Type 0 where

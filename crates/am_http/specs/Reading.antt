@@ -1,5 +1,5 @@
 -- The reader of request heads. It splits the text into lines, builds the only head that these can be, and keeps that
--- head where it is one by the grammar of `httparse`, has at most 64 field lines and prints to the text.
+-- head where it is one by the grammar of `httparse`, has at most `most_fields` field lines and prints to the text.
 use Rattle.std.specs.Prelude.{ℕ, ◌-◌, ◌≤◌, Bool, ◌&&◌, nat_lt, nat_le, List, [], ◌∷◌, length, reverse, slice_index, Option, Some, None, if◌then◌else◌, ◌==◌}
 use Rattle.std.specs.List.{list_all, before_first, after_first}
 use Rattle.std.specs.Str.{bytes_eq, is_utf8}
@@ -61,11 +61,15 @@ head_of blank (row ∷ rows) =
 abbrev pub is_field : Field → Bool
 is_field f = is_token f.name && list_all is_value_byte f.raw
 
--- whether each part of a head is of its class, with at most 64 field lines
+-- how many field lines a head may have
+abbrev pub most_fields : ℕ
+most_fields = 64
+
+-- whether each part of a head is of its class, with at most `most_fields` field lines
 abbrev pub is_head : RequestHead → Bool
 is_head h =
     is_token h.method && nat_lt 0 (length h.target) && list_all is_uri_byte h.target && is_utf8 h.target
-    && nat_le h.minor 1 && list_all is_field h.fields && nat_le (length h.fields) 64
+    && nat_le h.minor 1 && list_all is_field h.fields && nat_le (length h.fields) most_fields
 
 -- the head, where it is one and prints to the text
 abbrev pub kept : List ℕ → Option RequestHead → Option RequestHead
@@ -76,8 +80,8 @@ kept text (Some h) = if is_head h && bytes_eq (print_request h) text then Some h
 unfoldable pub read_head : List ℕ → Option RequestHead
 read_head text = kept text (head_of [] (rows_after [] text))
 
--- what a reader of heads says of a text, by the grammar alone: the head that it is, with at most 64 field lines, or
--- that it is none
+-- what a reader of heads says of a text, by the grammar alone: the head that it is, with at most `most_fields` field
+-- lines, or that it is none
 abbrev pub HeadIs : List ℕ → Option RequestHead → Type 0
-HeadIs text (Some h) = ReadsRequest text h [] × (length h.fields ≤ 64)
-HeadIs text None = (h : RequestHead) → ReadsRequest text h [] → length h.fields ≤ 64 → ⊥
+HeadIs text (Some h) = ReadsRequest text h [] × (length h.fields ≤ most_fields)
+HeadIs text None = (h : RequestHead) → ReadsRequest text h [] → length h.fields ≤ most_fields → ⊥

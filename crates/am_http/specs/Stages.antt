@@ -12,12 +12,12 @@ use Rattle.am_http.specs.Checks.{judged}
 use Rattle.am_http.specs.Plans.{wanted_at, IsPlanAt}
 use Rattle.am_http.specs.Reading.{read_head}
 use Rattle.am_http.specs.Scan.{start, scanned}
-use Rattle.am_http.specs.Verdict.{request_of, verdict}
+use Rattle.am_http.specs.Verdict.{longest_head, request_of, verdict}
 
 -- the head has n bytes, passes every check, and its body may be short of this plan's length
 pub record HasHead (text : List ℕ) (plan : Plan) (n : ℕ) : Type 0 where
   pub ended : scanned 0 start text ≡ Ended n
-  pub short : n ≤ 16384
+  pub short : n ≤ longest_head
   pub within : n ≤ length text
   pub passes : judged (read_head (take n text)) ≡ Ok (wanted_at (take n text) plan)
   pub planned : IsPlanAt (take n text) plan
@@ -25,7 +25,7 @@ pub record HasHead (text : List ℕ) (plan : Plan) (n : ℕ) : Type 0 where
 -- the head hasn't ended, and has come to this place
 pub record HasPlace (text : List ℕ) (place : Place) : Type 0 where
   pub reached : scanned 0 start text ≡ Open place
-  pub short : length text ≤ 16384
+  pub short : length text ≤ longest_head
 
 -- what a stage says of bytes that aren't decided
 abbrev pub Stands : Stage → List ℕ → Type 0

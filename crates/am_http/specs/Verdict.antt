@@ -20,12 +20,16 @@ after_head (Err fault) rest = fed.Refused fault
 after_head (Ok w) rest =
     if nat_lt (length rest) w.body_len then fed.Waits else fed.Request (request_of w (take w.body_len rest))
 
--- the verdict where the head's length is known, or that it hasn't ended: a head has at most 16,384 bytes, and a longer
--- one is answered as a bad head
+-- the greatest length of a head, in bytes
+abbrev pub longest_head : ℕ
+longest_head = 16_384
+
+-- the verdict where the head's length is known, or that it hasn't ended: a head has at most `longest_head` bytes, and a
+-- longer one is answered as a bad head
 abbrev pub verdict_at : List ℕ → Option ℕ → Fed
-verdict_at text None = if nat_lt 16384 (length text) then fed.Refused BadHead else fed.Waits
+verdict_at text None = if nat_lt longest_head (length text) then fed.Refused BadHead else fed.Waits
 verdict_at text (Some n) =
-    if nat_lt 16384 n then fed.Refused BadHead else after_head (judged (read_head (take n text))) (drop n text)
+    if nat_lt longest_head n then fed.Refused BadHead else after_head (judged (read_head (take n text))) (drop n text)
 
 -- the verdict on the bytes of a connection
 unfoldable pub verdict : List ℕ → Fed

@@ -2,10 +2,11 @@
 ghost use Rattle.std.specs.Prelude.{◌≡◌, ◌≤◌, All, IsUtf8, length, map, None, IfOk, IfSome, IfNone, option_map};
 ghost use Rattle.httparse.specs.Grammar.{RequestHead};
 ghost use Rattle.httparse.specs.Spans.{IsWithin, IsHeaderWithin, header_bytes, span_bytes};
-ghost use Rattle.am_http.specs.Checks.{path_in, query_in, method_in, lacks_length as lacks_stated_length, body_stated, served, checked, judged};
+ghost use Rattle.am_http.specs.Checks.{path_in, query_in, method_in, lacks_length as lacks_stated_length, longest_body};
+ghost use Rattle.am_http.specs.Checks.{body_stated, served, checked, judged};
 ghost use Rattle.am_http.specs.Paths.{HasPaths};
 ghost use Rattle.am_http.specs.Plans.{wanted_at, IsPlanAt, IsHeadAt};
-ghost use Rattle.am_http.specs.Reading.{read_head};
+ghost use Rattle.am_http.specs.Reading.{most_fields, read_head};
 ghost use Rattle.am_http.specs.Values.{seen, number_at, IsNumberAt};
 
 use crate::fault::FrontFault;
@@ -87,7 +88,7 @@ fn lacks_length(method: &[u8], head: &[u8], fields: &[HeaderSpan], stated: Optio
 fn stated_body(method: &[u8], head: &[u8], fields: &[HeaderSpan]) -> Result<u32, FrontFault>
     requires { All (IsHeaderWithin (length head.now)) fields.now }
     ensures length { result ≡ body_stated method.now (map (header_bytes head.now) fields.now) }
-    ensures short { IfOk result (λ length. length ≤ 1048576) }
+    ensures short { IfOk result (λ length. length ≤ longest_body) }
 {
     let stated = content_length(head, fields)?;
     if lacks_length(method, head, fields, stated) {
@@ -145,7 +146,7 @@ fn check(
 
 // The parts of the head that the text is, as a whole.
 fn parse_head(text: &[u8], headers: &mut [HeaderSpan]) -> Option<RequestSpans>
-    requires { length headers.old ≡ 64 }
+    requires { length headers.old ≡ most_fields }
     ensures found { IfSome result (λ spans. (h : RequestHead) × IsHeadAt text.now headers.new spans h) }
     ensures none { IfNone result (read_head text.now ≡ None) }
 {

@@ -2,7 +2,7 @@
 use Rattle.std.specs.Prelude.{◌≡◌, ℕ, ◌≤◌, ◌++◌, ◌∷◌, [], List, All, Bool, true, not, ◌&&◌, nat_le, length, Option, Some, None, Result, Ok, Err, IsSomeAnd, if◌then◌else◌}
 use Rattle.std.specs.List.{list_any}
 use Rattle.std.specs.Option.{option_map_or}
-use Rattle.am_pattern.specs.Taking.{IsPattern, is_pattern}
+use Rattle.am_pattern.specs.Taking.{IsPattern, is_pattern, longest_pattern}
 use Rattle.am_pattern.specs.Refused.{IsCauseOf, noted, IsRefusedRightly}
 use Rattle.am_pattern.specs.declared.error.Build.{Build}
 use Rattle.am_pattern.specs.declared.error.Build.TheVariants as build
@@ -10,13 +10,13 @@ use Rattle.am_match.specs.declared.checking.MatchFault.{MatchFault}
 use Rattle.am_match.specs.declared.checking.MatchFault.TheVariants.{NoMatchers, BadPattern, LongPattern, BuildRefused, OutOfMemory}
 use Rattle.am_match.specs.Matchers.{MatcherText, patterns_of}
 
--- short enough to be built: at most 256 bytes
+-- short enough to be built: no longer than a pattern may be
 abbrev pub is_short : List ℕ → Bool
-is_short p = nat_le (length p) 256
+is_short p = nat_le (length p) longest_pattern
 
 -- the text is a pattern, unless it is too long to be built
 abbrev pub IsFine : List ℕ → Type 0
-IsFine p = length p ≤ 256 → IsPattern p
+IsFine p = length p ≤ longest_pattern → IsPattern p
 
 -- The first of the patterns whose build was refused, and the cause; the refused texts are then the old ones and it.
 pub record StopsAt (patterns : List (List ℕ)) (cause : Build) (old new : List (List ℕ)) : Type 0 where
@@ -25,7 +25,7 @@ pub record StopsAt (patterns : List (List ℕ)) (cause : Build) (old new : List 
   pub back : List (List ℕ)
   pub order : patterns ≡ front ++ refused ∷ back
   pub fine : All IsFine front
-  pub short : length refused ≤ 256
+  pub short : length refused ≤ longest_pattern
   pub is_cause : IsCauseOf refused cause
   pub kept : new ≡ noted old refused
 

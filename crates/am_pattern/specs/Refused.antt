@@ -4,7 +4,7 @@ use Rattle.std.specs.List.{list_any}
 use Rattle.std.specs.Str.{bytes_eq}
 use Rattle.am_pattern.specs.declared.error.Build.{Build}
 use Rattle.am_pattern.specs.declared.error.Build.TheVariants.{Syntax, TooBig, OutOfMemory}
-use Rattle.am_pattern.specs.Taking.{IsRead, IsTooDeep, IsPattern, anchored, takes}
+use Rattle.am_pattern.specs.Taking.{IsRead, IsTooDeep, IsPattern, anchored, longest_pattern, takes}
 
 -- an error that a text may get when it is built as it stands
 abbrev pub IsTextCause : List ℕ → Build → Type 0
@@ -25,7 +25,7 @@ has_text texts p = list_any (λ text. bytes_eq text p) texts
 -- the texts with one more, where it is short enough to be built and not among them
 abbrev pub noted : List (List ℕ) → List ℕ → List (List ℕ)
 noted texts p =
-    if nat_le (length p) 256 then (if has_text texts p then texts else texts ++ p ∷ []) else texts
+    if nat_le (length p) longest_pattern then (if has_text texts p then texts else texts ++ p ∷ []) else texts
 
 -- the refused texts after an answer: one more where the build was refused for another cause than memory
 abbrev pub refused_after : List (List ℕ) → List ℕ → Result Bool Build → List (List ℕ)

@@ -29,13 +29,17 @@ found_in (Some (found, names)) value = is_some (find_str found.value value 0)
 unfoldable pub has_match : List ℕ → List ℕ → Bool
 has_match text value = found_in (read default_config (chars text)) value
 
--- a pattern has at most 256 bytes, and is read both alone and anchored
+-- the most bytes that a pattern may have
+abbrev pub longest_pattern : ℕ
+longest_pattern = 256
+
+-- a pattern has at most `longest_pattern` bytes, and is read both alone and anchored
 abbrev pub IsPattern : List ℕ → Type 0
-IsPattern p = (length p ≤ 256) × IsRead p × IsRead (anchored p)
+IsPattern p = (length p ≤ longest_pattern) × IsRead p × IsRead (anchored p)
 
 -- the same as a test
 abbrev pub is_pattern : List ℕ → Bool
-is_pattern p = nat_le (length p) 256 && (is_read p && is_read (anchored p))
+is_pattern p = nat_le (length p) longest_pattern && (is_read p && is_read (anchored p))
 
 -- the pattern takes the value: its anchored form has a match there
 abbrev pub takes : List ℕ → List ℕ → Bool

@@ -4,7 +4,7 @@ use Rattle.std.specs.Option.{is_none}
 use Rattle.std.proofs.lemmas.Bool.Decides.{nat_tests}
 use Rattle.std.proofs.lemmas.Grind.{common_steps}
 use Rattle.am_tenant.specs.declared.NameFault.{NameFault}
-use Rattle.am_tenant.specs.Names.{is_tenant_name, name_fault}
+use Rattle.am_tenant.specs.Names.{is_tenant_name, longest_name, name_fault}
 use Rattle.am_tenant.specs.Padded.{padded}
 
 -- exactly the tenant names have no fault
@@ -20,8 +20,8 @@ tenant_name_where name h = sym (is_none-name_fault name) ∙ ap is_none (sym h)
 pub no_tenant_name_where : (name : List ℕ) (fault : NameFault) → Some fault ≡ name_fault name → IsTrue (is_tenant_name name) → false ≡ true
 no_tenant_name_where name fault h is = ap is_none h ∙ is_none-name_fault name ∙ is
 
--- a tenant name has at most 150 bytes
-pub length-tenant_name : (name : List ℕ) → IsTrue (is_tenant_name name) → length name ≤ 150
+-- a tenant name has at most the greatest length
+pub length-tenant_name : (name : List ℕ) → IsTrue (is_tenant_name name) → length name ≤ longest_name
 unfolding is_tenant_name
 length-tenant_name name h = grind (arith, nat_tests)
 

@@ -6,6 +6,10 @@ use Rattle.std.specs.Str.{bytes_eq}
 use Rattle.am_tenant.specs.declared.NameFault.{NameFault}
 use Rattle.am_tenant.specs.declared.NameFault.TheVariants.{Empty, TooLong, BadByte, Reserved}
 
+-- the greatest length of a name, in bytes
+abbrev pub longest_name : ℕ
+longest_name = 150
+
 -- whether two names are the same bytes
 unfoldable pub same : List ℕ → List ℕ → Bool
 same a b = bytes_eq a b
@@ -18,14 +22,16 @@ is_name_byte b = is_ascii_alphanumeric b || list_any (λ mark. b == mark) (codes
 unfoldable pub is_reserved : List ℕ → Bool
 is_reserved name = bytes_eq name (codes ".") || bytes_eq name (codes "..") || bytes_eq name (codes "__mimir_cluster")
 
--- a tenant name: 1 to 150 bytes that may stand in a name, and not reserved
+-- a tenant name: 1 to `longest_name` bytes that may stand in a name, and not reserved
 unfoldable pub is_tenant_name : List ℕ → Bool
-is_tenant_name name = nat_lt 0 (length name) && nat_le (length name) 150 && list_all is_name_byte name && not (is_reserved name)
+is_tenant_name name =
+    nat_lt 0 (length name) && nat_le (length name) longest_name && list_all is_name_byte name && not (is_reserved name)
 
--- the first of the four faults that a name has: no byte, over 150 bytes, a byte that may not stand in a name, reserved
+-- the first of the four faults that a name has: no byte, over `longest_name` bytes, a byte that may not stand in a
+-- name, reserved
 unfoldable pub name_fault : List ℕ → Option NameFault
 name_fault name =
     if length name == 0 then Some Empty else (
-    if nat_lt 150 (length name) then Some TooLong else (
+    if nat_lt longest_name (length name) then Some TooLong else (
     if not (list_all is_name_byte name) then Some BadByte else (
     if is_reserved name then Some Reserved else None)))

@@ -14,7 +14,7 @@ ghost use Rattle.std.specs.Str.{bytes_eq};
 ghost use Rattle.std.specs.Hash as fed;
 ghost use Rattle.std.proofs.Common.{rules};
 ghost use Rattle.am_tenant.specs.Padded.{padded};
-ghost use Rattle.am_tenant.specs.Names.{is_name_byte, is_reserved, is_tenant_name, name_fault, same};
+ghost use Rattle.am_tenant.specs.Names.{is_name_byte, is_reserved, is_tenant_name, longest_name, name_fault, same};
 
 use std::cmp::Ordering;
 use std::error::Error;
@@ -223,7 +223,7 @@ fn is_reserved(name: &[u8]) -> bool
 
 // The bytes, then zeros.
 fn pad(bytes: &[u8]) -> [u8; LONGEST]
-    requires { length bytes.now ≤ 150 }
+    requires { length bytes.now ≤ longest_name }
     ensures { result ≡ padded bytes.now }
 {
     let mut padded = [0; LONGEST];
