@@ -11,7 +11,9 @@ use Rattle.am_draft.specs.Outcome.{is_json}
 pub json_of_text : (bytes : List ℕ) → IsUtf8 bytes → json bytes ≡ is_json (read bytes)
 json_of_text bytes text = rw (is_utf8-from_IsUtf8 bytes text) refl
 
-none_at : (bytes : List ℕ) (b : Bool) → is_utf8 bytes ≡ b → (IsUtf8 bytes → read bytes ≡ None) → is_json (if b then read bytes else None) ≡ Err NotJson
+-- bytes that are no text, or of which nothing is read
+none_at : (bytes : List ℕ) (b : Bool) → is_utf8 bytes ≡ b → (IsUtf8 bytes → read bytes ≡ None) →
+    is_json (if b then read bytes else None) ≡ Err NotJson
 none_at bytes true e h = rw (h (IsUtf8-from_is_utf8 bytes e)) refl
 none_at bytes false e h = refl
 

@@ -53,7 +53,14 @@ draft_of text d = do
   routes ← required root_in (get (codes "route") d)
   receivers ← required receivers_in (get (codes "receivers") d)
   rules ← optional [] rules_in (get (codes "inhibit_rules") d)
-  Ok (record { text = text; global = global; routes = routes; receivers = receivers; rules = rules; left_out = left_out })
+  Ok (record {
+    text = text;
+    global = global;
+    routes = routes;
+    receivers = receivers;
+    rules = rules;
+    left_out = left_out;
+  })
 
 -- what the text of a configuration says
 unfoldable pub draft_in : List ℕ → Result Draft DraftFault
@@ -62,9 +69,17 @@ draft_in text = json text >>= draft_of text
 -- the draft, where a key of its document is left out or none is
 abbrev pub within_document : Draft → Bool → Draft
 within_document draft left_out =
-    record { text = draft.text; global = draft.global; routes = draft.routes; receivers = draft.receivers; rules = draft.rules; left_out = draft.left_out || left_out }
+    record {
+      text = draft.text;
+      global = draft.global;
+      routes = draft.routes;
+      receivers = draft.receivers;
+      rules = draft.rules;
+      left_out = draft.left_out || left_out;
+    }
 
--- what a posted document says: of its keys only after its text was read, so that a text which isn't JSON comes before an unknown key
+-- what a posted document says: of its keys only after its text was read, so that a text which isn't JSON comes before
+-- an unknown key
 unfoldable pub posted : List ℕ → Result Draft DraftFault
 posted document = do
   d ← json document

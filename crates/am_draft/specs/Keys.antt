@@ -38,7 +38,8 @@ is_receiver _ = false
 
 -- the key is left out here; a receiver leaves out each kind of receiver but its webhooks
 abbrev pub is_left_out : Place → List ℕ → Bool
-is_left_out place key = has_text left_out_keys key || (is_receiver place && ends_with (λ a b. a == b) key (codes "_configs"))
+is_left_out place key =
+    has_text left_out_keys key || (is_receiver place && ends_with (λ a b. a == b) key (codes "_configs"))
 
 -- a list of templates, which is left out where it holds one
 abbrev pub has_items : Items → Bool
@@ -68,7 +69,8 @@ key_leaves_out place key d =
 -- whether one of the keys is left out, or one before them was
 abbrev pub leaves_out_after : Place → Bool → Members → Result Bool DraftFault
 leaves_out_after place seen no_members = Ok seen
-leaves_out_after place seen (member key d ms) = key_leaves_out place key d >>= λ left_out. leaves_out_after place (seen || left_out) ms
+leaves_out_after place seen (member key d ms) =
+    key_leaves_out place key d >>= λ left_out. leaves_out_after place (seen || left_out) ms
 
 -- whether one of the object's keys is left out; refused where one is unknown, or where this is no object
 abbrev pub leaves_out : Place → Data → Result Bool DraftFault

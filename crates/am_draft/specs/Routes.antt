@@ -44,7 +44,15 @@ route_of depth d = do
   intervals ← intervals_of d
   matchers ← optional [] texts_in (get (codes "matchers") d)
   goes_on ← optional false flag_in (get (codes "continue") d)
-  Ok (record { depth = depth; receiver = receiver; grouping = grouping; intervals = intervals; matchers = matchers; goes_on = goes_on; left_out = left_out })
+  Ok (record {
+    depth = depth;
+    receiver = receiver;
+    grouping = grouping;
+    intervals = intervals;
+    matchers = matchers;
+    goes_on = goes_on;
+    left_out = left_out;
+  })
 
 -- the depth within a route of this depth; JSON nests at most 127 deep, so the greatest number of 64 bits is never met
 abbrev pub deeper : ℕ → ℕ
@@ -58,12 +66,14 @@ abbrev mutual
   tree_in depth (number n) = Err BadForm
   tree_in depth (string s) = Err BadForm
   tree_in depth (array ds) = Err BadForm
-  tree_in depth (object ms) = route_of depth (object ms) >>= λ route. (routes_below (deeper depth) ms >>= λ within. Ok (route, within))
+  tree_in depth (object ms) =
+      route_of depth (object ms) >>= λ route. (routes_below (deeper depth) ms >>= λ within. Ok (route, within))
 
   -- the routes within an object with these members
   pub routes_below : ℕ → Members → Result (Forest RouteDraft) DraftFault
   routes_below depth no_members = Ok none
-  routes_below depth (member key d ms) = if bytes_eq key (codes "routes") then routes_in depth d else routes_below depth ms
+  routes_below depth (member key d ms) =
+      if bytes_eq key (codes "routes") then routes_in depth d else routes_below depth ms
 
   -- a list of routes
   pub routes_in : ℕ → Data → Result (Forest RouteDraft) DraftFault
@@ -76,4 +86,5 @@ abbrev mutual
 
   pub routes_of : ℕ → Items → Result (Forest RouteDraft) DraftFault
   routes_of depth no_items = Ok none
-  routes_of depth (item d ds) = tree_in depth d >>= λ first. (routes_of depth ds >>= λ after. Ok (tree first.0 first.1 after))
+  routes_of depth (item d ds) =
+      tree_in depth d >>= λ first. (routes_of depth ds >>= λ after. Ok (tree first.0 first.1 after))

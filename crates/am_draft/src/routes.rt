@@ -47,7 +47,8 @@ fn push_below(
     depth: usize,
     routes: &mut Vec<Node<RouteDraft>>,
 ) -> Result<(), DraftFault>
-    ensures { Gives (λ _. routes.new.items) result (grown routes.old.items (routes_below depth (members_view members.now.entries))) }
+    ensures { Gives (λ _. routes.new.items) result
+        (grown routes.old.items (routes_below depth (members_view members.now.entries))) }
 {
     for (key, value) in members.iter() {
         if key.as_str() == "routes" {
@@ -84,7 +85,8 @@ fn push_each(
     depth: usize,
     routes: &mut Vec<Node<RouteDraft>>,
 ) -> Result<(), DraftFault>
-    ensures { Gives (λ _. routes.new.items) result (grown routes.old.items (routes_of depth (items_view items.now.items))) }
+    ensures { Gives (λ _. routes.new.items) result
+        (grown routes.old.items (routes_of depth (items_view items.now.items))) }
 {
     for item in items {
         push_tree(alloc, item, depth, routes)?;

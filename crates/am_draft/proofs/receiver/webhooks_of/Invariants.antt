@@ -5,4 +5,5 @@ use Rattle.am_draft.proofs.Fronts.{with_front}
 use Rattle.am_draft.proofs.receiver.webhooks_of.Given as goal
 
 abbrev pub invariant-loop-value : goal.invariant-loop-value
-invariant-loop-value l = with_front l.webhooks.items (webhooks_of (items_view (drop l.value-index l.values))) ≡ webhooks_of (items_view l.values)
+invariant-loop-value l =
+    with_front l.webhooks.items (webhooks_of (items_view (drop l.value-index l.values))) ≡ webhooks_of (items_view l.values)

@@ -11,4 +11,6 @@ push_tree-returns-in_ok-push_below-in-Object t c =
     let below = rw (c.in_ok-push-in-Object.ensures.items, c.deeper.ensures) at c.in_ok-push_below-in-Object.ensures in
     let number : c.len-number.result ≡ length c.args.routes.now.items = omega (arith, c.len-number.ensures) in
     let is = rw number at c.count_within.ensures in
-    rw seen (tree_grown c.args.depth (members_view c.in-Object.members.entries) c.args.routes.now.items c.in_ok-item-in-Object.item c.push_below.new.routes.items c.count_within.new.routes.items own below is)
+    rw seen
+    (tree_grown c.args.depth (members_view c.in-Object.members.entries) c.args.routes.now.items
+    c.in_ok-item-in-Object.item c.push_below.new.routes.items c.count_within.new.routes.items own below is)
