@@ -5,10 +5,11 @@ use Rattle.std.specs.Char.{is_ascii_digit}
 use Rattle.std.specs.Str.{bytes_eq}
 use Rattle.std.specs.Str.Parse.{digits_value}
 
--- the URL as it is written, the host with its port as it is written, and the target of a request
+-- the URL as it is written, the host with its port as it is written, the port's number, and the target of a request
 pub record Url : Type 0 where
   pub text : List ℕ
   pub host : List ℕ
+  pub port : ℕ
   pub target : List ℕ
 
 -- a decimal number within these bounds; zeros may stand in front
@@ -53,6 +54,10 @@ is_authority text =
     if has is_colon text then is_host (before_first is_colon text) && is_number 1 65535 (after_first is_colon text)
     else is_host text
 
+-- the port of an authority: the number behind its colon, 80 where there is no colon
+unfoldable pub port_of : List ℕ → ℕ
+port_of authority = if has is_colon authority then digits_value 10 (after_first is_colon authority) else 80
+
 -- a visible ASCII byte other than #
 abbrev pub is_in_path : ℕ → Bool
 is_in_path byte = nat_le 33 byte && (nat_le byte 126 && not (byte == 35))
@@ -60,8 +65,10 @@ is_in_path byte = nat_le 33 byte && (nat_le byte 126 && not (byte == 35))
 -- what stands behind the scheme: an authority, then nothing, or a slash and the rest of a path
 abbrev pub url_behind : List ℕ → List ℕ → Option Url
 url_behind text rest =
-    if is_authority (before_first is_slash rest) && list_all is_in_path (after_first is_slash rest)
-    then Some (record { text = text; host = before_first is_slash rest; target = 47 ∷ after_first is_slash rest })
+    let authority = before_first is_slash rest in
+    let path = after_first is_slash rest in
+    if is_authority authority && list_all is_in_path path
+    then Some (record { text = text; host = authority; port = port_of authority; target = 47 ∷ path })
     else None
 
 -- what a webhook's URL says; none where the text is no such URL

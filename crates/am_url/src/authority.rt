@@ -1,18 +1,21 @@
 //! The host of a URL and its port.
 
-ghost use Rattle.std.specs.Prelude.{◌≡◌};
+ghost use Rattle.std.specs.Prelude.{◌≡◌, Some, None, if◌then◌else◌};
 ghost use Rattle.std.specs.Char.{is_ascii_digit};
 ghost use Rattle.std.specs.List.{list_all};
-ghost use Rattle.am_url.specs.Urls.{is_number, is_address, is_host, is_authority};
+ghost use Rattle.std.specs.Str.Parse.{digits_value};
+ghost use Rattle.am_url.specs.Urls.{is_number, is_address, is_host, is_authority, port_of};
 
-/// Whether the text is a host, with perhaps a port from 1 to 65535 behind a colon.
-#[tactic(auto, unfolding(crate::specs::Urls::is_authority))]
-pub(crate) fn is_authority(text: &str) -> bool
-    ensures { result ≡ is_authority text.now }
+/// The port of a host with perhaps a port from 1 to 65535 behind a colon: 80 where none is written. `None` where the
+/// text is no such authority.
+#[tactic(auto, unfolding(crate::specs::Urls::is_authority, crate::specs::Urls::port_of))]
+pub(crate) fn port_of(text: &str) -> Option<u16>
+    ensures { result ≡ (if is_authority text.now then Some (port_of text.now) else None) }
 {
     match text.split_once(':') {
-        None => is_host(text),
-        Some((host, port)) => is_host(host) && is_number(port, 1, u16::MAX),
+        None if is_host(text) => Some(80),
+        Some((host, port)) if is_host(host) => number_of(port, 1, u16::MAX),
+        _ => None,
     }
 }
 
@@ -42,19 +45,20 @@ fn is_address(text: &str) -> bool
 fn is_octet(digits: &str) -> bool
     ensures { result ≡ is_number 0 255 digits.now }
 {
-    is_number(digits, 0, 255)
+    number_of(digits, 0, 255).is_some()
 }
 
-// Whether this is a decimal number within these bounds; zeros may stand in front.
-fn is_number(digits: &str, least: u16, most: u16) -> bool
-    ensures { result ≡ is_number least most digits.now }
+// The decimal number that the text is, where it lies within these bounds; zeros may stand in front.
+fn number_of(digits: &str, least: u16, most: u16) -> Option<u16>
+    ensures { result ≡ (if is_number least most digits.now then Some (digits_value 10 digits.now) else None) }
 {
     if !are_digits(digits) {
-        return false;
+        return None;
     }
     match digits.parse::<u16>() {
-        Ok(number) => least <= number && number <= most,
-        Err(_) => false,
+        Ok(number) if least <= number && number <= most => Some(number),
+        Ok(_) => None,
+        Err(_) => None,
     }
 }
 

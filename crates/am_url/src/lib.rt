@@ -5,3 +5,6 @@ mod authority;
 mod url;
 
 pub use url::WebhookUrl;
+
+#[cfg(test)]
+mod tests;

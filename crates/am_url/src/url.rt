@@ -1,10 +1,10 @@
 //! A webhook's URL and its parts.
 
-ghost use Rattle.std.specs.Prelude.{◌≡◌, ◌∷◌, IfOk};
+ghost use Rattle.std.specs.Prelude.{◌≡◌, ◌∷◌, IfOk, Some};
 ghost use Rattle.std.specs.List.{list_all, before_first, after_first};
 ghost use Rattle.am_url.specs.Urls.{is_in_path, is_slash, url_of};
 
-use crate::authority::is_authority;
+use crate::authority::port_of;
 use am_text::Text;
 use std::alloc::{AllocError, Global};
 use std::marker::Model;
@@ -15,17 +15,22 @@ use std::marker::Model;
 pub struct WebhookUrl {
     text: Text,
     host: Text,
+    port: u16,
     target: Text,
 }
 
 impl Model for WebhookUrl {
-    ghost use Rattle.am_url.specs.Urls.{Url};
+    ghost use Rattle.std.specs.Prelude.{◌≡◌, Some};
+    ghost use Rattle.am_url.specs.Urls.{Url, url_of};
 
     ghost Value = { Url };
 
-    ghost view = { λ u. record { text = u.text; host = u.host; target = u.target } };
+    ghost view = { λ u. record { text = u.text; host = u.host; port = u.port; target = u.target } };
 
-    ghost inverse = { λ u. record { text = u.text; host = u.host; target = u.target } };
+    ghost invariant = { λ u. url_of u.text
+        ≡ Some (record { text = u.text; host = u.host; port = u.port; target = u.target }) };
+
+    ghost inverse = { λ u. record { text = u.text; host = u.host; port = u.port; target = u.target } };
 }
 
 impl WebhookUrl {
@@ -41,19 +46,24 @@ impl WebhookUrl {
             return Ok(None);
         };
         let (host, path) = split_path(rest);
-        if !is_authority(host) || !is_path(path) {
+        let Some(port) = port_of(host) else {
+            return Ok(None);
+        };
+        if !is_path(path) {
             return Ok(None);
         }
         Ok(Some(WebhookUrl {
             text: Text::read(alloc, text)?,
             host: Text::read(alloc, host)?,
+            port,
             target: target_of(alloc, path)?,
         }))
     }
 
-    /// The URL as it is written.
+    /// The URL as it is written: the text that reads as this URL.
     pub fn as_str(&self) -> &str
-        ensures { result.now ≡ self.now.text }
+        ensures text { result.now ≡ self.now.text }
+        ensures parts { url_of result.now ≡ Some self.now }
     {
         self.text.as_str()
     }
@@ -63,6 +73,13 @@ impl WebhookUrl {
         ensures { result.now ≡ self.now.host }
     {
         self.host.as_str()
+    }
+
+    /// The number of the port, 1 to 65535: 80 where none is written.
+    pub fn port(&self) -> u16
+        ensures { result ≡ self.now.port }
+    {
+        self.port
     }
 
     /// The target of a request in its origin form (RFC 9112 section 3.2.1): the path as it is written, `/` for none.
