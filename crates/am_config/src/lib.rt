@@ -18,3 +18,6 @@ mod reading;
 pub use config::Config;
 pub use fault::ConfigFault;
 pub use parts::{Receiver, Route, Rule, Settings, Webhook};
+
+#[cfg(test)]
+mod tests;
