@@ -9,3 +9,4 @@ mod Plain
 mod RefusalSeen
 mod Refusing
 mod Run
+pub mod Steps

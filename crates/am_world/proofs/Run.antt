@@ -19,7 +19,7 @@ use Rattle.am_world.specs.View.{Seen, Reading, AskedAs, TurnedAway, Table, look,
 
 -- ---- what a table decided stays decided
 
-later_itself : (v : Table) → Later v v
+pub later_itself : (v : Table) → Later v v
 later_itself v = record { asked = λ c t e. e; away = λ c e. e }
 
 later_after : (v u x : Table) → Later v u → Later u x → Later v x
@@ -84,51 +84,58 @@ fits_all-append p (x ∷ xs) ys fit more = both_fit (fits p x) (fits_all (after 
 faulted_counts : (w : World) (e : Event) (w' : World) → Faulted w e w' → w'.faults ≢ 0
 faulted_counts w e w' f none = let counted = f.stopped.counted in omega arith
 
+pub step_faults : (w : World) (e : Event) (w' : World) → Step w e w' → w.faults ≢ 0 → w'.faults ≢ 0
+step_faults w e w' (inl kept) some = λ none. some (sym kept.0 ∙ none)
+step_faults w e w' (inr faulted) some = faulted_counts w e w' faulted
+
 faults_stay : (w : World) (es : List Event) (w' : World) → Run w es w' → w.faults ≢ 0 → w'.faults ≢ 0
 faults_stay w [] w' run some = λ none. some (sym (ap (λ (x : World). x.faults) run) ∙ none)
-faults_stay w (e ∷ es) w' (mid, step, run) some = faults_stay mid es w' run (elim step [
-  | inl kept ↦ λ none. some (sym kept.0 ∙ none)
-  | inr faulted ↦ faulted_counts w e mid faulted
-])
+faults_stay w (e ∷ es) w' (mid, step, run) some = faults_stay mid es w' run (step_faults w e mid step some)
 
--- a step before a run without fault met none
-step_kept : (w : World) (e : Event) (mid : World) (es : List Event) (w' : World) → Step w e mid → Run mid es w' → w'.faults ≡ 0 → Kept w e mid
-step_kept w e mid es w' (inl kept) run none = kept.1
-step_kept w e mid es w' (inr faulted) run none = absurd (faults_stay mid es w' run (faulted_counts w e mid faulted) none)
+-- a step met no fault where none was counted later on
+pub step_kept : (w : World) (e : Event) (mid w' : World) → Step w e mid → (mid.faults ≢ 0 → w'.faults ≢ 0) → w'.faults ≡ 0 → Kept w e mid
+step_kept w e mid w' (inl kept) stay none = kept.1
+step_kept w e mid w' (inr faulted) stay none = absurd (stay (faulted_counts w e mid faulted) none)
 
 -- one event more
 pub run_more : (w : World) (es : List Event) (mid : World) (e : Event) (w' : World) → Run w es mid → Step mid e w' → Run w (es ++ e ∷ []) w'
 run_more w [] mid e w' run step = (w', rw run at step, refl)
 run_more w (x ∷ es) mid e w' (next, first, run) step = (next, first, run_more next es mid e w' run step)
 
--- what a run without fault did for a tenant
-record Ran (w : World) (es : List Event) (w' : World) (t : List ℕ) (v : Table) (p : PrivateCluster) : Type 0 where
-  outs : List Output
-  appended : w'.outputs.items ≡ w.outputs.items ++ outs
-  told : (u : Table) → Later (watch_all v es) u → outputs_of t u outs ≡ told_all p (view t v es)
-  front : (u : Table) → Later (watch_all v es) u → front_outputs u outs ≡ front_told_all v es
-  whole : (u : Table) → Later (watch_all v es) u → list_all (is_of_somebody u) outs ≡ true
-  fits : fits_all p (view t v es) ≡ true
-  follows : Follows (watch_all v es) w'
-  stands : Stands t w' (after_all p (view t v es))
+-- what events without fault did for a tenant: these are the outputs that they added
+pub record Ran (es : List Event) (outs : List Output) (w' : World) (t : List ℕ) (v : Table) (p : PrivateCluster) : Type 0 where
+  pub told : (u : Table) → Later (watch_all v es) u → outputs_of t u outs ≡ told_all p (view t v es)
+  pub front : (u : Table) → Later (watch_all v es) u → front_outputs u outs ≡ front_told_all v es
+  pub whole : (u : Table) → Later (watch_all v es) u → list_all (is_of_somebody u) outs ≡ true
+  pub fits : fits_all p (view t v es) ≡ true
+  pub follows : Follows (watch_all v es) w'
+  pub stands : Stands t w' (after_all p (view t v es))
 
-first_step : (w : World) (e : Event) (mid : World) (es : List Event) (w' : World) (t : List ℕ) (v : Table) (p : PrivateCluster) → Kept w e mid →
+pub ran_nothing : (w : World) (t : List ℕ) (v : Table) (p : PrivateCluster) → Follows v w → Stands t w p → Ran [] [] w t v p
+ran_nothing w t v p f s = record {
+  told = λ u later. refl;
+  front = λ u later. refl;
+  whole = λ u later. refl;
+  fits = refl;
+  follows = f;
+  stands = s;
+}
+
+pub ran_more : (w : World) (e : Event) (mid : World) (es : List Event) (outs : List Output) (w' : World) (t : List ℕ) (v : Table) (p : PrivateCluster) (kept : Kept w e mid) →
     Follows v w → Stands t w p → names_once (watch v e) es →
-    Ran mid es w' t (watch v e) (after_all p (adds t v e)) → Ran w (e ∷ es) w' t v p
-first_step w e mid es w' t v p kept f s once rest = record {
-  outs = kept.outs ++ rest.outs;
-  appended = rest.appended ∙ ap (λ os. os ++ rest.outs) kept.appended ∙ append_assoc w.outputs.items kept.outs rest.outs;
+    Ran es outs w' t (watch v e) (after_all p (adds t v e)) → Ran (e ∷ es) (kept.outs ++ outs) w' t v p
+ran_more w e mid es outs w' t v p kept f s once rest = record {
   told = λ u later.
-      filter-append (belongs t u) kept.outs rest.outs
-      ∙ ap (λ os. os ++ outputs_of t u rest.outs) (kept.told t v p f s u (later_after (watch v e) _ u (later_all (watch v e) es once) later))
+      filter-append (belongs t u) kept.outs outs
+      ∙ ap (λ os. os ++ outputs_of t u outs) (kept.told t v p f s u (later_after (watch v e) _ u (later_all (watch v e) es once) later))
       ∙ ap (λ os. told_all p (adds t v e) ++ os) (rest.told u later)
       ∙ sym (told_all-append p (adds t v e) (view t (watch v e) es));
   front = λ u later.
-      filter-append (is_of_front u) kept.outs rest.outs
-      ∙ ap (λ os. os ++ front_outputs u rest.outs) (kept.front v f u (later_after (watch v e) _ u (later_all (watch v e) es once) later))
+      filter-append (is_of_front u) kept.outs outs
+      ∙ ap (λ os. os ++ front_outputs u outs) (kept.front v f u (later_after (watch v e) _ u (later_all (watch v e) es once) later))
       ∙ ap (λ os. front_told v e ++ os) (rest.front u later);
   whole = λ u later.
-      list_all-append (is_of_somebody u) kept.outs rest.outs
+      list_all-append (is_of_somebody u) kept.outs outs
       ∙ rw (kept.whole v f u (later_after (watch v e) _ u (later_all (watch v e) es once) later), rest.whole u later) refl;
   fits = fits_all-append p (adds t v e) (view t (watch v e) es) (kept.fits t v p f s) rest.fits;
   follows = rest.follows;
@@ -136,34 +143,28 @@ first_step w e mid es w' t v p kept f s once rest = record {
 }
 
 ran : (w : World) (es : List Event) (w' : World) (t : List ℕ) (v : Table) (p : PrivateCluster) → Run w es w' → w'.faults ≡ 0 →
-    Follows v w → Stands t w p → names_once v es → Ran w es w' t v p
-ran w [] w' t v p run none f s once = rw run (record {
-  outs = [];
-  appended = sym (append-nil w.outputs.items);
-  told = λ u later. refl;
-  front = λ u later. refl;
-  whole = λ u later. refl;
-  fits = refl;
-  follows = f;
-  stands = s;
-})
+    Follows v w → Stands t w p → names_once v es → (outs : List Output) × (w'.outputs.items ≡ w.outputs.items ++ outs) × Ran es outs w' t v p
+ran w [] w' t v p run none f s once = rw run ([], sym (append-nil w.outputs.items), ran_nothing w t v p f s)
 ran w (e ∷ es) w' t v p (mid, step, run) none f s once =
-    let kept = step_kept w e mid es w' step run none in
-    first_step w e mid es w' t v p kept f s once.1
-    (ran mid es w' t (watch v e) (after_all p (adds t v e)) run none (kept.follows v f) (kept.stands t v p f s) once.1)
+    let kept = step_kept w e mid w' step (faults_stay mid es w' run) none in
+    let rest = ran mid es w' t (watch v e) (after_all p (adds t v e)) run none (kept.follows v f) (kept.stands t v p f s) once.1 in (
+      kept.outs ++ rest.0,
+      rest.1 ∙ ap (λ os. os ++ rest.0) kept.appended ∙ append_assoc w.outputs.items kept.outs rest.0,
+      ran_more w e mid es rest.0 w' t v p kept f s once.1 rest.2,
+    )
 
 -- a run of steps is the headline's
 pub headline : (w : World) (es : List Event) (w' : World) → Run w es w' → Headline w es w'
 headline w es w' run none t v p f s once =
     let r = ran w es w' t v p run none f s once in
     record {
-      told = rw (r.appended, drop-append_seam w.outputs.items r.outs) (r.told (watch_all v es) (later_itself (watch_all v es)));
-      front = rw (r.appended, drop-append_seam w.outputs.items r.outs) (r.front (watch_all v es) (later_itself (watch_all v es)));
-      whole = rw (r.appended, drop-append_seam w.outputs.items r.outs) (r.whole (watch_all v es) (later_itself (watch_all v es)));
-      stay = rw (r.appended, take-append_seam w.outputs.items r.outs) refl;
-      fits = r.fits;
-      follows = r.follows;
-      stands = r.stands;
+      told = rw (r.1, drop-append_seam w.outputs.items r.0) (r.2.told (watch_all v es) (later_itself (watch_all v es)));
+      front = rw (r.1, drop-append_seam w.outputs.items r.0) (r.2.front (watch_all v es) (later_itself (watch_all v es)));
+      whole = rw (r.1, drop-append_seam w.outputs.items r.0) (r.2.whole (watch_all v es) (later_itself (watch_all v es)));
+      stay = rw (r.1, take-append_seam w.outputs.items r.0) refl;
+      fits = r.2.fits;
+      follows = r.2.follows;
+      stands = r.2.stands;
     }
 
 -- ---- a run that is cut in two

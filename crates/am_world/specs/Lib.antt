@@ -1,4 +1,5 @@
 pub mod AlertJson
+pub mod Alone
 pub mod Decision
 pub mod Faults
 pub mod Happening

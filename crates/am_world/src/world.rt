@@ -22,12 +22,12 @@ pub struct World {
 }
 
 impl World {
+    ghost use Rattle.am_world.specs.Alone.{Forgets};
     ghost use Rattle.am_world.specs.Faults.{Counted};
     ghost use Rattle.am_world.specs.Local.{fits_by};
-    ghost use Rattle.am_world.specs.PrivateCluster.{PrivateCluster};
     ghost use Rattle.am_world.specs.Refusal.{refusal, refusal_seen};
     ghost use Rattle.am_world.specs.Places.{up_at, local_in};
-    ghost use Rattle.am_world.specs.Simulation.{Follows, Stands, Opens, IsDown, Kept, Step, Stopped};
+    ghost use Rattle.am_world.specs.Simulation.{Follows, Opens, IsDown, Kept, Step, Stopped};
     ghost use Rattle.am_world.specs.Simulation.{Run, Headline, Prefixes};
     ghost use Rattle.am_world.specs.Taking.{Takes};
     ghost use Rattle.am_world.specs.View.{Table};
@@ -53,12 +53,7 @@ impl World {
 
     /// Forgets what was put out so far.
     pub fn clear_outputs(&mut self)
-        ensures outputs { self.new.outputs.items ≡ [] }
-        ensures faults { self.new.faults ≡ self.old.faults }
-        ensures clock { self.new.clock ≡ self.old.clock }
-        ensures instance { self.new.instance ≡ self.old.instance }
-        ensures follows { (v : Table) → Follows v self.old → Follows v self.new }
-        ensures stands { (t : List ℕ) (p : PrivateCluster) → Stands t self.old p → Stands t self.new p }
+        ensures { Forgets self.old self.new }
     {
         self.outputs.clear();
     }

@@ -2,3 +2,4 @@ pub mod LineLemmas
 pub mod NamesLemmas
 pub mod PlayingLemmas
 pub mod ScenarioLemmas
+pub mod TraceLemmas

@@ -1,15 +1,29 @@
--- What is written bit by bit, and what pieces on a connection come to.
-use Rattle.std.proofs.Common.{◌≡◌, ℕ, ◌<◌, ◌≤◌, min, Bool, true, false, List, [], ◌∷◌, ◌++◌, length, Option, None, Some, MatchOption, Result, Ok, Err, IsOk, is_ok, refl, sym, ap, ◌∙◌, arith, append-nil, append_assoc}
+-- What is written line by line, and what pieces on a connection come to.
+use Rattle.std.proofs.Common.{◌≡◌, ℕ, ◌<◌, ◌≤◌, min, Bool, true, false, List, [], ◌∷◌, ◌++◌, length, Option, None, Some, IsSome, MatchOption, Result, Ok, Err, IsOk, is_ok, refl, sym, ap, ◌∙◌, arith, append-nil, append_assoc}
 use Rattle.std.proofs.lemmas.Bool.Decides.{nat_tests}
+use Rattle.std.proofs.lemmas.List.Concat.{flat_map-append}
 use Rattle.std.specs.Io.KnownBytes.{Appends, Keeps}
+use Rattle.std.specs.List.{flat_map}
 use Rattle.am_world.specs.declared.event.Event.{Event}
 use Rattle.am_world.specs.declared.event.Event.TheVariants as event
 use Rattle.am_world.specs.declared.event.Refused.{Refused}
 use Rattle.am_world.specs.declared.world.World.{World}
+use Rattle.am_world.specs.Alone.{Forgets}
 use Rattle.am_world.specs.Places.{up_at}
 use Rattle.am_world.specs.Refusal.{refusal}
+use Rattle.am_world.specs.Simulation.{Step}
 use Rattle.amring.specs.declared.play.Player.{Player}
-use Rattle.amring.specs.Playing.{Forgets, Happens, Either, Gives, goes_on, is_piece}
+use Rattle.amring.specs.Playing.{Happens, Either, Gives, happened, goes_on, is_piece}
+use Rattle.amring.specs.Trace.{Happened, Prints, text_of, printed, output_line, refusal_line}
+
+-- no line is added
+pub prints_nothing : (old : List ℕ) (Holds : List Happened → Type 0) → Holds [] → Prints old old Holds
+prints_nothing old Holds h = ([], sym (append-nil old), h)
+
+-- lines are added one after the other
+pub printed_more : (old mid new : List ℕ) (first rest : List Happened) → mid ≡ old ++ printed first → new ≡ mid ++ printed rest → new ≡ old ++ printed (first ++ rest)
+printed_more old mid new first rest e f =
+    f ∙ ap (λ s. s ++ printed rest) e ∙ append_assoc old (printed first) (printed rest) ∙ ap (λ s. old ++ s) (sym (flat_map-append text_of first rest))
 
 -- nothing is written
 pub appends_nothing : (known : Option (List ℕ)) → Appends known known []
@@ -58,6 +72,26 @@ refused_some (Some d) r e is told =
     let same : d ≡ e = cc in
     ap Some same
 
+-- an event came, and its lines were added: those of its outputs, and then that of its refusal
+pub prints_event : (p : Player) (e : Event) (p' : Player) (before : World) (refused : Option Refused) (old new : List ℕ) →
+    Forgets p.world before → Step before e p'.world → refusal before e ≡ refused → (IsSome refused → p'.world ≡ before) →
+    p'.connections ≡ p.connections → p'.moment ≡ p.moment →
+    new ≡ (old ++ flat_map (output_line p.connections) p'.world.outputs.items) ++ refusal_line refused → Prints old new (Happens p e p')
+prints_event p e p' before refused old new forgets step is same connections moment text =
+    let seen : refusal p.world e ≡ refused = sym (refusal_same p.world before e forgets) ∙ is in (
+      happened p e p' ∷ [],
+      rw seen (text ∙ append_assoc old (flat_map (output_line p.connections) p'.world.outputs.items) (refusal_line refused) ∙ ap (λ s. old ++ s) (sym (append-nil (flat_map (output_line p.connections) p'.world.outputs.items ++ refusal_line refused)))),
+      record {
+        before = before;
+        forgets = forgets;
+        step = step;
+        refused = rw seen same;
+        connections = connections;
+        moment = moment;
+        traced = refl;
+      },
+    )
+
 -- a chunk is a piece
 pub piece_fits : (size : ℕ) (piece rest : List ℕ) → size ≡ 4096 → length piece ≡ min size (length rest) → 0 < length rest → is_piece piece ≡ true
 piece_fits size piece rest is_size cut some =
@@ -70,7 +104,7 @@ pub gives_nothing : (c : ℕ) (p : Player) → Gives c p [] p []
 gives_nothing c p = record { pieces = []; left = []; cut = refl; sizes = refl; come = (refl, refl, refl) }
 
 -- a piece came, and then others
-pub gives_more : (c : ℕ) (p mid p' : Player) (piece bytes first rest : List ℕ) → is_piece piece ≡ true → Happens p (event.Bytes c p.moment piece) mid first →
+pub gives_more : (c : ℕ) (p mid p' : Player) (piece bytes : List ℕ) (first rest : List Happened) → is_piece piece ≡ true → Happens p (event.Bytes c p.moment piece) mid first →
     goes_on c p (event.Bytes c p.moment piece) mid ≡ true → Gives c mid bytes p' rest → Gives c p (piece ++ bytes) p' (first ++ rest)
 gives_more c p mid p' piece bytes first rest size happens goes given = record {
   pieces = piece ∷ given.pieces;
@@ -81,7 +115,7 @@ gives_more c p mid p' piece bytes first rest size happens goes given = record {
 }
 
 -- a piece came and ended the line
-pub gives_last : (c : ℕ) (p mid : Player) (piece left first : List ℕ) → is_piece piece ≡ true → Happens p (event.Bytes c p.moment piece) mid first →
+pub gives_last : (c : ℕ) (p mid : Player) (piece left : List ℕ) (first : List Happened) → is_piece piece ≡ true → Happens p (event.Bytes c p.moment piece) mid first →
     goes_on c p (event.Bytes c p.moment piece) mid ≡ false → Gives c p (piece ++ left) mid first
 gives_last c p mid piece left first size happens ends = record {
   pieces = piece ∷ [];

@@ -1,5 +1,5 @@
 -- What a reader that is cut at its line ends has left, and what playing that comes to.
-use Rattle.std.proofs.Common.{◌≡◌, ℕ, suc, ◌+◌, ◌-◌, ◌<◌, Bool, true, false, cond, eqb, ltb, ◌&&◌, List, [], ◌∷◌, length, take, get_or, Option, None, Some, IfSome, refl, sym, ap, ◌∙◌, ◌⊎◌, inl, inr, arith, ◌++◌, append-nil, append_assoc}
+use Rattle.std.proofs.Common.{◌≡◌, ℕ, suc, ◌+◌, ◌-◌, ◌<◌, Bool, true, false, cond, eqb, ltb, ◌&&◌, List, [], ◌∷◌, ◌++◌, length, take, get_or, Option, None, Some, IfSome, refl, sym, ap, ◌∙◌, ◌⊎◌, inl, inr, arith, append-nil, append_assoc}
 use Rattle.std.specs.Bool.{⊤}
 use Rattle.std.specs.List.{onto_first}
 use Rattle.std.specs.Io.BufRead.{take_through, drop_through, strip_last, first_piece, DropsThrough}
@@ -7,7 +7,8 @@ use Rattle.std.specs.Io.KnownBytes.{IsAtEnd}
 use Rattle.std.proofs.lemmas.Bool.Decides.{nat_tests}
 use Rattle.amring.specs.Line.{command_of}
 use Rattle.amring.specs.Playing.{Obeys, Plays}
-use Rattle.amring.specs.Scenario.{lines_of}
+use Rattle.amring.specs.Scenario.{Course, lines_of}
+use Rattle.amring.specs.Trace.{Happened}
 use Rattle.amring.specs.declared.command.Command.{Command}
 use Rattle.amring.specs.declared.play.Played.{Played}
 use Rattle.amring.specs.declared.play.Played.TheVariants.{All, BadLine}
@@ -44,59 +45,81 @@ lines_of-piece (x ∷ xs) = by (eqb x 10) refl (lines_of-piece xs)
     by false e (inl h) = inl (ap (onto_first x) h ∙ ap (λ p. p ∷ lines_of (drop_through 10 xs)) (sym (strip_last-cons x (take_through 10 xs) e)))
     by false e (inr h) = inr (ap (onto_first x) h.0 ∙ ap (λ p. p ∷ []) (sym (strip_last-cons x (take_through 10 xs) e)), h.1)
 
--- the line that is empty does nothing, whatever its number
-plays_end : (n : ℕ) (p : Player) (played : Played) (written : List ℕ) → Plays n p [] played written → Plays n p (lines_of []) played written
+-- a line that is empty does nothing
+plays_end : (n : ℕ) (p : Player) → Plays n p (lines_of []) All [] p
 unfolding command_of
-plays_end n p played written end = (p, [], written, (refl, refl), refl, end)
+plays_end n p = (p, [], [], (refl, refl), refl, (refl, refl, refl))
 
-plays_empty : (n m : ℕ) (p : Player) (played : Played) (written : List ℕ) → Plays n p (lines_of []) played written → Plays m p [] played written
-unfolding command_of
-plays_empty n m p played written (q, first, rest, (same, nothing), both, end) = rw (both, nothing, ← same) end
+-- lines were read, and what is left of known bytes has the others; nothing is left behind a line without a line end
+abbrev pub Rest : Option (List ℕ) → Option (List ℕ) → List (List ℕ) → Type 0
+Rest None left lines = ⊤
+Rest (Some bytes) None lines = ⊥
+Rest (Some bytes) (Some left) lines = (lines_of bytes ≡ lines ++ lines_of left) ⊎ ((lines_of bytes ≡ lines) × (left ≡ []))
 
--- the first piece of what is left is a line, and then come the lines behind it
-plays_line : (n : ℕ) (p mid : Player) (bytes : List ℕ) (command : Command) (played : Played) (first rest : List ℕ) → command_of (first_piece 10 bytes) ≡ Some command →
-    Obeys p command mid first → Plays (n + 1) mid (lines_of (drop_through 10 bytes)) played rest → Plays n p (lines_of bytes) played (first ++ rest)
-plays_line n p mid bytes command played first rest is obeys plays = elim (lines_of-piece bytes) [
-  | inl h ↦ rw (h, is) (mid, first, rest, obeys, refl, plays)
-  | inr h ↦ rw (h.0, is) (mid, first, rest, obeys, refl, plays_empty (n + 1) (n + 1) mid played rest (rw h.1 at plays))
-]
-
-plays_bad : (n : ℕ) (p : Player) (bytes : List ℕ) → command_of (first_piece 10 bytes) ≡ None → Plays n p (lines_of bytes) (BadLine n) []
-plays_bad n p bytes bad = elim (lines_of-piece bytes) [
-  | inl h ↦ rw (h, bad) (refl, refl)
-  | inr h ↦ rw (h.0, bad) (refl, refl)
-]
-
--- where the bytes of a scenario are known: what is written from here on, after n lines, stands behind what was written so far
-abbrev pub Left : Player → Option (List ℕ) → Player → Option (List ℕ) → ℕ → List ℕ → Type 0
-Left start None p left n done = ⊤
-Left start (Some bytes) p None n done = ⊥
-Left start (Some bytes) p (Some rest) n done = (played : Played) (more : List ℕ) → Plays (n + 1) p (lines_of rest) played more → Plays 1 start (lines_of bytes) played (done ++ more)
+-- n lines were played, and this happened; whatever the others come to follows
+pub record Upto (start : Player) (bytes : Option (List ℕ)) (p : Player) (left : Option (List ℕ)) (n : ℕ) (trace : List Happened) : Type 0 where
+  pub lines : List (List ℕ)
+  pub rest : Rest bytes left lines
+  pub plays : (others : List (List ℕ)) (played : Played) (more : List Happened) (end : Player) →
+      Plays (n + 1) p others played more end → Plays 1 start (lines ++ others) played (trace ++ more) end
 
 -- the next line is the first piece of what is left
 abbrev pub IsNext : Option (List ℕ) → List ℕ → Type 0
 IsNext left line = IfSome left (λ xs. (0 < length xs) × (line ≡ first_piece 10 xs))
 
-pub left_first : (start : Player) (o : Option (List ℕ)) → Left start o start o 0 []
-left_first start None = tt
-left_first start (Some bytes) = λ played more plays. plays
+pub upto_first : (start : Player) (bytes left : Option (List ℕ)) → left ≡ bytes → Upto start bytes start left 0 []
+upto_first start bytes left same = record { lines = []; rest = rw same (by bytes); plays = λ others played more end plays. plays }
+  where
+    by : (bytes : Option (List ℕ)) → Rest bytes bytes []
+    by None = tt
+    by (Some bytes) = inl refl
 
-pub left_more : (start p mid : Player) (o old new : Option (List ℕ)) (n : ℕ) (line : List ℕ) (command : Command) (done first : List ℕ) →
-    Left start o p old n done → IsNext old line → DropsThrough old new 10 → command_of line ≡ Some command → Obeys p command mid first → Left start o mid new (n + 1) (done ++ first)
-left_more start p mid None old new n line command done first left next drops is obeys = tt
-left_more start p mid (Some bytes) None new n line command done first left next drops is obeys = absurd left
-left_more start p mid (Some bytes) (Some rest) new n line command done first left next drops is obeys =
-    rw drops (λ played more plays. rw (append_assoc done first more) (left played (first ++ more) (plays_line (n + 1) p mid rest command played first more (rw (← next.1) is) obeys plays)))
+-- what is left after one line more
+rest_more : (bytes old new : Option (List ℕ)) (lines : List (List ℕ)) (line : List ℕ) → Rest bytes old lines → IsNext old line → DropsThrough old new 10 →
+    Rest bytes new (lines ++ line ∷ [])
+rest_more None old new lines line rest next drops = tt
+rest_more (Some bytes) None new lines line rest next drops = absurd rest
+rest_more (Some bytes) (Some left) new lines line (inl rest) next drops = rw (drops, next.1) (elim (lines_of-piece left) [
+  | inl h ↦ inl (rest ∙ ap (λ l. lines ++ l) h ∙ sym (append_assoc lines (first_piece 10 left ∷ []) (lines_of (drop_through 10 left))))
+  | inr h ↦ inr (rest ∙ ap (λ l. lines ++ l) h.0, h.1)
+])
+rest_more (Some bytes) (Some left) new lines line (inr rest) next drops = let none : 0 < 0 = rw rest.1 at next.0 in absurd (omega arith)
 
-pub left_bad : (start p : Player) (o old : Option (List ℕ)) (n : ℕ) (line : List ℕ) (done : List ℕ) → Left start o p old n done → IsNext old line → command_of line ≡ None →
-    IfSome o (λ bytes. Plays 1 start (lines_of bytes) (BadLine (n + 1)) done)
-left_bad start p None old n line done left next bad = tt
-left_bad start p (Some bytes) None n line done left next bad = absurd left
-left_bad start p (Some bytes) (Some rest) n line done left next bad =
-    rw (← append-nil done) (left (BadLine (n + 1)) [] (plays_bad (n + 1) p rest (rw (← next.1) bad)))
+pub upto_more : (start p mid : Player) (bytes old new : Option (List ℕ)) (n : ℕ) (line : List ℕ) (command : Command) (trace first : List Happened) →
+    Upto start bytes p old n trace → IsNext old line → DropsThrough old new 10 → command_of line ≡ Some command → Obeys p command mid first →
+    Upto start bytes mid new (n + 1) (trace ++ first)
+upto_more start p mid bytes old new n line command trace first upto next drops is obeys = record {
+  lines = upto.lines ++ line ∷ [];
+  rest = rest_more bytes old new upto.lines line upto.rest next drops;
+  plays = λ others played more end plays. rw (append_assoc upto.lines (line ∷ []) others, append_assoc trace first more)
+      (upto.plays (line ∷ others) played (first ++ more) end (rw is (mid, first, more, obeys, refl, plays)));
+}
 
-pub left_end : (start p : Player) (o old : Option (List ℕ)) (n : ℕ) (done last : List ℕ) → Left start o p old n done → IsAtEnd old → Plays (n + 1) p [] All last →
-    IfSome o (λ bytes. Plays 1 start (lines_of bytes) All (done ++ last))
-left_end start p None old n done last left end plays = tt
-left_end start p (Some bytes) None n done last left end plays = absurd left
-left_end start p (Some bytes) (Some rest) n done last left end plays = left All last (rw end (plays_end (n + 1) p All last plays))
+-- these others are left
+ends_with : (start p : Player) (bytes left : Option (List ℕ)) (n : ℕ) (trace : List Happened) (upto : Upto start bytes p left n trace) (others : List (List ℕ)) (played : Played) →
+    Plays (n + 1) p others played [] p → IfSome bytes (λ bytes. upto.lines ++ others ≡ lines_of bytes) → Course start bytes played trace p
+ends_with start p bytes left n trace upto others played plays read =
+    record { lines = upto.lines ++ others; are_read = read; plays = rw append-nil at (upto.plays others played [] p plays) }
+
+-- a line that is no command ends it
+pub upto_bad : (start p : Player) (bytes left : Option (List ℕ)) (n : ℕ) (line : List ℕ) (trace : List Happened) →
+    Upto start bytes p left n trace → IsNext left line → command_of line ≡ None → Course start bytes (BadLine (n + 1)) trace p
+upto_bad start p None left n line trace upto next bad = ends_with start p None left n trace upto (line ∷ []) (BadLine (n + 1)) (rw bad (refl, refl, refl)) tt
+upto_bad start p (Some bytes) None n line trace upto next bad = absurd upto.rest
+upto_bad start p (Some bytes) (Some left) n line trace upto next bad = elim upto.rest [
+  | inl rest ↦ elim (lines_of-piece left) [
+    | inl h ↦ ends_with start p (Some bytes) (Some left) n trace upto (first_piece 10 left ∷ lines_of (drop_through 10 left)) (BadLine (n + 1)) (rw (← next.1, bad) (refl, refl, refl)) (sym (rest ∙ ap (λ l. upto.lines ++ l) h))
+    | inr h ↦ ends_with start p (Some bytes) (Some left) n trace upto (first_piece 10 left ∷ []) (BadLine (n + 1)) (rw (← next.1, bad) (refl, refl, refl)) (sym (rest ∙ ap (λ l. upto.lines ++ l) h.0))
+  ]
+  | inr rest ↦ let none : 0 < 0 = rw rest.1 at next.0 in absurd (omega arith)
+]
+
+-- the reader's end does
+pub upto_end : (start p : Player) (bytes left : Option (List ℕ)) (n : ℕ) (trace : List Happened) →
+    Upto start bytes p left n trace → IsAtEnd left → Course start bytes All trace p
+upto_end start p None left n trace upto end = ends_with start p None left n trace upto [] All (refl, refl, refl) tt
+upto_end start p (Some bytes) None n trace upto end = absurd upto.rest
+upto_end start p (Some bytes) (Some left) n trace upto end = elim upto.rest [
+  | inl rest ↦ ends_with start p (Some bytes) (Some left) n trace upto (lines_of []) All (plays_end (n + 1) p) (sym (rest ∙ ap (λ l. upto.lines ++ lines_of l) end))
+  | inr rest ↦ ends_with start p (Some bytes) (Some left) n trace upto [] All (refl, refl, refl) (append-nil upto.lines ∙ sym rest.0)
+]

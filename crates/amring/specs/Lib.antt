@@ -5,3 +5,4 @@ pub mod Output
 pub mod Playing
 pub mod Request
 pub mod Scenario
+pub mod Trace

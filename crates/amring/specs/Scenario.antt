@@ -1,28 +1,37 @@
--- A whole scenario: its lines, and what playing them does.
-use Rattle.std.specs.Prelude.{ℕ, ◌==◌, List, Option, IfSome}
+-- A whole scenario: its lines, and what playing them comes to.
+use Rattle.std.specs.Prelude.{◌≡◌, ℕ, ◌==◌, List, [], ◌++◌, Option, IfSome}
 use Rattle.std.specs.List.{slice_split}
-use Rattle.std.specs.Io.KnownBytes.{Appends}
 use Rattle.am_world.specs.declared.setup.Setup.{Setup}
+use Rattle.am_world.specs.Alone.{Alone}
+use Rattle.am_world.specs.View.{names_once}
 use Rattle.amring.specs.declared.play.Played.{Played}
 use Rattle.amring.specs.declared.play.Player.{Player}
 use Rattle.amring.specs.Playing.{Plays, IsStart}
+use Rattle.amring.specs.Trace.{Happened, events, outputs, no_fault}
 
 -- the lines, which end at LF; what follows the last LF is a line too
 abbrev pub lines_of : List ℕ → List (List ℕ)
 lines_of bytes = slice_split (λ b. b == 10) bytes
 
--- the bytes that a reader has left, or that a writer holds, where they are known
+-- the bytes that a reader has left, where they are known
 abbrev pub Known : Type 0
 Known = Option (List ℕ)
 
--- lines of known bytes were played from a player on, and the writer that held `old` holds what was written too
-pub record PlaysFrom (start : Player) (bytes : Known) (played : Played) (old new : Known) : Type 0 where
-  pub written : List ℕ
-  pub appends : Appends old new written
-  pub plays : IfSome bytes (λ bytes. Plays 1 start (lines_of bytes) played written)
+-- lines were played, and this happened; they are the reader's, where its bytes are known
+pub record Course (start : Player) (bytes : Known) (played : Played) (trace : List Happened) (end : Player) : Type 0 where
+  pub lines : List (List ℕ)
+  pub are_read : IfSome bytes (λ bytes. lines ≡ lines_of bytes)
+  pub plays : Plays 1 start lines played trace end
 
--- the same from the beginning
-pub record PlaysScenario (setup : Setup) (bytes : Known) (played : Played) (old new : Known) : Type 0 where
+-- .. from a new world on, in which so many faults came
+pub record Scenario (setup : Setup) (bytes : Known) (played : Played) (trace : List Happened) (faults : ℕ) : Type 0 where
   pub start : Player
   pub is_start : IsStart setup start
-  pub plays : PlaysFrom start bytes played old new
+  pub end : Player
+  pub course : Course start bytes played trace end
+  pub counted : faults ≡ end.world.faults
+
+-- wherever a trace is cut: where no fault came before the cut, each tenant is as if alone until there
+abbrev pub AloneUntilFault : ℕ → List Happened → Type 0
+AloneUntilFault start trace = (first rest : List Happened) → trace ≡ first ++ rest → no_fault first →
+    names_once [] (events first) → Alone start (events first) (outputs first)

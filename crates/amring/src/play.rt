@@ -1,11 +1,13 @@
-ghost use Rattle.std.specs.Prelude.{◌≡◌, ◌&&◌, not, is_none, Some, IfOk, OnOk, string_bytes};
+ghost use Rattle.std.specs.Prelude.{◌≡◌, ◌++◌, ◌&&◌, not, is_none, ℕ, List, [], Some, IfOk, OnOk, string_bytes};
 ghost use Rattle.std.specs.List.{flat_map};
 ghost use Rattle.std.specs.Io.KnownBytes.{Appends};
+ghost use Rattle.am_world.specs.Alone.{Alone};
 ghost use Rattle.am_world.specs.Refusal.{refusal};
+ghost use Rattle.am_world.specs.View.{names_once};
 ghost use Rattle.amring.specs.Output.{reply_line, is_answered};
-ghost use Rattle.amring.specs.Playing.{Writes, Happens, Gives, Calls, Obeys};
-ghost use Rattle.amring.specs.Playing.{faults_line, instance_of, output_line, refusal_line};
-ghost use Rattle.amring.specs.Scenario.{PlaysFrom, PlaysScenario};
+ghost use Rattle.amring.specs.Playing.{Happens, Gives, Calls, Obeys, ending, faults_line, instance_of};
+ghost use Rattle.amring.specs.Scenario.{Course, Scenario, AloneUntilFault};
+ghost use Rattle.amring.specs.Trace.{Happened, Prints, events, outputs, printed, output_line, refusal_line};
 
 use crate::command::{Command, Request};
 use crate::connections::Connections;
@@ -33,16 +35,26 @@ pub enum Played {
 }
 
 /// Plays the scenario that `reader` holds against a new world, and writes its output lines to `writer`.
-/// An error is one of reading or writing, or has the kind `OutOfMemory`; what was written stays.
+///
+/// What is written are the lines of a trace: what happened, event by event. Of the outputs in it each tenant's are, byte
+/// for byte and in order, those of a private cluster that has this tenant alone, provided that no fault came and no
+/// connection's name was opened twice.
+///
+/// An error is one of reading or writing, or has the kind `OutOfMemory`; what was written stays, which is the text of
+/// lines before it.
 pub fn play<R: BufRead + Drop, W: Write>(
     alloc: Global,
     setup: Setup,
     reader: R,
     writer: &mut W,
 ) -> io::Result<Played>
-    // Where the bytes of the reader and of the writer are known.
-    ensures { IfOk result (λ played.
-        PlaysScenario setup (R.remaining reader) played (W.contents writer.old) (W.contents writer.new)) }
+    // There are a trace and a number of faults of which this holds. The lines played are the reader's where its bytes
+    // are known.
+    ensures { IfOk result (λ played. (trace : List Happened) × (faults : ℕ)
+        × Scenario setup (R.remaining reader) played trace faults
+        × Appends (W.contents writer.old) (W.contents writer.new) (printed trace ++ ending played faults)
+        × (faults ≡ 0 → names_once [] (events trace) → Alone setup.start (events trace) (outputs trace))
+        × AloneUntilFault setup.start trace) }
 {
     let mut player = Player {
         world: World::open(alloc, setup),
@@ -63,33 +75,46 @@ struct Player {
 }
 
 impl Player {
-    /// Plays the lines that are left, up to one that is no command.
+    /// Plays the lines that are left, up to one that is no command. The text of each line is written before the next
+    /// line is read.
     fn play_lines<R: BufRead + Drop, W: Write>(
         &mut self,
         alloc: Global,
         reader: R,
         writer: &mut W,
     ) -> io::Result<Played>
-        ensures { IfOk result (λ played.
-            PlaysFrom self.old (R.remaining reader) played (W.contents writer.old) (W.contents writer.new)) }
+        ensures { IfOk result (λ played. (trace : List Happened)
+            × Course self.old (R.remaining reader) played trace self.new
+            × Appends (W.contents writer.old) (W.contents writer.new)
+            (printed trace ++ ending played self.new.world.faults)) }
     {
         let mut number = 0u64;
         for line in reader.split(alloc, b'\n') {
             let line = line?;
             number += 1;
             match read_command(alloc, line.as_slice()) {
-                Ok(command) => self.obey(alloc, command, writer)?,
+                Ok(command) => {
+                    let mut lines = String::new(alloc);
+                    self.obey(alloc, command, &mut lines)?;
+                    writer.write_all(lines.as_bytes())?;
+                }
                 Err(LineFault::NotACommand) => return Ok(Played::BadLine(number)),
                 Err(LineFault::OutOfMemory) => return Err(io::ErrorKind::OutOfMemory.into()),
             }
         }
-        write_faults(self.world.faults(), writer)?;
+        let last = faults_line(alloc, self.world.faults())?;
+        writer.write_all(last.as_bytes())?;
         Ok(Played::All)
     }
 
-    /// Does what a line asks for.
-    fn obey<W: Write>(&mut self, alloc: Global, command: Command, writer: &mut W) -> io::Result<()>
-        ensures { OnOk result (Writes (W.contents writer.old) (W.contents writer.new)
+    /// Does what a line asks for, and adds what is to be written of it to `lines`.
+    fn obey(
+        &mut self,
+        alloc: Global,
+        command: Command,
+        lines: &mut String,
+    ) -> Result<(), AllocError>
+        ensures { OnOk result (Prints (string_bytes lines.old) (string_bytes lines.new)
             (Obeys self.old command self.new)) }
     {
         match command {
@@ -100,7 +125,7 @@ impl Player {
             }
             Command::Tick => {
                 let moment = self.moment;
-                self.happen(alloc, &Event::Tick { moment }, writer)?;
+                self.happen(alloc, &Event::Tick { moment }, lines)?;
                 Ok(())
             }
             Command::Open {
@@ -108,12 +133,12 @@ impl Player {
                 instance,
             } => {
                 let connection = self.connections.id(alloc, connection.as_str())?;
-                self.open(alloc, connection, instance, writer)?;
+                self.open(alloc, connection, instance, lines)?;
                 Ok(())
             }
             Command::Bytes { connection, text } => {
                 let connection = self.connections.id(alloc, connection.as_str())?;
-                self.give(alloc, connection, text.as_str().as_bytes(), writer)
+                self.give(alloc, connection, text.as_str().as_bytes(), lines)
             }
             Command::Call {
                 connection,
@@ -122,58 +147,58 @@ impl Player {
             } => {
                 let connection = self.connections.id(alloc, connection.as_str())?;
                 let text = request.to_text(alloc)?;
-                self.call(alloc, connection, instance, text.as_bytes(), writer)
+                self.call(alloc, connection, instance, text.as_bytes(), lines)
             }
         }
     }
 
     /// Opens a connection and gives it a whole request.
-    fn call<W: Write>(
+    fn call(
         &mut self,
         alloc: Global,
         connection: ConnectionId,
         instance: u64,
         request: &[u8],
-        writer: &mut W,
-    ) -> io::Result<()>
-        ensures { OnOk result (Writes (W.contents writer.old) (W.contents writer.new)
+        lines: &mut String,
+    ) -> Result<(), AllocError>
+        ensures { OnOk result (Prints (string_bytes lines.old) (string_bytes lines.new)
             (Calls connection self.old (instance_of instance) request.now self.new)) }
     {
-        if self.open(alloc, connection, instance, writer)? {
-            self.give(alloc, connection, request, writer)?;
+        if self.open(alloc, connection, instance, lines)? {
+            self.give(alloc, connection, request, lines)?;
         }
         Ok(())
     }
 
     /// Opens a connection, and says whether the world took it. No ring has an instance past 255.
-    fn open<W: Write>(
+    fn open(
         &mut self,
         alloc: Global,
         connection: ConnectionId,
         instance: u64,
-        writer: &mut W,
-    ) -> io::Result<bool>
+        lines: &mut String,
+    ) -> Result<bool, AllocError>
         ensures taken { IfOk result (λ taken.
             taken ≡ is_none (refusal self.old.world (Event.Open connection (instance_of instance)))) }
-        ensures happens { OnOk result (Writes (W.contents writer.old) (W.contents writer.new)
+        ensures happens { OnOk result (Prints (string_bytes lines.old) (string_bytes lines.new)
             (Happens self.old (Event.Open connection (instance_of instance)) self.new)) }
     {
         let event = Event::Open {
             connection,
             instance: instance.min(u64::from(u8::MAX)) as u8,
         };
-        self.happen(alloc, &event, writer)
+        self.happen(alloc, &event, lines)
     }
 
     /// Gives bytes to a connection, piece by piece, until it is answered or a piece is refused.
-    fn give<W: Write>(
+    fn give(
         &mut self,
         alloc: Global,
         connection: ConnectionId,
         bytes: &[u8],
-        writer: &mut W,
-    ) -> io::Result<()>
-        ensures { OnOk result (Writes (W.contents writer.old) (W.contents writer.new)
+        lines: &mut String,
+    ) -> Result<(), AllocError>
+        ensures { OnOk result (Prints (string_bytes lines.old) (string_bytes lines.new)
             (Gives connection self.old bytes.now self.new)) }
     {
         for piece in bytes.chunks(PIECE) {
@@ -182,7 +207,7 @@ impl Player {
                 moment: self.moment,
                 piece: Octets::read(alloc, piece)?,
             };
-            let is_taken = self.happen(alloc, &event, writer)?;
+            let is_taken = self.happen(alloc, &event, lines)?;
             if !self.goes_on(is_taken, connection) {
                 return Ok(());
             }
@@ -197,53 +222,60 @@ impl Player {
         is_taken && !is_answered(self.world.outputs(), connection)
     }
 
-    /// Hands an event to the world and writes its outputs, and then its refusal. Says whether it was taken.
-    fn happen<W: Write>(&mut self, alloc: Global, event: &Event, writer: &mut W) -> io::Result<bool>
+    /// Hands an event to the world and adds the lines of its outputs, and then of its refusal. Says whether it was
+    /// taken.
+    fn happen(
+        &mut self,
+        alloc: Global,
+        event: &Event,
+        lines: &mut String,
+    ) -> Result<bool, AllocError>
         ensures taken { IfOk result (λ taken. taken ≡ is_none (refusal self.old.world event.now)) }
-        ensures happens { OnOk result (Writes (W.contents writer.old) (W.contents writer.new)
+        ensures happens { OnOk result (Prints (string_bytes lines.old) (string_bytes lines.new)
             (Happens self.old event.now self.new)) }
     {
         self.world.clear_outputs();
         let taken = self.world.step(alloc, event);
-        self.write_outputs(alloc, writer)?;
+        self.push_outputs(alloc, lines)?;
         match taken {
             Ok(()) => Ok(true),
             Err(refused) => {
-                write_refusal(refused, writer)?;
+                push_refusal(lines, refused)?;
                 Ok(false)
             }
         }
     }
 
-    /// Writes what the world put out at the last event.
-    fn write_outputs<W: Write>(&self, alloc: Global, writer: &mut W) -> io::Result<()>
-        ensures { OnOk result (Appends (W.contents writer.old) (W.contents writer.new)
-            (flat_map (output_line self.now.connections) self.now.world.outputs.items)) }
+    /// Adds the lines of what the world put out at the last event.
+    fn push_outputs(&self, alloc: Global, lines: &mut String) -> Result<(), AllocError>
+        ensures { OnOk result (string_bytes lines.new ≡ string_bytes lines.old ++
+            flat_map (output_line self.now.connections) self.now.world.outputs.items) }
     {
         for output in self.world.outputs() {
             let Output::Reply { connection, bytes } = output;
             if let Some(name) = self.connections.name(*connection) {
                 let line = reply_line(alloc, name, bytes.as_slice())?;
-                writer.write_all(line.as_bytes())?;
+                lines.push_str(line.as_str())?;
             }
         }
         Ok(())
     }
 }
 
-/// Writes the line of a refusal.
-fn write_refusal<W: Write>(refused: Refused, writer: &mut W) -> io::Result<()>
-    ensures { OnOk result (Appends (W.contents writer.old) (W.contents writer.new) (refusal_line (Some refused))) }
+/// Adds the line of a refusal.
+fn push_refusal(lines: &mut String, refused: Refused) -> Result<(), AllocError>
+    ensures { OnOk result (string_bytes lines.new ≡ string_bytes lines.old ++ refusal_line (Some refused)) }
 {
-    let code = refused.code();
-    writeln!(writer, "refused {code}")
+    lines.push_str("refused ")?;
+    lines.push_str(refused.code())?;
+    lines.push_str("\n")
 }
 
-/// Writes the last line of a scenario.
-fn write_faults<W: Write>(faults: u64, writer: &mut W) -> io::Result<()>
-    ensures { OnOk result (Appends (W.contents writer.old) (W.contents writer.new) (faults_line faults)) }
+/// The last line of a scenario.
+fn faults_line(alloc: Global, faults: u64) -> Result<String, AllocError>
+    ensures { IfOk result (λ line. string_bytes line ≡ faults_line faults) }
 {
-    writeln!(writer, "faults {faults}")
+    format!(in alloc; "faults {faults}\n")
 }
 
 /// Whether the outputs have a reply on the connection.

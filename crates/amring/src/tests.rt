@@ -2,10 +2,15 @@
 
 use crate::options::options;
 use crate::play::{Played, play};
+use am_http::ConnectionId;
+use am_text::Octets;
+use am_world::event::{Event, Output};
+use am_world::theorem::run_both;
+use am_world::world::World;
 use serde_json::Value;
 use std::alloc::Global;
 use std::io;
-use std::io::Write;
+use std::io::{BufReader, Read, Write};
 use std::test::Fail;
 
 // One alert is posted and read back.
@@ -216,6 +221,75 @@ fn a_writer_fails(rt: HostRuntime) -> Result<(), Fail> {
     Ok(())
 }
 
+/// A reader that gives at most seven bytes in a call, and fails once it has given them all.
+#[derive(Drop)]
+struct Broken<'a> {
+    rest: &'a [u8],
+}
+
+impl<'a> Read for Broken<'a> {
+    fn read(&mut self, buf: &mut [u8]) -> io::Result<usize> {
+        let count = self.rest.len().min(buf.len()).min(7);
+        if count == 0 {
+            return Err(io::ErrorKind::ConnectionReset.into());
+        }
+        buf[..count].copy_from_slice(&self.rest[..count]);
+        self.rest = &self.rest[count..];
+        Ok(count)
+    }
+}
+
+#[test]
+fn a_reader_fails(rt: HostRuntime) -> Result<(), Fail> {
+    let alloc = rt.alloc();
+    let (scenario, wanted) = POSTED_TWICE;
+    for length in 0..scenario.len() + 1 {
+        let read = std::str::from_utf8(&scenario.as_bytes()[..length])?;
+        let setup = options(alloc, ["amring", "run"].as_slice())?;
+        let mut written = Vec::new(alloc);
+        let reader = BufReader::new(
+            alloc,
+            Broken {
+                rest: read.as_bytes(),
+            },
+        )?;
+        match play(alloc, setup, reader, &mut written) {
+            Ok(_) => return Err("a scenario without an end was played".into()),
+            Err(fault) => assert_eq!(rt; fault.kind(), io::ErrorKind::ConnectionReset),
+        }
+        // The replies of the lines that were read whole.
+        let (lines, _) = read.rsplit_once('\n').unwrap_or(("", ""));
+        let calls = lines
+            .lines()
+            .filter(|line| line.starts_with("call"))
+            .count();
+        let mut replies = String::new(alloc);
+        for reply in wanted.lines().take(calls) {
+            replies.push_str(reply)?;
+            replies.push('\n')?;
+        }
+        assert!(rt; written.as_slice() == replies.as_bytes(), "{length} bytes");
+    }
+    Ok(())
+}
+
+#[test]
+fn a_request_of_many_pieces(rt: HostRuntime) -> Result<(), Fail> {
+    let alloc = rt.alloc();
+    let (whole, wanted) = POSTED_AND_READ;
+    let (posts, reads) = whole.split_once("]\"").ok_or("no post")?;
+    let mut scenario = String::from_str(alloc, posts)?;
+    for _ in 0..20_000 {
+        scenario.push(' ')?;
+    }
+    scenario.push_str("]\"")?;
+    scenario.push_str(reads)?;
+    let (end, written) = played(alloc, scenario.as_bytes())?;
+    assert_eq!(rt; end, Played::All);
+    assert!(rt; written.as_slice() == wanted.as_bytes());
+    Ok(())
+}
+
 #[test]
 fn bad_lines(rt: HostRuntime) -> Result<(), Fail> {
     for line in [
@@ -395,6 +469,65 @@ fn tenants_are_alone(rt: HostRuntime) -> Result<(), Fail> {
         let among = lines_of(alloc, together.as_str(), tenant)?;
         assert_eq!(rt; end, Played::All, "tenant {tenant}");
         assert!(rt; among.as_bytes() == alone.as_slice(), "tenant {tenant}");
+    }
+    Ok(())
+}
+
+/// A whole request that comes at once on a connection of its own.
+fn asked(
+    alloc: Global,
+    events: &mut Vec<Event>,
+    connection: u64,
+    request: &str,
+) -> Result<(), Fail> {
+    let connection = ConnectionId::new(connection);
+    events.push(Event::Open {
+        connection,
+        instance: 1,
+    })?;
+    events.push(Event::Bytes {
+        connection,
+        moment: 1_750_000_000_000,
+        piece: Octets::read(alloc, request.as_bytes())?,
+    })?;
+    Ok(())
+}
+
+/// The reply on a connection.
+fn reply_on(world: &World, connection: u64) -> Option<&[u8]> {
+    world.outputs().iter().find_map(|output| {
+        let Output::Reply {
+            connection: answered,
+            bytes,
+        } = output;
+        (*answered == ConnectionId::new(connection)).then_some(bytes.as_slice())
+    })
+}
+
+#[test]
+fn equal_views_give_equal_outputs(rt: HostRuntime) -> Result<(), Fail> {
+    let alloc = rt.alloc();
+    let setup = options(alloc, ["amring", "run"].as_slice())?;
+    let mut events = Vec::new(alloc);
+    asked(alloc, &mut events, 0, POST_A)?;
+    asked(alloc, &mut events, 1, READ)?;
+    let mut among = Vec::new(alloc);
+    asked(alloc, &mut among, 2, POST_B)?;
+    asked(alloc, &mut among, 0, POST_A)?;
+    asked(alloc, &mut among, 3, READ_B)?;
+    asked(alloc, &mut among, 1, READ)?;
+    let (world, other) = run_both(alloc, setup, events.as_slice(), setup, among.as_slice());
+    assert_eq!(rt; world.outputs().len(), 2);
+    assert_eq!(rt; other.outputs().len(), 4);
+    for connection in 0..2 {
+        assert!(rt;
+            reply_on(&world, connection).is_some(),
+            "connection {connection}"
+        );
+        assert!(rt;
+            reply_on(&world, connection) == reply_on(&other, connection),
+            "connection {connection}"
+        );
     }
     Ok(())
 }

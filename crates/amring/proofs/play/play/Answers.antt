@@ -1,12 +1,21 @@
 use Rattle.std.proofs.Common.{refl}
 use Rattle.amring.proofs.PlayingLemmas.{appends_kept}
+use Rattle.amring.proofs.TraceLemmas.{course_alone, course_until_fault}
+use Rattle.amring.specs.Playing.{IsStart}
+use Rattle.amring.specs.declared.play.Player.{Player}
 use Rattle.amring.proofs.play.play.Goals as goal
 
 pub returns : goal.returns
 returns g c =
-    let played = c.in_ok-played.ensures in
-    record {
-      start = record { world = c.open.result; connections = c.new.result; moment = 0 };
-      is_start = record { opens = c.open.ensures; connections = c.new.ensures; moment = refl };
-      plays = record { written = played.written; appends = appends_kept _ _ _ _ played.appends c.flush.ensures.bytes; plays = played.plays };
-    }
+    let trace = c.in_ok-played.ensures.0 in
+    let course = c.in_ok-played.ensures.1 in
+    let start : Player = record { world = c.open.result; connections = c.new.result; moment = 0 } in
+    let end : Player = c.play_lines.new.self in
+    let is_start : IsStart c.args.setup start = record { opens = c.open.ensures; connections = c.new.ensures; moment = refl } in (
+      trace,
+      end.world.faults,
+      record { start = start; is_start = is_start; end = end; course = course; counted = refl },
+      appends_kept _ _ _ _ c.in_ok-played.ensures.2 c.flush.ensures.bytes,
+      course_alone c.args.setup start (g.R.Read.remaining c.args.reader) c.in_ok-played.played trace end is_start course,
+      course_until_fault c.args.setup start (g.R.Read.remaining c.args.reader) c.in_ok-played.played trace end is_start course,
+    )

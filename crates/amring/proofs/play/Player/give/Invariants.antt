@@ -1,15 +1,17 @@
-use Rattle.std.proofs.Common.{◌≡◌, ℕ, List, ◌++◌}
-use Rattle.std.specs.Io.KnownBytes.{Appends}
+use Rattle.std.proofs.Common.{◌≡◌, List, ◌++◌, string_bytes}
 use Rattle.std.specs.Slice.Iter.{chunks_rest, chunks_size}
 use Rattle.amring.specs.Playing.{Gives}
+use Rattle.amring.specs.Trace.{Happened, printed}
 use Rattle.amring.specs.declared.play.Player.{Player}
 use Rattle.amring.proofs.play.Player.give.Given as goal
 
--- what was written so far stands before what the rest of the bytes will write
+-- what happened so far stands before what the rest of the bytes will bring
 abbrev pub invariant-loop-piece : goal.invariant-loop-piece
-invariant-loop-piece g l =
-    (goal.iterator-loop-piece g).can_next l.piece-iterator
-    × (goal.iterator-loop-piece g).is_finite l.piece-iterator
-    × (chunks_size l.piece-iterator ≡ 4096)
-    × (done : List ℕ) × Appends (g.W.Write.contents l.fn.writer) (g.W.Write.contents l.writer) done
-    × ((p : Player) (rest : List ℕ) → Gives l.fn.connection l.self (chunks_rest l.piece-iterator) p rest → Gives l.fn.connection l.fn.self l.fn.bytes p (done ++ rest))
+invariant-loop-piece l = record {
+  can_next : (goal.iterator-loop-piece).can_next l.piece-iterator;
+  is_finite : (goal.iterator-loop-piece).is_finite l.piece-iterator;
+  size : chunks_size l.piece-iterator ≡ 4096;
+  done : List Happened;
+  printed : string_bytes l.lines ≡ string_bytes l.fn.lines ++ printed done;
+  gives : (p : Player) (rest : List Happened) → Gives l.fn.connection l.self (chunks_rest l.piece-iterator) p rest → Gives l.fn.connection l.fn.self l.fn.bytes p (done ++ rest);
+}

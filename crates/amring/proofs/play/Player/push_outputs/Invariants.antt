@@ -1,0 +1,7 @@
+use Rattle.std.proofs.Common.{◌≡◌, ◌++◌, take, string_bytes}
+use Rattle.std.specs.List.{flat_map}
+use Rattle.amring.specs.Trace.{output_line}
+use Rattle.amring.proofs.play.Player.push_outputs.Given as goal
+
+abbrev pub invariant-loop-output : goal.invariant-loop-output
+invariant-loop-output l = string_bytes l.lines ≡ string_bytes l.fn.lines ++ flat_map (output_line l.fn.self.connections) (take l.output-index l.output-items)

@@ -1,0 +1,55 @@
+-- The trace of a scenario: what happened, event by event, and the lines that are written of it.
+use Rattle.std.specs.Prelude.{◌≡◌, ℕ, List, [], ◌∷◌, ◌++◌, map, slice_get, Option, None, Some, codes}
+use Rattle.std.specs.List.{flat_map}
+use Rattle.am_world.specs.declared.event.Event.{Event}
+use Rattle.am_world.specs.declared.event.Output.{Output}
+use Rattle.am_world.specs.declared.event.Output.TheVariants.{Reply}
+use Rattle.am_world.specs.declared.event.Refused.{Refused}
+use Rattle.am_world.specs.RefusalCode.{code_of}
+use Rattle.amring.specs.Output.{reply_line}
+
+-- the line of a reply on the connection of this name, where it has one
+abbrev pub named_line : List ℕ → Option (List ℕ) → List ℕ
+named_line bytes None = []
+named_line bytes (Some name) = reply_line name bytes
+
+-- the line of an output, where a connection's number is the place of its name
+abbrev pub output_line : List (List ℕ) → Output → List ℕ
+output_line names (Reply c bytes) = named_line bytes (slice_get names c)
+
+-- the line of a refusal
+abbrev pub refusal_line : Option Refused → List ℕ
+refusal_line None = []
+refusal_line (Some refused) = codes "refused " ++ (code_of refused ++ 10 ∷ [])
+
+-- what the trace keeps of an event: its outputs, why it was refused, if it was, the names of connections, and how many
+-- faults had come then
+pub record Happened : Type 0 where
+  pub event : Event
+  pub outputs : List Output
+  pub refused : Option Refused
+  pub names : List (List ℕ)
+  pub faults : ℕ
+
+-- the lines of what happened: those of its outputs, and then that of its refusal
+abbrev pub text_of : Happened → List ℕ
+text_of h = flat_map (output_line h.names) h.outputs ++ refusal_line h.refused
+
+-- the events of a trace, all their outputs, and all their lines
+abbrev pub events : List Happened → List Event
+events trace = map (λ (h : Happened). h.event) trace
+
+abbrev pub outputs : List Happened → List Output
+outputs trace = flat_map (λ (h : Happened). h.outputs) trace
+
+abbrev pub printed : List Happened → List ℕ
+printed trace = flat_map text_of trace
+
+-- no fault had come after any event of the trace
+abbrev pub no_fault : List Happened → Type 0
+no_fault [] = Unit {0}
+no_fault (h ∷ trace) = (h.faults ≡ 0) × no_fault trace
+
+-- a text grew by the lines of a trace of which this holds
+abbrev pub Prints : List ℕ → List ℕ → (List Happened → Type 0) → Type 0
+Prints old new Holds = (trace : List Happened) × (new ≡ old ++ printed trace) × Holds trace
