@@ -21,7 +21,7 @@ use Rattle.am_config.specs.declared.fault.ConfigFault.{ConfigFault}
 use Rattle.am_config.specs.declared.fault.ConfigFault.TheVariants.{NotJson, BadForm, BadReceiver, RootMatchers, BadDuration, LeftOut, BadMatcher, TooMany, BadUrl, BuildRefused, OutOfMemory}
 use Rattle.am_draft.specs.Drafts.{draft_in, has_left_out}
 use Rattle.am_config.specs.declared.parts.Receiver.{Receiver}
-use Rattle.am_config.specs.Checks.{counts_fit, receivers_fit, is_root_bare, durations_fit}
+use Rattle.am_config.specs.Checks.{is_repeated, counts_fit, receivers_fit, is_root_bare, durations_fit}
 use Rattle.am_config.specs.Completing.{completed, receivers_of}
 use Rattle.am_config.specs.Configuration.{Configuration}
 use Rattle.am_config.specs.Judging.{fault_before, after_matchers, judged, configuration, IsFaultOf, IsLate, unless}
@@ -204,3 +204,8 @@ pub text_of : (draft : Draft) (result : Result Configuration ConfigFault) → If
     IfOk result (λ c. c.text ≡ draft.text)
 text_of draft (Ok c) is = (judged_text draft c is).0
 text_of draft (Err fault) is = tt
+
+-- a draft where two receivers have one name
+pub repeated_fault : (draft : Draft) → false ≡ not (is_repeated draft.receivers) → judged draft ≡ Err BadReceiver
+unfolding receivers_fit
+repeated_fault draft e = rw (← e) refl

@@ -1,7 +1,5 @@
 -- What holds for a route: what it says itself, and for the rest what the nearest route around it says.
 use Rattle.std.specs.Prelude.{ℕ, ◌+◌, Bool, ◌&&◌, nat_le, List, [], ◌∷◌, ◌++◌, length, Option, Some, None, Result, Ok, Err, is_some, unwrap_or, if◌then◌else◌}
-use Rattle.std.specs.List.{position}
-use Rattle.std.specs.Str.{bytes_eq}
 use Rattle.am_text.specs.Duration.{duration}
 use Rattle.am_text.specs.declared.fault.TextFault.{TextFault}
 use Rattle.am_draft.specs.declared.receiver.ReceiverDraft.{ReceiverDraft}
@@ -9,6 +7,7 @@ use Rattle.am_draft.specs.declared.route.RouteDraft.{RouteDraft}
 use Rattle.am_draft.specs.declared.tree.Node.{Node}
 use Rattle.am_draft.specs.Trees.{Forest, none, tree, flat}
 use Rattle.am_config.specs.declared.parts.Settings.{Settings}
+use Rattle.am_config.specs.Places.{place}
 
 -- what holds where no route says anything: 30 seconds, 5 minutes, 4 hours, and no label to group by
 abbrev pub defaults : Settings
@@ -27,7 +26,7 @@ span otherwise (Some text) = milliseconds otherwise (duration text)
 -- the place of the receiver that is named
 abbrev pub place_of : ℕ → List ReceiverDraft → Option (List ℕ) → ℕ
 place_of otherwise receivers None = otherwise
-place_of otherwise receivers (Some name) = unwrap_or (position (λ (receiver : ReceiverDraft). bytes_eq receiver.name name) receivers) otherwise
+place_of otherwise receivers (Some name) = unwrap_or (place receivers name) otherwise
 
 -- what a route of this number says, and for the rest what holds around it
 unfoldable pub said : List ReceiverDraft → ℕ → Settings → RouteDraft → Settings

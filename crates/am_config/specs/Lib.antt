@@ -9,8 +9,12 @@ pub mod Checks
 pub mod Matching
 -- where the reading of matchers stops
 pub mod Stopping
+-- the places of receivers by their names
+pub mod Places
 -- what holds for each route
 pub mod Inheriting
+-- what routes say themselves
+pub mod Own
 -- the configuration that a draft makes
 pub mod Completing
 -- the configuration that holds where none is stored

@@ -1,12 +1,13 @@
 //! The checks of what a draft says, but for its matchers.
 
-ghost use Rattle.std.specs.Prelude.{◌≡◌, ◌==◌, length, Some, None, Ok, Err};
+ghost use Rattle.std.specs.Prelude.{◌≡◌, ◌==◌, false, length, Some, None, Ok, Err};
 ghost use Rattle.std.specs.List.{list_all};
 ghost use Rattle.am_draft.specs.Drafts.{has_left_out};
 ghost use Rattle.am_config.specs.Checks.{is_listed, is_repeated, has_listed, have_listed, receivers_fit, is_root_bare, is_span, are_spans, have_spans, durations_fit, is_shallow, has_few_webhooks, are_receivers_few, are_routes_few, counts_fit};
 ghost use Rattle.am_config.specs.Judging.{fault_before};
 
 use crate::fault::ConfigFault;
+use crate::named::NamedReceivers;
 use am_draft::{Draft, Intervals, Node, ReceiverDraft, RouteDraft};
 use am_text::{Text, read_duration};
 
@@ -21,11 +22,14 @@ const MOST_WEBHOOKS: usize = 16;
 /// The shortest `group_interval` and `repeat_interval`, in milliseconds.
 const SHORTEST_INTERVAL: u64 = 1000;
 
-/// The first fault before a matcher is read.
-pub(crate) fn fault_before(draft: &Draft) -> Option<ConfigFault>
+/// The first fault before a matcher is read, where these are the draft's receivers, each of a name of its own.
+#[tactic(auto, unfolding(crate::specs::Checks::receivers_fit))]
+pub(crate) fn fault_before(draft: &Draft, receivers: &NamedReceivers) -> Option<ConfigFault>
+    requires apart { is_repeated draft.now.receivers ≡ false }
+    requires receivers { receivers.now ≡ draft.now.receivers }
     ensures { result ≡ fault_before draft.now }
 {
-    if !receivers_fit(draft) {
+    if !have_listed(receivers, draft.routes.as_slice()) {
         return Some(ConfigFault::BadReceiver);
     }
     if !is_root_bare(draft.routes.as_slice()) {
@@ -40,15 +44,7 @@ pub(crate) fn fault_before(draft: &Draft) -> Option<ConfigFault>
     None
 }
 
-#[tactic(auto, unfolding(crate::specs::Checks::receivers_fit))]
-fn receivers_fit(draft: &Draft) -> bool
-    ensures { result ≡ receivers_fit draft.now }
-{
-    let receivers = draft.receivers.as_slice();
-    !is_repeated(receivers) && have_listed(receivers, draft.routes.as_slice())
-}
-
-fn have_listed(receivers: &[ReceiverDraft], routes: &[Node<RouteDraft>]) -> bool
+fn have_listed(receivers: &NamedReceivers, routes: &[Node<RouteDraft>]) -> bool
     ensures { result ≡ have_listed receivers.now routes.now }
 {
     routes
@@ -56,37 +52,15 @@ fn have_listed(receivers: &[ReceiverDraft], routes: &[Node<RouteDraft>]) -> bool
         .all(|node| has_listed(receivers, &node.item.receiver))
 }
 
-// Whether two receivers have one name.
-#[tactic(auto, unfolding(crate::specs::Checks::is_repeated))]
-fn is_repeated(receivers: &[ReceiverDraft]) -> bool
-    ensures { result ≡ is_repeated receivers.now }
-{
-    let mut later = receivers;
-    while let [receiver, rest @ ..] = later {
-        if is_listed(rest, receiver.name.as_str()) {
-            return true;
-        }
-        later = rest;
-    }
-    false
-}
-
 // Whether the receiver is listed; without one the route has that of the route around it.
-fn has_listed(receivers: &[ReceiverDraft], name: &Option<Text>) -> bool
+#[tactic(auto, using(crate::proofs::Placed::listed))]
+fn has_listed(receivers: &NamedReceivers, name: &Option<Text>) -> bool
     ensures { result ≡ has_listed receivers.now name.now }
 {
     match name {
         None => true,
-        Some(name) => is_listed(receivers, name.as_str()),
+        Some(name) => receivers.place(name.as_str()).is_some(),
     }
-}
-
-fn is_listed(receivers: &[ReceiverDraft], name: &str) -> bool
-    ensures { result ≡ is_listed receivers.now name.now }
-{
-    receivers
-        .iter()
-        .any(|receiver| receiver.name.as_str() == name)
 }
 
 #[tactic(auto, unfolding(crate::specs::Checks::is_root_bare))]

@@ -9,8 +9,9 @@ ghost use Rattle.am_config.specs.Matching.{matchers_in};
 ghost use Rattle.am_config.specs.Outcome.{Gives};
 
 use crate::fault::ConfigFault;
-use crate::inheriting::settings_of;
+use crate::inheriting::{owns_of, settings_of};
 use crate::matching::copy_texts;
+use crate::named::NamedReceivers;
 use crate::parts::{Receiver, Route, Webhook};
 use am_draft::{Grouping, Listed, Node, ReceiverDraft, RouteDraft, WebhookDraft};
 use am_match::Matcher;
@@ -21,19 +22,20 @@ use std::alloc::{AllocError, Global};
 #[tactic(auto, unfolding(crate::specs::Completing::routes_from))]
 pub(crate) fn routes_of(
     alloc: Global,
-    receivers: &[ReceiverDraft],
+    receivers: &NamedReceivers,
     routes: &[Node<RouteDraft>],
     matchers: Vec<Listed<Matcher>>,
 ) -> Result<Vec<Node<Route>>, AllocError>
     requires { matchers.items ≡ map (λ (node : Node RouteDraft). matchers_in node.item.matchers) routes.now }
     ensures { IfOk result (λ v. v.items ≡ routes_from receivers.now routes.now 0 routes.now) }
 {
+    let owns = owns_of(alloc, receivers, routes)?;
     let mut read = Vec::new(alloc);
     for matchers in matchers {
         let number = read.len();
         let node = &routes[number];
         let item = Route {
-            settings: settings_of(receivers, routes, number),
+            settings: settings_of(&owns, number),
             grouping: copy_grouping(alloc, &node.item.grouping)?,
             matchers,
             goes_on: node.item.goes_on,

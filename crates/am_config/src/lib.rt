@@ -12,6 +12,7 @@ mod fault;
 mod inheriting;
 pub mod laws;
 mod matching;
+mod named;
 mod parts;
 mod reading;
 

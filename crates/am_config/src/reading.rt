@@ -18,6 +18,7 @@ use crate::config::Config;
 use crate::fault::ConfigFault;
 use crate::inheriting::span;
 use crate::matching::{read_route_matchers, read_rules};
+use crate::named::NamedReceivers;
 use crate::parts::Rule;
 use am_draft::{Draft, Listed};
 use am_match::Matcher;
@@ -79,6 +80,7 @@ impl Config {
 }
 
 // The configuration of a draft, where every check passes.
+#[tactic(auto, using(crate::proofs::Judgements::repeated_fault))]
 fn judged(alloc: Global, draft: &Draft, cache: &mut PatternCache) -> Result<Config, ConfigFault>
     requires { IsTree draft.now.routes }
     ensures ok { IfOk result (λ c. judged draft.now ≡ Ok c) }
@@ -86,11 +88,14 @@ fn judged(alloc: Global, draft: &Draft, cache: &mut PatternCache) -> Result<Conf
     ensures fault { IfErr result (IsFaultOf (Ok draft.now) cache.old.refused cache.new.refused) }
     ensures capacity { cache.new.capacity ≡ cache.old.capacity }
 {
-    if let Some(fault) = fault_before(draft) {
+    let Some(receivers) = NamedReceivers::new(alloc, draft.receivers.as_slice())? else {
+        return Err(ConfigFault::BadReceiver);
+    };
+    if let Some(fault) = fault_before(draft, &receivers) {
         return Err(fault);
     }
     let (matchers, rules) = read_matchers(alloc, draft, cache)?;
-    completed(alloc, draft, matchers, rules)
+    completed(alloc, draft, &receivers, matchers, rules)
 }
 
 // All matchers of a draft: those of the routes, and the inhibit rules.
@@ -116,9 +121,11 @@ fn read_matchers(
 fn completed(
     alloc: Global,
     draft: &Draft,
+    named: &NamedReceivers,
     matchers: Vec<Listed<Matcher>>,
     rules: Vec<Rule>,
 ) -> Result<Config, ConfigFault>
+    requires receivers { named.now ≡ draft.now.receivers }
     requires tree { IsTree draft.now.routes }
     requires matchers { matchers.items ≡ map (λ (node : Node RouteDraft). matchers_in node.item.matchers) draft.now.routes }
     requires rules { rules.items ≡ map rule_of draft.now.rules }
@@ -128,9 +135,8 @@ fn completed(
     if !counts_fit(draft) {
         return Err(ConfigFault::TooMany);
     }
-    let drafts = draft.receivers.as_slice();
-    let receivers = receivers_of(alloc, drafts)?;
-    let routes = routes_of(alloc, drafts, draft.routes.as_slice(), matchers)?;
+    let receivers = receivers_of(alloc, draft.receivers.as_slice())?;
+    let routes = routes_of(alloc, named, draft.routes.as_slice(), matchers)?;
     let text = draft.text.copy(alloc)?;
     Ok(Config {
         text,

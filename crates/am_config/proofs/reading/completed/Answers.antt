@@ -8,7 +8,7 @@ pub invariant_of-result : goal.invariant_of-result
 invariant_of-result c =
     let draft = c.args.draft.now in
     let routes : c.from_vec.result ≡ routes_from draft.receivers draft.routes 0 draft.routes =
-    rw (c.as_slice-drafts.ensures, c.as_slice.ensures) at (c.from_vec.ensures ∙ c.in_ok-routes.ensures) in
+    rw (c.as_slice-2.ensures, c.requires.receivers) at (c.from_vec.ensures ∙ c.in_ok-routes.ensures) in
     rw routes (
       tree-routes_from draft.receivers draft.routes c.requires.tree,
       rw (length-routes_from draft.receivers draft.routes) (few_routes draft (sym c.counts_fit.ensures ∙ c.if-not-counts_fit.false)),
