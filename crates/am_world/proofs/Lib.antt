@@ -7,6 +7,5 @@ mod Opening
 mod Places
 mod Plain
 mod RefusalSeen
-mod Refusing
 mod Run
 pub mod Steps

@@ -1,5 +1,5 @@
 -- What is decided on a request: the items that it brings, and the reply.
-use Rattle.std.specs.Prelude.{◌≡◌, ℕ, List, [], true, false, Result, Ok, Err}
+use Rattle.std.specs.Prelude.{◌≡◌, ℕ, List, [], true, false, Option, Some, None, Result, Ok, Err}
 use Rattle.am_http.specs.Replies.{refusal}
 use Rattle.am_http.specs.declared.request.Method.{Method}
 use Rattle.am_http.specs.declared.request.Method.TheVariants.{Get, Post}
@@ -35,9 +35,14 @@ listed held moment = record { items = []; status = 200; body = alerts_text (firi
 abbrev pub stored : List Item → ℕ → Maker → List Alert → Decision
 stored held moment maker alerts = record { items = made held moment maker alerts; status = 200; body = [] }
 
--- a refusal shows its code, and nothing is stored
+-- the body of a refusal shows its code; only want of memory, which refuses no list, has none
+abbrev pub body_of : Option (List ℕ) → List ℕ
+body_of None = []
+body_of (Some code) = refusal code
+
+-- a list is refused, and nothing is stored
 abbrev pub refused : PostedFault → Decision
-refused fault = record { items = []; status = 400; body = refusal (code_of fault) }
+refused fault = record { items = []; status = 400; body = body_of (code_of fault) }
 
 -- a posted list is stored whole, or refused whole
 abbrev pub stored_or_refused : List Item → ℕ → Maker → Result (List Alert) PostedFault → Decision

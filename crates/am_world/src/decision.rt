@@ -93,12 +93,12 @@ fn refuse(alloc: Global, fault: PostedFault) -> Result<Decided, ItemsFault>
         → (held : List Item) (moment : ℕ) (maker : Maker)
         → Decides result (stored_or_refused held moment maker outcome) }
 {
-    match fault {
-        PostedFault::OutOfMemory => Err(ItemsFault::OutOfMemory),
-        refused => Ok(Decided {
+    match fault.code() {
+        None => Err(ItemsFault::OutOfMemory),
+        Some(code) => Ok(Decided {
             items: Vec::new(alloc),
             status: 400,
-            body: refusal_body(alloc, refused.code())?,
+            body: refusal_body(alloc, code)?,
         }),
     }
 }
