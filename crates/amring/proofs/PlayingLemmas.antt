@@ -21,9 +21,11 @@ pub prints_nothing : (old : List ℕ) (Holds : List Happened → Type 0) → Hol
 prints_nothing old Holds h = ([], sym (append-nil old), h)
 
 -- lines are added one after the other
-pub printed_more : (old mid new : List ℕ) (first rest : List Happened) → mid ≡ old ++ printed first → new ≡ mid ++ printed rest → new ≡ old ++ printed (first ++ rest)
+pub printed_more : (old mid new : List ℕ) (first rest : List Happened) → mid ≡ old ++ printed first →
+    new ≡ mid ++ printed rest → new ≡ old ++ printed (first ++ rest)
 printed_more old mid new first rest e f =
-    f ∙ ap (λ s. s ++ printed rest) e ∙ append_assoc old (printed first) (printed rest) ∙ ap (λ s. old ++ s) (sym (flat_map-append text_of first rest))
+    f ∙ ap (λ s. s ++ printed rest) e ∙ append_assoc old (printed first) (printed rest)
+    ∙ ap (λ s. old ++ s) (sym (flat_map-append text_of first rest))
 
 -- nothing is written
 pub appends_nothing : (known : Option (List ℕ)) → Appends known known []
@@ -61,26 +63,34 @@ refusal_same w w' (event.Bytes c moment piece) forgets = rw forgets.instance ref
 refusal_same w w' (event.Tick moment) forgets = rw forgets.clock refl
 
 -- whether an event was refused, by what came of it
-pub taken_none : {T : Type 0} (o : Option Refused) (r : Result T Refused) (x : T) → r ≡ Ok x → MatchOption o (IsOk r) (λ e. r ≡ Err e) → o ≡ None
+pub taken_none : {T : Type 0} (o : Option Refused) (r : Result T Refused) (x : T) → r ≡ Ok x →
+    MatchOption o (IsOk r) (λ e. r ≡ Err e) → o ≡ None
 taken_none None r x is told = refl
 taken_none (Some e) r x is told = let clash : Ok x ≡ Err e = sym is ∙ told in absurd (cc)
 
-pub refused_some : {T : Type 0} (o : Option Refused) (r : Result T Refused) (e : Refused) → r ≡ Err e → MatchOption o (IsOk r) (λ e. r ≡ Err e) → o ≡ Some e
-refused_some {T} None r e is told = let told_ok : is_ok {T = T} {E = Refused} (Err e) ≡ true = rw is at told in absurd (cc)
+pub refused_some : {T : Type 0} (o : Option Refused) (r : Result T Refused) (e : Refused) → r ≡ Err e →
+    MatchOption o (IsOk r) (λ e. r ≡ Err e) → o ≡ Some e
+refused_some {T} None r e is told = let told_ok : is_ok {T = T} {E = Refused} (Err e) ≡ true =
+    rw is at told in absurd (cc)
 refused_some (Some d) r e is told =
     let both : Err d ≡ Err e = sym told ∙ is in
     let same : d ≡ e = cc in
     ap Some same
 
 -- an event came, and its lines were added: those of its outputs, and then that of its refusal
-pub prints_event : (p : Player) (e : Event) (p' : Player) (before : World) (refused : Option Refused) (old new : List ℕ) →
-    Forgets p.world before → Step before e p'.world → refusal before e ≡ refused → (IsSome refused → p'.world ≡ before) →
+pub prints_event : (p : Player) (e : Event) (p' : Player) (before : World) (refused : Option Refused)
+    (old new : List ℕ) →
+    Forgets p.world before → Step before e p'.world → refusal before e ≡ refused →
+    (IsSome refused → p'.world ≡ before) →
     p'.connections ≡ p.connections → p'.moment ≡ p.moment →
-    new ≡ (old ++ flat_map (output_line p.connections) p'.world.outputs.items) ++ refusal_line refused → Prints old new (Happens p e p')
+    new ≡ (old ++ flat_map (output_line p.connections) p'.world.outputs.items) ++ refusal_line refused →
+    Prints old new (Happens p e p')
 prints_event p e p' before refused old new forgets step is same connections moment text =
     let seen : refusal p.world e ≡ refused = sym (refusal_same p.world before e forgets) ∙ is in (
       happened p e p' ∷ [],
-      rw seen (text ∙ append_assoc old (flat_map (output_line p.connections) p'.world.outputs.items) (refusal_line refused) ∙ ap (λ s. old ++ s) (sym (append-nil (flat_map (output_line p.connections) p'.world.outputs.items ++ refusal_line refused)))),
+      rw seen (text ∙ append_assoc old (flat_map (output_line p.connections) p'.world.outputs.items)
+          (refusal_line refused) ∙ ap (λ s. old ++ s)
+          (sym (append-nil (flat_map (output_line p.connections) p'.world.outputs.items ++ refusal_line refused)))),
       record {
         before = before;
         forgets = forgets;
@@ -93,7 +103,8 @@ prints_event p e p' before refused old new forgets step is same connections mome
     )
 
 -- a chunk is a piece
-pub piece_fits : (size : ℕ) (piece rest : List ℕ) → size ≡ 4096 → length piece ≡ min size (length rest) → 0 < length rest → is_piece piece ≡ true
+pub piece_fits : (size : ℕ) (piece rest : List ℕ) → size ≡ 4096 → length piece ≡ min size (length rest) →
+    0 < length rest → is_piece piece ≡ true
 piece_fits size piece rest is_size cut some =
     let low : 0 < length piece = omega arith in
     let high : length piece ≤ 4096 = omega arith in
@@ -104,8 +115,10 @@ pub gives_nothing : (c : ℕ) (p : Player) → Gives c p [] p []
 gives_nothing c p = record { pieces = []; left = []; cut = refl; sizes = refl; come = (refl, refl, refl) }
 
 -- a piece came, and then others
-pub gives_more : (c : ℕ) (p mid p' : Player) (piece bytes : List ℕ) (first rest : List Happened) → is_piece piece ≡ true → Happens p (event.Bytes c p.moment piece) mid first →
-    goes_on c p (event.Bytes c p.moment piece) mid ≡ true → Gives c mid bytes p' rest → Gives c p (piece ++ bytes) p' (first ++ rest)
+pub gives_more : (c : ℕ) (p mid p' : Player) (piece bytes : List ℕ) (first rest : List Happened) →
+    is_piece piece ≡ true → Happens p (event.Bytes c p.moment piece) mid first →
+    goes_on c p (event.Bytes c p.moment piece) mid ≡ true → Gives c mid bytes p' rest →
+    Gives c p (piece ++ bytes) p' (first ++ rest)
 gives_more c p mid p' piece bytes first rest size happens goes given = record {
   pieces = piece ∷ given.pieces;
   left = given.left;
@@ -115,7 +128,8 @@ gives_more c p mid p' piece bytes first rest size happens goes given = record {
 }
 
 -- a piece came and ended the line
-pub gives_last : (c : ℕ) (p mid : Player) (piece left : List ℕ) (first : List Happened) → is_piece piece ≡ true → Happens p (event.Bytes c p.moment piece) mid first →
+pub gives_last : (c : ℕ) (p mid : Player) (piece left : List ℕ) (first : List Happened) → is_piece piece ≡ true →
+    Happens p (event.Bytes c p.moment piece) mid first →
     goes_on c p (event.Bytes c p.moment piece) mid ≡ false → Gives c p (piece ++ left) mid first
 gives_last c p mid piece left first size happens ends = record {
   pieces = piece ∷ [];

@@ -23,89 +23,121 @@ use Rattle.amring.specs.declared.play.Player.{Player}
 abbrev pub Traced : World → List Happened → World → Type 0
 Traced w [] w' = w' ≡ w
 Traced w (h ∷ trace) w' =
-    (before mid : World) × Forgets w before × Step before h.event mid × (h.outputs ≡ mid.outputs.items) × (h.faults ≡ mid.faults) × Traced mid trace w'
+    (before mid : World) × Forgets w before × Step before h.event mid × (h.outputs ≡ mid.outputs.items) ×
+    (h.faults ≡ mid.faults) × Traced mid trace w'
 
-traced_more : (w : World) (first rest : List Happened) (mid w' : World) → Traced w first mid → Traced mid rest w' → Traced w (first ++ rest) w'
+traced_more : (w : World) (first rest : List Happened) (mid w' : World) → Traced w first mid → Traced mid rest w' →
+    Traced w (first ++ rest) w'
 traced_more w [] rest mid w' same more = rw (← same) more
 traced_more w (h ∷ first) rest mid w' (before, next, forgets, step, outs, faults, traced) more =
     (before, next, forgets, step, outs, faults, traced_more next first rest mid w' traced more)
 
 -- nothing happened
-traced_nothing : (p p' : Player) (trace : List Happened) → p'.world ≡ p.world → trace ≡ [] → Traced p.world trace p'.world
+traced_nothing : (p p' : Player) (trace : List Happened) → p'.world ≡ p.world → trace ≡ [] →
+    Traced p.world trace p'.world
 traced_nothing p p' trace same none = rw none same
 
-happens_traced : (p : Player) (e : Event) (p' : Player) (trace : List Happened) → Happens p e p' trace → Traced p.world trace p'.world
+happens_traced : (p : Player) (e : Event) (p' : Player) (trace : List Happened) → Happens p e p' trace →
+    Traced p.world trace p'.world
 happens_traced p e p' trace h = rw h.traced (h.before, p'.world, h.forgets, h.step, refl, refl, refl)
 
-come_traced : (c : ℕ) (p : Player) (pieces : List (List ℕ)) (left : List ℕ) (p' : Player) (trace : List Happened) → Come c p pieces left p' trace → Traced p.world trace p'.world
-come_traced c p [] left p' trace (none, same, nothing) = traced_nothing p p' trace (ap (λ (x : Player). x.world) same) nothing
+come_traced : (c : ℕ) (p : Player) (pieces : List (List ℕ)) (left : List ℕ) (p' : Player) (trace : List Happened) →
+    Come c p pieces left p' trace → Traced p.world trace p'.world
+come_traced c p [] left p' trace (none, same, nothing) =
+    traced_nothing p p' trace (ap (λ (x : Player). x.world) same) nothing
 come_traced c p (piece ∷ pieces) left p' trace (mid, first, rest, happens, both, more) =
-    rw both (traced_more p.world first rest mid.world p'.world (happens_traced p (event.Bytes c p.moment piece) mid first happens) (by (goes_on c p (event.Bytes c p.moment piece) mid) (come_traced c mid pieces left p' rest) more))
+    rw both (traced_more p.world first rest mid.world p'.world
+    (happens_traced p (event.Bytes c p.moment piece) mid first happens)
+    (by (goes_on c p (event.Bytes c p.moment piece) mid) (come_traced c mid pieces left p' rest) more))
   where
-    by : (b : Bool) → (Come c mid pieces left p' rest → Traced mid.world rest p'.world) → Either b (Come c mid pieces left p' rest) ((pieces ≡ []) × (p' ≡ mid) × (rest ≡ [])) → Traced mid.world rest p'.world
+    by : (b : Bool) → (Come c mid pieces left p' rest → Traced mid.world rest p'.world) →
+        Either b (Come c mid pieces left p' rest) ((pieces ≡ []) × (p' ≡ mid) × (rest ≡ [])) →
+        Traced mid.world rest p'.world
     by true later come = later come
     by false later (none, same, nothing) = traced_nothing mid p' rest (ap (λ (x : Player). x.world) same) nothing
 
-calls_traced : (c : ℕ) (p : Player) (i : ℕ) (text : List ℕ) (p' : Player) (trace : List Happened) → Calls c p i text p' trace → Traced p.world trace p'.world
+calls_traced : (c : ℕ) (p : Player) (i : ℕ) (text : List ℕ) (p' : Player) (trace : List Happened) →
+    Calls c p i text p' trace → Traced p.world trace p'.world
 calls_traced c p i text p' trace (mid, first, rest, happens, both, more) =
-    rw both (traced_more p.world first rest mid.world p'.world (happens_traced p (event.Open c i) mid first happens) (by (is_none (refusal p.world (event.Open c i))) more))
+    rw both (traced_more p.world first rest mid.world p'.world (happens_traced p (event.Open c i) mid first happens)
+    (by (is_none (refusal p.world (event.Open c i))) more))
   where
     by : (b : Bool) → Either b (Gives c mid text p' rest) ((p' ≡ mid) × (rest ≡ [])) → Traced mid.world rest p'.world
     by true gives = come_traced c mid gives.pieces gives.left p' rest gives.come
     by false (same, nothing) = traced_nothing mid p' rest (ap (λ (x : Player). x.world) same) nothing
 
-obeys_traced : (p : Player) (command : Command) (p' : Player) (trace : List Happened) → Obeys p command p' trace → Traced p.world trace p'.world
+obeys_traced : (p : Player) (command : Command) (p' : Player) (trace : List Happened) → Obeys p command p' trace →
+    Traced p.world trace p'.world
 obeys_traced p Skip p' trace (same, nothing) = traced_nothing p p' trace (ap (λ (x : Player). x.world) same) nothing
 obeys_traced p Pump p' trace (same, nothing) = traced_nothing p p' trace (ap (λ (x : Player). x.world) same) nothing
-obeys_traced p (At moment) p' trace (same, nothing) = traced_nothing p p' trace (ap (λ (x : Player). x.world) same) nothing
+obeys_traced p (At moment) p' trace (same, nothing) = traced_nothing p p' trace (ap (λ (x : Player). x.world) same)
+    nothing
 obeys_traced p Tick p' trace happens = happens_traced p (event.Tick p.moment) p' trace happens
 obeys_traced p (Open name i) p' trace (c, place, happens) = happens_traced _ _ p' trace happens
-obeys_traced p (Bytes name text) p' trace (c, place, gives) = come_traced c _ gives.pieces gives.left p' trace gives.come
+obeys_traced p (Bytes name text) p' trace (c, place, gives) =
+    come_traced c _ gives.pieces gives.left p' trace gives.come
 obeys_traced p (Call name i request) p' trace (c, place, calls) = calls_traced c _ _ _ p' trace calls
 
-plays_traced : (n : ℕ) (p : Player) (lines : List (List ℕ)) (played : Played) (trace : List Happened) (p' : Player) → Plays n p lines played trace p' → Traced p.world trace p'.world
-plays_traced n p [] played trace p' (all, nothing, same) = traced_nothing p p' trace (ap (λ (x : Player). x.world) same) nothing
-plays_traced n p (line ∷ lines) played trace p' plays = by (command_of line) (λ mid rest more. plays_traced (n + 1) mid lines played rest p' more) plays
+plays_traced : (n : ℕ) (p : Player) (lines : List (List ℕ)) (played : Played) (trace : List Happened)
+    (p' : Player) → Plays n p lines played trace p' → Traced p.world trace p'.world
+plays_traced n p [] played trace p' (all, nothing, same) =
+    traced_nothing p p' trace (ap (λ (x : Player). x.world) same) nothing
+plays_traced n p (line ∷ lines) played trace p' plays =
+    by (command_of line) (λ mid rest more. plays_traced (n + 1) mid lines played rest p' more) plays
   where
-    by : (o : Option Command) → ((mid : Player) (rest : List Happened) → Plays (n + 1) mid lines played rest p' → Traced mid.world rest p'.world) →
+    by : (o : Option Command) →
+        ((mid : Player) (rest : List Happened) → Plays (n + 1) mid lines played rest p' →
+        Traced mid.world rest p'.world) →
         MatchOption o ((played ≡ BadLine n) × (trace ≡ []) × (p' ≡ p))
-        (λ command. (mid : Player) × (first rest : List Happened) × Obeys p command mid first × (trace ≡ first ++ rest) × Plays (n + 1) mid lines played rest p') →
+        (λ command. (mid : Player) × (first rest : List Happened) × Obeys p command mid first ×
+        (trace ≡ first ++ rest) × Plays (n + 1) mid lines played rest p') →
         Traced p.world trace p'.world
     by None later (bad, nothing, same) = traced_nothing p p' trace (ap (λ (x : Player). x.world) same) nothing
     by (Some command) later (mid, first, rest, obeys, both, more) =
-        rw both (traced_more p.world first rest mid.world p'.world (obeys_traced p command mid first obeys) (later mid rest more))
+        rw both (traced_more p.world first rest mid.world p'.world (obeys_traced p command mid first obeys)
+        (later mid rest more))
 
 -- the steps of a trace
-traced_steps : (w : World) (trace : List Happened) (w' : World) → Traced w trace w' → Steps w (events trace) (outputs trace) w'
+traced_steps : (w : World) (trace : List Happened) (w' : World) → Traced w trace w' →
+    Steps w (events trace) (outputs trace) w'
 traced_steps w [] w' same = (same, refl)
 traced_steps w (h ∷ trace) w' (before, mid, forgets, step, outs, faults, traced) =
     (before, mid, outputs trace, forgets, step, ap (λ os. os ++ outputs trace) outs, traced_steps mid trace w' traced)
 
 -- each tenant is as if alone, where no fault came and no connection's name was used twice
-traced_alone : (setup : Setup) (p : Player) (trace : List Happened) (w' : World) → IsStart setup p → Traced p.world trace w' → w'.faults ≡ 0 → names_once [] (events trace) →
+traced_alone : (setup : Setup) (p : Player) (trace : List Happened) (w' : World) → IsStart setup p →
+    Traced p.world trace w' → w'.faults ≡ 0 → names_once [] (events trace) →
     Alone setup.start (events trace) (outputs trace)
 traced_alone setup p trace w' start traced none once =
-    alone setup.start p.world (events trace) (outputs trace) w' start.opens (traced_steps p.world trace w' traced) none once
+    alone setup.start p.world (events trace) (outputs trace) w' start.opens (traced_steps p.world trace w' traced)
+    none once
 
-pub course_alone : (setup : Setup) (p : Player) (bytes : Option (List ℕ)) (played : Played) (trace : List Happened) (p' : Player) → IsStart setup p →
-    Course p bytes played trace p' → p'.world.faults ≡ 0 → names_once [] (events trace) → Alone setup.start (events trace) (outputs trace)
+pub course_alone : (setup : Setup) (p : Player) (bytes : Option (List ℕ)) (played : Played) (trace : List Happened)
+    (p' : Player) → IsStart setup p →
+    Course p bytes played trace p' → p'.world.faults ≡ 0 → names_once [] (events trace) →
+    Alone setup.start (events trace) (outputs trace)
 course_alone setup p bytes played trace p' start course =
     traced_alone setup p trace p'.world start (plays_traced 1 p course.lines played trace p' course.plays)
 
 -- .. and until a fault
-traced_first : (w : World) (first rest : List Happened) (w' : World) → Traced w (first ++ rest) w' → (mid : World) × Traced w first mid
+traced_first : (w : World) (first rest : List Happened) (w' : World) → Traced w (first ++ rest) w' → (mid : World) ×
+    Traced w first mid
 traced_first w [] rest w' traced = (w, refl)
 traced_first w (h ∷ first) rest w' (before, next, forgets, step, outs, faults, traced) =
     let later = traced_first next first rest w' traced in
     (later.0, (before, next, forgets, step, outs, faults, later.1))
 
-traced_no_fault : (w : World) (trace : List Happened) (w' : World) → Traced w trace w' → w.faults ≡ 0 → no_fault trace → w'.faults ≡ 0
+traced_no_fault : (w : World) (trace : List Happened) (w' : World) → Traced w trace w' → w.faults ≡ 0 →
+    no_fault trace → w'.faults ≡ 0
 traced_no_fault w [] w' same none nowhere = ap (λ (x : World). x.faults) same ∙ none
 traced_no_fault w (h ∷ trace) w' (before, next, forgets, step, outs, faults, traced) none nowhere =
     traced_no_fault next trace w' traced (sym faults ∙ nowhere.0) nowhere.1
 
-pub course_until_fault : (setup : Setup) (p : Player) (bytes : Option (List ℕ)) (played : Played) (trace : List Happened) (p' : Player) → IsStart setup p →
+pub course_until_fault : (setup : Setup) (p : Player) (bytes : Option (List ℕ)) (played : Played)
+    (trace : List Happened) (p' : Player) → IsStart setup p →
     Course p bytes played trace p' → AloneUntilFault setup.start trace
 course_until_fault setup p bytes played trace p' start course first rest cut nowhere =
-    let until = traced_first p.world first rest p'.world (rw cut at (plays_traced 1 p course.lines played trace p' course.plays)) in
-    traced_alone setup p first until.0 start until.1 (traced_no_fault p.world first until.0 until.1 start.opens.faults nowhere)
+    let until = traced_first p.world first rest p'.world
+    (rw cut at (plays_traced 1 p course.lines played trace p' course.plays)) in
+    traced_alone setup p first until.0 start until.1
+    (traced_no_fault p.world first until.0 until.1 start.opens.faults nowhere)

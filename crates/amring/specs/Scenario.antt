@@ -18,13 +18,15 @@ abbrev pub Known : Type 0
 Known = Option (List ℕ)
 
 -- lines were played, and this happened; they are the reader's, where its bytes are known
-pub record Course (start : Player) (bytes : Known) (played : Played) (trace : List Happened) (end : Player) : Type 0 where
+pub record Course (start : Player) (bytes : Known) (played : Played) (trace : List Happened) (end : Player) :
+    Type 0 where
   pub lines : List (List ℕ)
   pub are_read : IfSome bytes (λ bytes. lines ≡ lines_of bytes)
   pub plays : Plays 1 start lines played trace end
 
 -- .. from a new world on, in which so many faults came
-pub record Scenario (setup : Setup) (bytes : Known) (played : Played) (trace : List Happened) (faults : ℕ) : Type 0 where
+pub record Scenario (setup : Setup) (bytes : Known) (played : Played) (trace : List Happened) (faults : ℕ) :
+    Type 0 where
   pub start : Player
   pub is_start : IsStart setup start
   pub end : Player

@@ -36,20 +36,18 @@ pub enum Played {
 
 /// Plays the scenario that `reader` holds against a new world, and writes its output lines to `writer`.
 ///
-/// What is written are the lines of a trace: what happened, event by event. Of the outputs in it each tenant's are, byte
-/// for byte and in order, those of a private cluster that has this tenant alone, provided that no fault came and no
-/// connection's name was opened twice.
+/// What is written are the lines of a trace: what happened, event by event. Whatever the other tenants do, a tenant's
+/// outputs in it are, byte for byte and in order, those of a private cluster that has this tenant alone; provided
+/// that no connection's name is opened twice, and up to a first fault.
 ///
-/// An error is one of reading or writing, or has the kind `OutOfMemory`; what was written stays, which is the text of
-/// lines before it.
+/// An error is one of reading or writing, or has the kind `OutOfMemory`; what was written stays.
 pub fn play<R: BufRead + Drop, W: Write>(
     alloc: Global,
     setup: Setup,
     reader: R,
     writer: &mut W,
 ) -> io::Result<Played>
-    // There are a trace and a number of faults of which this holds. The lines played are the reader's where its bytes
-    // are known.
+    // Where the bytes of the reader aren't known, there are lines of which this holds.
     ensures { IfOk result (λ played. (trace : List Happened) × (faults : ℕ)
         × Scenario setup (R.remaining reader) played trace faults
         × Appends (W.contents writer.old) (W.contents writer.new) (printed trace ++ ending played faults)

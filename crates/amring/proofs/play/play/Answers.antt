@@ -11,11 +11,14 @@ returns g c =
     let course = c.in_ok-played.ensures.1 in
     let start : Player = record { world = c.open.result; connections = c.new.result; moment = 0 } in
     let end : Player = c.play_lines.new.self in
-    let is_start : IsStart c.args.setup start = record { opens = c.open.ensures; connections = c.new.ensures; moment = refl } in (
+    let is_start : IsStart c.args.setup start =
+    record { opens = c.open.ensures; connections = c.new.ensures; moment = refl } in (
       trace,
       end.world.faults,
       record { start = start; is_start = is_start; end = end; course = course; counted = refl },
       appends_kept _ _ _ _ c.in_ok-played.ensures.2 c.flush.ensures.bytes,
-      course_alone c.args.setup start (g.R.Read.remaining c.args.reader) c.in_ok-played.played trace end is_start course,
-      course_until_fault c.args.setup start (g.R.Read.remaining c.args.reader) c.in_ok-played.played trace end is_start course,
+      course_alone c.args.setup start (g.R.Read.remaining c.args.reader) c.in_ok-played.played trace end is_start
+          course,
+      course_until_fault c.args.setup start (g.R.Read.remaining c.args.reader) c.in_ok-played.played trace end
+          is_start course,
     )

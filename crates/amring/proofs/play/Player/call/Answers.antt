@@ -8,7 +8,14 @@ returns-in_ok-give c =
     let rest = c.in_ok-give.ensures in (
       first.0 ++ rest.0,
       printed_more _ _ _ first.0 rest.0 first.1 rest.1,
-      (c.open.new.self, first.0, rest.0, first.2, refl, either_first _ _ _ (sym c.in_ok-open.ensures.taken ∙ c.if-branch.true) rest.2),
+      (
+        c.open.new.self,
+        first.0,
+        rest.0,
+        first.2,
+        refl,
+        either_first _ _ _ (sym c.in_ok-open.ensures.taken ∙ c.if-branch.true) rest.2,
+      ),
     )
 
 pub returns-else-branch : goal.returns-else-branch
@@ -16,5 +23,12 @@ returns-else-branch c =
     let first = c.in_ok-open.ensures.happens in (
       first.0,
       first.1,
-      (c.open.new.self, first.0, [], first.2, sym (append-nil first.0), either_second _ _ _ (sym c.in_ok-open.ensures.taken ∙ c.if-branch.false) (refl, refl)),
+      (
+        c.open.new.self,
+        first.0,
+        [],
+        first.2,
+        sym (append-nil first.0),
+        either_second _ _ _ (sym c.in_ok-open.ensures.taken ∙ c.if-branch.false) (refl, refl),
+      ),
     )

@@ -15,12 +15,15 @@ returns-then-not-goes_on c =
     let piece = c.in-Some.piece.now in
     let p = c.loop-piece.self in
     let fits : is_piece piece ≡ true = piece_fits _ piece _ known.size steps.1.1 steps.1.2 in
-    let happens : Happens p (event.Bytes c.args.connection p.moment piece) c.happen.new.self prints.0 = rw (← c.in_ok-read.ensures) prints.2 in
+    let happens : Happens p (event.Bytes c.args.connection p.moment piece) c.happen.new.self prints.0 =
+    rw (← c.in_ok-read.ensures) prints.2 in
     let ends : goes_on c.args.connection p (event.Bytes c.args.connection p.moment piece) c.happen.new.self ≡ false =
-    ap (λ b. b && not (is_answered c.args.connection c.happen.new.self.world.outputs.items)) (sym c.in_ok-is_taken.ensures.taken) ∙ sym c.if-not-goes_on.ensures in (
+    ap (λ b. b && not (is_answered c.args.connection c.happen.new.self.world.outputs.items))
+    (sym c.in_ok-is_taken.ensures.taken) ∙ sym c.if-not-goes_on.ensures in (
       known.done ++ prints.0,
       printed_more _ _ _ known.done prints.0 known.printed prints.1,
-      known.gives c.happen.new.self prints.0 (rw steps.1.0 (gives_last c.args.connection p c.happen.new.self piece _ prints.0 fits happens ends)),
+      known.gives c.happen.new.self prints.0
+          (rw steps.1.0 (gives_last c.args.connection p c.happen.new.self piece _ prints.0 fits happens ends)),
     )
 
 pub loop-piece-preserved-else-not-goes_on : goal.loop-piece-preserved-else-not-goes_on
@@ -32,9 +35,11 @@ loop-piece-preserved-else-not-goes_on c =
     let p = c.loop-piece.self in
     let size : chunks_size c.next.new.self ≡ 4096 = steps.0 ∙ known.size in
     let fits : is_piece piece ≡ true = piece_fits _ piece _ known.size steps.1.1 steps.1.2 in
-    let happens : Happens p (event.Bytes c.args.connection p.moment piece) c.happen.new.self prints.0 = rw (← c.in_ok-read.ensures) prints.2 in
+    let happens : Happens p (event.Bytes c.args.connection p.moment piece) c.happen.new.self prints.0 =
+    rw (← c.in_ok-read.ensures) prints.2 in
     let goes : goes_on c.args.connection p (event.Bytes c.args.connection p.moment piece) c.happen.new.self ≡ true =
-    ap (λ b. b && not (is_answered c.args.connection c.happen.new.self.world.outputs.items)) (sym c.in_ok-is_taken.ensures.taken) ∙ sym c.if-not-goes_on.ensures in
+    ap (λ b. b && not (is_answered c.args.connection c.happen.new.self.world.outputs.items))
+    (sym c.in_ok-is_taken.ensures.taken) ∙ sym c.if-not-goes_on.ensures in
     record {
       can_next = omega (arith, size);
       is_finite = tt;
@@ -42,7 +47,9 @@ loop-piece-preserved-else-not-goes_on c =
       done = known.done ++ prints.0;
       printed = printed_more _ _ _ known.done prints.0 known.printed prints.1;
       gives = λ q rest given. rw (append_assoc known.done prints.0 rest)
-          (known.gives q (prints.0 ++ rest) (rw steps.1.0 (gives_more c.args.connection p c.happen.new.self q piece _ prints.0 rest fits happens goes given)));
+          (known.gives q (prints.0 ++ rest)
+          (rw steps.1.0 (gives_more c.args.connection p c.happen.new.self q piece _ prints.0 rest fits happens
+          goes given)));
     }
 
 pub returns : goal.returns

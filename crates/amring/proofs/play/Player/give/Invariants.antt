@@ -13,5 +13,6 @@ invariant-loop-piece l = record {
   size : chunks_size l.piece-iterator ≡ 4096;
   done : List Happened;
   printed : string_bytes l.lines ≡ string_bytes l.fn.lines ++ printed done;
-  gives : (p : Player) (rest : List Happened) → Gives l.fn.connection l.self (chunks_rest l.piece-iterator) p rest → Gives l.fn.connection l.fn.self l.fn.bytes p (done ++ rest);
+  gives : (p : Player) (rest : List Happened) → Gives l.fn.connection l.self (chunks_rest l.piece-iterator) p rest →
+      Gives l.fn.connection l.fn.self l.fn.bytes p (done ++ rest);
 }

@@ -7,24 +7,32 @@ use Rattle.amring.proofs.play.Player.happen.Goals as goal
 pub returns-in-Ok-clause-taken : goal.returns-in-Ok-clause-taken
 returns-in-Ok-clause-taken c =
     let taken : refusal c.args.self.now.world c.args.event.now ≡ None =
-    sym (refusal_same _ _ c.args.event.now c.clear_outputs.ensures) ∙ taken_none _ _ _ c.in-Ok.is c.step-taken.ensures.refused in
+    sym (refusal_same _ _ c.args.event.now c.clear_outputs.ensures)
+    ∙ taken_none _ _ _ c.in-Ok.is c.step-taken.ensures.refused in
     rw taken refl
 
 pub returns-in-Ok-clause-happens : goal.returns-in-Ok-clause-happens
 returns-in-Ok-clause-happens c =
-    let taken : refusal c.clear_outputs.new.self c.args.event.now ≡ None = taken_none _ _ _ c.in-Ok.is c.step-taken.ensures.refused in
-    prints_event c.args.self.now c.args.event.now _ c.clear_outputs.new.self None _ _ c.clear_outputs.ensures c.step-taken.ensures.kept taken (λ h. absurd (cc)) refl refl (c.in_ok-push_outputs.ensures ∙ sym (append-nil _))
+    let taken : refusal c.clear_outputs.new.self c.args.event.now ≡ None =
+    taken_none _ _ _ c.in-Ok.is c.step-taken.ensures.refused in
+    prints_event c.args.self.now c.args.event.now _ c.clear_outputs.new.self None _ _ c.clear_outputs.ensures
+    c.step-taken.ensures.kept taken (λ h. absurd (cc)) refl refl
+    (c.in_ok-push_outputs.ensures ∙ sym (append-nil _))
 
 pub returns-in_ok-push_refusal-in-Err-clause-taken :
     goal.returns-in_ok-push_refusal-in-Err-clause-taken
 returns-in_ok-push_refusal-in-Err-clause-taken c =
     let refused : refusal c.args.self.now.world c.args.event.now ≡ Some c.in-Err.refused =
-    sym (refusal_same _ _ c.args.event.now c.clear_outputs.ensures) ∙ refused_some _ _ _ c.in-Err.is c.step-taken.ensures.refused in
+    sym (refusal_same _ _ c.args.event.now c.clear_outputs.ensures)
+    ∙ refused_some _ _ _ c.in-Err.is c.step-taken.ensures.refused in
     rw refused refl
 
 pub returns-in_ok-push_refusal-in-Err-clause-happens :
     goal.returns-in_ok-push_refusal-in-Err-clause-happens
 returns-in_ok-push_refusal-in-Err-clause-happens c =
-    let refused : refusal c.clear_outputs.new.self c.args.event.now ≡ Some c.in-Err.refused = refused_some _ _ _ c.in-Err.is c.step-taken.ensures.refused in
-    prints_event c.args.self.now c.args.event.now _ c.clear_outputs.new.self (Some c.in-Err.refused) _ _ c.clear_outputs.ensures c.step-taken.ensures.kept refused (λ h. c.in-Err.ensures.err) refl refl
-    (c.in_ok-push_refusal-in-Err.ensures ∙ ap (λ s. s ++ refusal_line (Some c.in-Err.refused)) c.in_ok-push_outputs.ensures)
+    let refused : refusal c.clear_outputs.new.self c.args.event.now ≡ Some c.in-Err.refused =
+    refused_some _ _ _ c.in-Err.is c.step-taken.ensures.refused in
+    prints_event c.args.self.now c.args.event.now _ c.clear_outputs.new.self (Some c.in-Err.refused) _ _
+    c.clear_outputs.ensures c.step-taken.ensures.kept refused (λ h. c.in-Err.ensures.err) refl refl
+    (c.in_ok-push_refusal-in-Err.ensures
+    ∙ ap (λ s. s ++ refusal_line (Some c.in-Err.refused)) c.in_ok-push_outputs.ensures)

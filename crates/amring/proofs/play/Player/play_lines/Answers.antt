@@ -9,7 +9,8 @@ use Rattle.amring.proofs.play.Player.play_lines.Goals as goal
 
 pub loop-line-init : goal.loop-line-init
 loop-line-init g c =
-    let left : split_known_bytes g.R.Read.remaining c.into_iter-line-iterator.result ≡ g.R.Read.remaining c.args.reader = search rules in
+    let left : split_known_bytes g.R.Read.remaining c.into_iter-line-iterator.result ≡ g.R.Read.remaining
+    c.args.reader = search rules in
     record {
       byte = search rules;
       count = search rules;
@@ -22,8 +23,11 @@ pub returns-in-Err-NotACommand : goal.returns-in-Err-NotACommand
 returns-in-Err-NotACommand g c =
     let known = c.loop-line.invariant in
     let next = rw (c.in_ok-line.was, known.byte) at c.in-Some.ensures.steps.2 in
-    let bad : command_of c.in_ok-line.line.items ≡ None = rw (c.in-Err-NotACommand.field-0-is, c.as_slice.ensures.value) at c.in-Err-NotACommand.ensures in
-    let course = upto_bad c.args.self.now c.loop-line.self (g.R.Read.remaining c.args.reader) (split_known_bytes g.R.Read.remaining c.loop-line.line-iterator) c.loop-line.number c.in_ok-line.line.items known.trace known.upto next.0 bad in (
+    let bad : command_of c.in_ok-line.line.items ≡ None =
+    rw (c.in-Err-NotACommand.field-0-is, c.as_slice.ensures.value) at c.in-Err-NotACommand.ensures in
+    let course = upto_bad c.args.self.now c.loop-line.self (g.R.Read.remaining c.args.reader)
+    (split_known_bytes g.R.Read.remaining c.loop-line.line-iterator) c.loop-line.number c.in_ok-line.line.items
+    known.trace known.upto next.0 bad in (
       known.trace,
       course,
       rw (append-nil (printed known.trace)) known.appends,
@@ -33,22 +37,40 @@ pub loop-line-preserved : goal.loop-line-preserved
 loop-line-preserved g c =
     let known = c.loop-line.invariant in
     let next = rw (c.in_ok-line.was, known.byte) at c.in-Some.ensures.steps.2 in
-    let is : command_of c.in_ok-line.line.items ≡ Some c.in-Ok.command = rw c.as_slice.ensures.value at c.in-Ok.ensures in
-    let fewer : pieces_left_to_read c.next.new.self < pieces_left_to_read c.loop-line.line-iterator = (c.in-Some.ensures.goes.on tt).2 in
+    let is : command_of c.in_ok-line.line.items ≡ Some c.in-Ok.command =
+    rw c.as_slice.ensures.value at c.in-Ok.ensures in
+    let fewer : pieces_left_to_read c.next.new.self < pieces_left_to_read c.loop-line.line-iterator =
+    (c.in-Some.ensures.goes.on tt).2 in
     let prints = c.in_ok-obey-in-Ok.ensures in
     record {
       byte = rw c.in-Some.ensures.steps.1 known.byte;
       count = omega (arith, known.count);
       trace = known.trace ++ prints.0;
-      appends = rw (flat_map-append text_of known.trace prints.0) (appends_more _ _ _ (printed known.trace) (printed prints.0) known.appends (rw (c.as_bytes.ensures.value, prints.1, c.new-lines.ensures.bytes) at c.in_ok-write_all-in-Ok.ensures.bytes));
-      upto = upto_more c.args.self.now c.loop-line.self c.obey.new.self (g.R.Read.remaining c.args.reader) (split_known_bytes g.R.Read.remaining c.loop-line.line-iterator) (split_known_bytes g.R.Read.remaining c.next.new.self) c.loop-line.number c.in_ok-line.line.items c.in-Ok.command known.trace prints.0 known.upto next.0 next.1 is prints.2;
+      appends = rw (flat_map-append text_of known.trace prints.0)
+          (appends_more _ _ _ (printed known.trace) (printed prints.0) known.appends
+          (rw (
+            c.as_bytes.ensures.value,
+            prints.1,
+            c.new-lines.ensures.bytes,
+          ) at c.in_ok-write_all-in-Ok.ensures.bytes));
+      upto = upto_more c.args.self.now c.loop-line.self c.obey.new.self (g.R.Read.remaining c.args.reader)
+          (split_known_bytes g.R.Read.remaining c.loop-line.line-iterator)
+          (split_known_bytes g.R.Read.remaining c.next.new.self) c.loop-line.number c.in_ok-line.line.items
+          c.in-Ok.command known.trace prints.0 known.upto next.0 next.1 is prints.2;
     }
 
 pub returns : goal.returns
 returns g c =
     let known = c.loop-line.invariant in
-    let course = upto_end c.args.self.now c.loop-line.self (g.R.Read.remaining c.args.reader) (split_known_bytes g.R.Read.remaining c.loop-line.line-iterator) c.loop-line.number known.trace known.upto c.in-None.ensures.steps.2 in (
+    let course = upto_end c.args.self.now c.loop-line.self (g.R.Read.remaining c.args.reader)
+    (split_known_bytes g.R.Read.remaining c.loop-line.line-iterator) c.loop-line.number known.trace known.upto
+    c.in-None.ensures.steps.2 in (
       known.trace,
       course,
-      appends_more _ _ _ _ _ known.appends (rw (c.as_bytes-2.ensures.value, c.in_ok-last.ensures, c.faults.ensures) at c.in_ok-write_all.ensures.bytes),
+      appends_more _ _ _ _ _ known.appends
+          (rw (
+            c.as_bytes-2.ensures.value,
+            c.in_ok-last.ensures,
+            c.faults.ensures,
+          ) at c.in_ok-write_all.ensures.bytes),
     )

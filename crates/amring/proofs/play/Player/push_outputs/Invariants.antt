@@ -4,4 +4,6 @@ use Rattle.amring.specs.Trace.{output_line}
 use Rattle.amring.proofs.play.Player.push_outputs.Given as goal
 
 abbrev pub invariant-loop-output : goal.invariant-loop-output
-invariant-loop-output l = string_bytes l.lines ≡ string_bytes l.fn.lines ++ flat_map (output_line l.fn.self.connections) (take l.output-index l.output-items)
+invariant-loop-output l =
+    string_bytes l.lines ≡ string_bytes l.fn.lines ++ flat_map (output_line l.fn.self.connections)
+    (take l.output-index l.output-items)
