@@ -1,5 +1,5 @@
 -- What routes say themselves, their texts read, and what is told from that alone.
-use Rattle.std.specs.Prelude.{ℕ, ◌+◌, Bool, List, [], ◌∷◌, map, Option, Some, None, Result, Ok, Err, is_some, unwrap_or, option_and_then, if◌then◌else◌}
+use Rattle.std.specs.Prelude.{ℕ, ◌+◌, List, [], ◌∷◌, map, Option, Some, None, Result, Ok, Err, is_some, unwrap_or, if◌then◌else◌}
 use Rattle.am_text.specs.Duration.{duration}
 use Rattle.am_text.specs.declared.fault.TextFault.{TextFault}
 use Rattle.am_draft.specs.declared.receiver.ReceiverDraft.{ReceiverDraft}
