@@ -1,4 +1,5 @@
--- The configuration that holds where none is stored, or a stored text isn't read: every alert goes to a receiver that tells nobody.
+-- The configuration that holds where none is stored, or a stored text would be refused with one of C1 to C9: every alert
+-- goes to a receiver that tells nobody.
 use Rattle.std.specs.Prelude.{ℕ, List, [], ◌∷◌, codes, None, false}
 use Rattle.am_draft.specs.declared.tree.Node.{Node}
 use Rattle.am_config.specs.declared.parts.Receiver.{Receiver}

@@ -15,8 +15,8 @@ use std::alloc::{AllocError, Global};
 const DEFAULT_TEXT: &str = r#"{"route":{"receiver":"default"},"receivers":[{"name":"default"}]}"#;
 
 impl Config {
-    /// The configuration that holds where none is stored, or a stored text isn't read: its one route goes to its one
-    /// receiver `default`, which has no webhook.
+    /// The configuration that holds where none is stored, or a stored text would be refused with one of `C1` to `C9`: its
+    /// one route goes to its one receiver `default`, which has no webhook.
     ///
     /// # Errors
     /// Want of memory alone.

@@ -1,6 +1,6 @@
 //! Why a configuration is refused.
 
-ghost use Rattle.std.specs.Prelude.{◌≡◌};
+ghost use Rattle.std.specs.Prelude.{◌≡◌, option_map};
 ghost use Rattle.am_config.specs.declared.fault.ConfigFault.TheVariants.{OutOfMemory};
 ghost use Rattle.am_config.specs.Code.{code_of};
 ghost use Rattle.am_config.specs.Outcome.{of_draft, of_match};
@@ -31,7 +31,7 @@ pub enum ConfigFault {
     /// A key stands that amring leaves out.
     #[error("a key that is left out")]
     LeftOut,
-    /// A text gives no matchers, or a pattern of it is not read or longer than 256 bytes.
+    /// A text gives no matchers, or a pattern of it is not read, nests too deep or is longer than 256 bytes.
     #[error("a matcher is not read")]
     BadMatcher,
     /// There are more than 1,000 routes or receivers, more than 16 webhooks of one receiver, or a route is deeper than
@@ -50,22 +50,22 @@ pub enum ConfigFault {
 }
 
 impl ConfigFault {
-    /// The code that a refusal shows, as `C1`. Empty for want of memory, which is no refusal.
-    pub fn code(self) -> &'static str
-        ensures { result.now ≡ code_of self }
+    /// The code of the refusal, `C1` to `C9` or `B2`; none where memory ran out, which is no refusal.
+    pub fn code(self) -> Option<&'static str>
+        ensures { option_map (λ code. code.now) result ≡ code_of self }
     {
         match self {
-            ConfigFault::NotJson => "C1",
-            ConfigFault::BadForm => "C2",
-            ConfigFault::BadReceiver => "C3",
-            ConfigFault::RootMatchers => "C4",
-            ConfigFault::BadDuration => "C5",
-            ConfigFault::LeftOut => "C6",
-            ConfigFault::BadMatcher => "C7",
-            ConfigFault::TooMany => "C8",
-            ConfigFault::BadUrl => "C9",
-            ConfigFault::BuildRefused => "B2",
-            ConfigFault::OutOfMemory => "",
+            ConfigFault::NotJson => Some("C1"),
+            ConfigFault::BadForm => Some("C2"),
+            ConfigFault::BadReceiver => Some("C3"),
+            ConfigFault::RootMatchers => Some("C4"),
+            ConfigFault::BadDuration => Some("C5"),
+            ConfigFault::LeftOut => Some("C6"),
+            ConfigFault::BadMatcher => Some("C7"),
+            ConfigFault::TooMany => Some("C8"),
+            ConfigFault::BadUrl => Some("C9"),
+            ConfigFault::BuildRefused => Some("B2"),
+            ConfigFault::OutOfMemory => None,
         }
     }
 }

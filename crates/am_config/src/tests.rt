@@ -201,7 +201,7 @@ fn read_text(alloc: Global, text: &str) -> Result<Config, ConfigFault> {
 fn code_of_text(alloc: Global, text: &str) -> &'static str {
     match read_text(alloc, text) {
         Ok(_) => "ok",
-        Err(fault) => fault.code(),
+        Err(fault) => fault.code().unwrap_or("no code"),
     }
 }
 
@@ -209,7 +209,7 @@ fn code_of_document(alloc: Global, document: &str) -> &'static str {
     let mut cache = PatternCache::new(alloc, 16);
     match Config::read(alloc, document.as_bytes(), &mut cache) {
         Ok(_) => "ok",
-        Err(fault) => fault.code(),
+        Err(fault) => fault.code().unwrap_or("no code"),
     }
 }
 

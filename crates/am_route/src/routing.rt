@@ -22,8 +22,8 @@ use std::alloc::Global;
 ///
 /// # Errors
 ///
-/// Those of [`Matcher::matches`] for a matcher of a route, the first that is met. The cache then keeps the
-/// pattern as refused; want of memory leaves it as it was.
+/// Those of [`Matcher::matches`] for a matcher of one of the routes. The cache then keeps its pattern as refused, where
+/// it has at most 256 bytes; want of memory leaves the cache as it was.
 pub fn routes_of(
     alloc: Global,
     config: &Config,
