@@ -2,3 +2,4 @@ pub mod Json
 pub mod Fronts
 pub mod Held
 pub mod Counted
+pub mod Rooted

@@ -1,5 +1,5 @@
 -- A configuration as it is written: what its document and its text say.
-use Rattle.std.specs.Prelude.{ℕ, Bool, false, ◌||◌, List, [], ◌∷◌, codes, None, Result, Ok, Err, if◌then◌else◌}
+use Rattle.std.specs.Prelude.{ℕ, Bool, false, ◌||◌, List, [], ◌∷◌, codes, None, is_some, Result, Ok, Err, if◌then◌else◌}
 use Rattle.std.specs.List.{list_any}
 use Rattle.std.specs.Str.{is_utf8}
 use Rattle.serde_json.specs.Data.{Data}
@@ -44,6 +44,11 @@ rooted (root ∷ routes) = formed root.item.receiver >>= λ receiver. Ok (root �
 -- the whole tree of routes as a flat list
 abbrev pub root_in : Data → Result (List (Node RouteDraft)) DraftFault
 root_in d = tree_in 1 d >>= λ t. rooted (flat (tree t.0 t.1 none))
+
+-- the first route names a receiver
+abbrev pub root_has_receiver : List (Node RouteDraft) → Bool
+root_has_receiver [] = false
+root_has_receiver (root ∷ routes) = is_some root.item.receiver
 
 -- what the JSON value of this text says
 unfoldable pub draft_of : List ℕ → Data → Result Draft DraftFault

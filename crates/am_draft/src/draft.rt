@@ -1,10 +1,10 @@
 //! A configuration as it is written.
 
-ghost use Rattle.std.specs.Prelude.{◌≡◌, false, IfOk, Ok, codes};
+ghost use Rattle.std.specs.Prelude.{◌≡◌, false, true, IfOk, Ok, codes};
 ghost use Rattle.std.specs.List.{list_any};
 ghost use Rattle.serde_json.specs.Find.{get};
 ghost use Rattle.serde_json.specs.View.{view};
-ghost use Rattle.am_draft.specs.Drafts.{global_in, no_global, rooted, root_in, draft_of, draft_in, json, within_document, route_leaves_out, webhook_leaves_out, receiver_leaves_out, rule_leaves_out};
+ghost use Rattle.am_draft.specs.Drafts.{global_in, no_global, rooted, root_in, root_has_receiver, draft_of, draft_in, json, within_document, route_leaves_out, webhook_leaves_out, receiver_leaves_out, rule_leaves_out};
 ghost use Rattle.am_draft.specs.Trees.{IsTree};
 ghost use Rattle.am_draft.specs.Fields.{optional, required};
 ghost use Rattle.am_draft.specs.Outcome.{Gives};
@@ -52,7 +52,8 @@ pub struct Draft {
 
 impl Draft {
     ghost use Rattle.am_draft.specs.Trees.{IsTree};
-    ghost use Rattle.am_draft.specs.Drafts.{draft_in, has_left_out, posted};
+    ghost use Rattle.std.specs.Prelude.{true};
+    ghost use Rattle.am_draft.specs.Drafts.{draft_in, has_left_out, posted, root_has_receiver};
 
     /// What a posted document says: a JSON object with `alertmanager_config`, the configuration's text.
     ///
@@ -63,6 +64,7 @@ impl Draft {
     pub fn read(alloc: Global, document: &[u8]) -> Result<Draft, DraftFault>
         ensures draft { Gives (λ d. d) result (posted document.now) }
         ensures tree { IfOk result (λ d. IsTree d.routes) }
+        ensures root { IfOk result (λ d. root_has_receiver d.routes ≡ true) }
 
         // Where no key is left out, the text alone says the same.
         ensures text { IfOk result (λ d. has_left_out d ≡ false → draft_in d.text ≡ Ok d) }
@@ -82,6 +84,7 @@ impl Draft {
     pub fn read_text(alloc: Global, text: &[u8]) -> Result<Draft, DraftFault>
         ensures draft { Gives (λ d. d) result (draft_in text.now) }
         ensures tree { IfOk result (λ d. IsTree d.routes) }
+        ensures root { IfOk result (λ d. root_has_receiver d.routes ≡ true) }
         ensures text { IfOk result (λ d. d.text ≡ text.now) }
     {
         match str::from_utf8(text) {
@@ -155,6 +158,7 @@ fn json_of(alloc: Global, bytes: &[u8]) -> Result<Value, DraftFault>
 fn draft_in(alloc: Global, text: Text) -> Result<Draft, DraftFault>
     ensures draft { Gives (λ d. d) result (draft_in text) }
     ensures tree { IfOk result (λ d. IsTree d.routes) }
+    ensures root { IfOk result (λ d. root_has_receiver d.routes ≡ true) }
     ensures text { IfOk result (λ d. d.text ≡ text) }
 {
     let value = json_of(alloc, text.as_str().as_bytes())?;
@@ -165,6 +169,7 @@ fn draft_in(alloc: Global, text: Text) -> Result<Draft, DraftFault>
 fn draft_of(alloc: Global, text: Text, value: &Value) -> Result<Draft, DraftFault>
     ensures draft { Gives (λ d. d) result (draft_of text (view value.now)) }
     ensures tree { IfOk result (λ d. IsTree d.routes) }
+    ensures root { IfOk result (λ d. root_has_receiver d.routes ≡ true) }
     ensures text { IfOk result (λ d. d.text ≡ text) }
 {
     let left_out = leaves_out(value, Place::Top)?;
@@ -209,6 +214,7 @@ fn global_in(alloc: Global, value: &Value) -> Result<GlobalDraft, DraftFault>
 fn routes_at(alloc: Global, value: &Value) -> Result<Listed<Node<RouteDraft>>, DraftFault>
     ensures routes { Gives (λ l. l) result (required root_in (get (codes "route") (view value.now))) }
     ensures tree { IfOk result IsTree }
+    ensures root { IfOk result (λ l. root_has_receiver l ≡ true) }
 {
     match value.get("route") {
         None => Err(DraftFault::BadForm),
@@ -219,6 +225,7 @@ fn routes_at(alloc: Global, value: &Value) -> Result<Listed<Node<RouteDraft>>, D
 fn root_in(alloc: Global, value: &Value) -> Result<Listed<Node<RouteDraft>>, DraftFault>
     ensures routes { Gives (λ l. l) result (root_in (view value.now)) }
     ensures tree { IfOk result IsTree }
+    ensures root { IfOk result (λ l. root_has_receiver l ≡ true) }
 {
     let mut routes = Vec::new(alloc);
     push_tree(alloc, value, 1, &mut routes)?;
@@ -227,7 +234,8 @@ fn root_in(alloc: Global, value: &Value) -> Result<Listed<Node<RouteDraft>>, Dra
 
 // The routes, of which the first one has a receiver.
 fn rooted(routes: Vec<Node<RouteDraft>>) -> Result<Listed<Node<RouteDraft>>, DraftFault>
-    ensures { Gives (λ l. l) result (rooted routes.items) }
+    ensures routes { Gives (λ l. l) result (rooted routes.items) }
+    ensures root { IfOk result (λ l. root_has_receiver l ≡ true) }
 {
     match routes.first() {
         None => Err(DraftFault::BadForm),

@@ -5,6 +5,7 @@ mod draft;
 mod fault;
 mod fields;
 mod keys;
+pub mod laws;
 mod listed;
 mod receiver;
 mod route;
