@@ -3,3 +3,4 @@ pub mod Fronts
 pub mod Held
 pub mod Counted
 pub mod Rooted
+pub mod Plain
