@@ -14,35 +14,35 @@ use thiserror::Error;
 #[derive(Clone, Copy, Debug, PartialEq, Eq, Error)]
 pub enum ConfigFault {
     /// The document or the text within it is not JSON (RFC 8259), or nests more than 127 deep.
-    #[error("the document or the configuration's text is not JSON")]
+    #[error("C1")]
     NotJson,
     /// A key is unknown, a required one is absent, a value is of the wrong kind, or a name of a label is none.
-    #[error("a key or a value of the configuration is not of its form")]
+    #[error("C2")]
     BadForm,
     /// A route names a receiver that isn't listed, or two receivers have one name.
-    #[error("a receiver is not listed, or two have one name")]
+    #[error("C3")]
     BadReceiver,
     /// The root has matchers.
-    #[error("the root has matchers")]
+    #[error("C4")]
     RootMatchers,
     /// A duration is not read, or `group_interval` or `repeat_interval` is shorter than a second.
-    #[error("a duration is not read, or an interval is shorter than a second")]
+    #[error("C5")]
     BadDuration,
     /// A key stands that amring leaves out.
-    #[error("a key that is left out")]
+    #[error("C6")]
     LeftOut,
     /// A text gives no matchers, or a pattern of it is not read, nests too deep or is longer than 256 bytes.
-    #[error("a matcher is not read")]
+    #[error("C7")]
     BadMatcher,
     /// There are more than 1,000 routes or receivers, more than 16 webhooks of one receiver, or a route is deeper than
     /// 16.
-    #[error("a count is past its limit")]
+    #[error("C8")]
     TooMany,
     /// The URL of a webhook is not one that amring sends to.
-    #[error("the URL of a webhook is not of its form")]
+    #[error("C9")]
     BadUrl,
     /// The build of a pattern was refused, as for its size.
-    #[error("the build of a pattern was refused")]
+    #[error("B2")]
     BuildRefused,
     /// Memory ran out, which says nothing of the configuration.
     #[error("out of memory")]
