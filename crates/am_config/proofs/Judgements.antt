@@ -157,7 +157,8 @@ module _ (old new : List (List ℕ)) where
 
 -- ---- what was judged is what its text alone says
 
-unless_ok : (fault : Option ConfigFault) (outcome : Result Configuration ConfigFault) (c : Configuration) → unless fault outcome ≡ Ok c →
+-- there is no fault before an outcome
+pub unless_ok : (fault : Option ConfigFault) (outcome : Result Configuration ConfigFault) (c : Configuration) → unless fault outcome ≡ Ok c →
     (fault ≡ None) × (outcome ≡ Ok c)
 unless_ok None outcome c e = (refl, e)
 unless_ok (Some fault) outcome c e = absurd (cc)

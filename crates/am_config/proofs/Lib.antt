@@ -5,3 +5,5 @@ pub mod Judgements
 pub mod Inherits
 pub mod Placed
 pub mod Owned
+pub mod Configured
+pub mod DefaultRead

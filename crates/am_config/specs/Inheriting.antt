@@ -1,12 +1,15 @@
 -- What holds for a route: what it says itself, and for the rest what the nearest route around it says.
-use Rattle.std.specs.Prelude.{ℕ, ◌+◌, Bool, ◌&&◌, nat_le, List, [], ◌∷◌, ◌++◌, length, Option, Some, None, Result, Ok, Err, is_some, unwrap_or, if◌then◌else◌}
+use Rattle.std.specs.Prelude.{◌≡◌, ℕ, ◌+◌, Bool, ◌&&◌, nat_le, List, [], ◌∷◌, ◌++◌, length, map, Option, Some, None, Result, Ok, Err, is_some, unwrap_or, if◌then◌else◌}
 use Rattle.am_text.specs.Duration.{duration}
 use Rattle.am_text.specs.declared.fault.TextFault.{TextFault}
+use Rattle.am_draft.specs.declared.draft.Draft.{Draft}
 use Rattle.am_draft.specs.declared.receiver.ReceiverDraft.{ReceiverDraft}
 use Rattle.am_draft.specs.declared.route.RouteDraft.{RouteDraft}
 use Rattle.am_draft.specs.declared.tree.Node.{Node}
 use Rattle.am_draft.specs.Trees.{Forest, none, tree, flat}
+use Rattle.am_config.specs.declared.parts.Route.{Route}
 use Rattle.am_config.specs.declared.parts.Settings.{Settings}
+use Rattle.am_config.specs.Configuration.{Configuration}
 use Rattle.am_config.specs.Places.{place}
 
 -- what holds where no route says anything: 30 seconds, 5 minutes, 4 hours, and no label to group by
@@ -60,3 +63,10 @@ inherited receivers number up (tree route within after) =
     said receivers number up route
     ∷ (inherited receivers (number + 1) (said receivers number up route) within
     ++ inherited receivers (number + 1 + length (flat within)) up after)
+
+-- a draft's routes are one tree, and the settings of a configuration's routes are what they inherit there
+pub record InheritsFrom (c : Configuration) (draft : Draft) : Type 0 where
+  pub root : RouteDraft
+  pub within : Forest RouteDraft
+  pub routes : draft.routes ≡ flat (tree root within none)
+  pub settings : map (λ (node : Node Route). node.item.settings) c.routes ≡ inherited draft.receivers 0 defaults (tree root within none)

@@ -21,3 +21,5 @@ pub mod Completing
 pub mod Default
 -- the checks in their order
 pub mod Judging
+-- what holds of every configuration
+pub mod Configured

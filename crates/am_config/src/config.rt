@@ -2,6 +2,7 @@
 
 ghost use Rattle.std.specs.Prelude.{◌≡◌, ◌≤◌, length};
 ghost use Rattle.am_draft.specs.Trees.{IsTree};
+ghost use Rattle.am_config.specs.Configured.{IsConfiguration};
 
 use crate::parts::{Receiver, Route, Rule};
 use am_draft::{Listed, Node};
@@ -19,15 +20,15 @@ pub struct Config {
 }
 
 impl Model for Config {
-    ghost use Rattle.std.specs.Prelude.{◌≤◌, length};
-    ghost use Rattle.am_draft.specs.Trees.{IsTree};
     ghost use Rattle.am_config.specs.Configuration.{Configuration};
+    ghost use Rattle.am_config.specs.Configured.{IsConfiguration};
 
     ghost Value = { Configuration };
 
     ghost view = { λ c. record { text = c.text; resolve_timeout = c.resolve_timeout; routes = c.routes; receivers = c.receivers; rules = c.rules } };
 
-    ghost invariant = { λ c. IsTree c.routes × (length c.routes ≤ 1000) };
+    ghost invariant = { λ c. IsConfiguration
+        (record { text = c.text; resolve_timeout = c.resolve_timeout; routes = c.routes; receivers = c.receivers; rules = c.rules }) };
 }
 
 impl Config {
@@ -50,20 +51,23 @@ impl Config {
         ensures routes { result.now ≡ self.now.routes }
         ensures tree { IsTree self.now.routes }
         ensures few { length self.now.routes ≤ 1000 }
+        ensures configured { IsConfiguration self.now }
     {
         self.routes.as_slice()
     }
 
     /// The receivers in the order in which they are written.
     pub fn receivers(&self) -> &[Receiver]
-        ensures { result.now ≡ self.now.receivers }
+        ensures receivers { result.now ≡ self.now.receivers }
+        ensures configured { IsConfiguration self.now }
     {
         self.receivers.as_slice()
     }
 
     /// The inhibit rules in the order in which they are written.
     pub fn rules(&self) -> &[Rule]
-        ensures { result.now ≡ self.now.rules }
+        ensures rules { result.now ≡ self.now.rules }
+        ensures configured { IsConfiguration self.now }
     {
         self.rules.as_slice()
     }

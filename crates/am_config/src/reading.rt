@@ -1,13 +1,13 @@
 //! A configuration, from a document or a text.
 
-ghost use Rattle.std.specs.Prelude.{◌≡◌, true, map, Ok, IfOk, IfErr, OnOk};
-ghost use Rattle.am_draft.specs.Drafts.{draft_in, posted};
+ghost use Rattle.std.specs.Prelude.{◌≡◌, true, map, None, Ok, IfOk, IfErr, OnOk};
+ghost use Rattle.am_draft.specs.Drafts.{draft_in, posted, root_has_receiver};
 ghost use Rattle.am_draft.specs.Trees.{IsTree};
 ghost use Rattle.am_draft.specs.declared.route.RouteDraft.{RouteDraft};
 ghost use Rattle.am_draft.specs.declared.tree.Node.{Node};
 ghost use Rattle.am_match.specs.Checking.{AreRefusedRightly};
 ghost use Rattle.am_config.specs.Completing.{rule_of};
-ghost use Rattle.am_config.specs.Judging.{after_matchers, judged, configuration, IsFaultOf, IsLate};
+ghost use Rattle.am_config.specs.Judging.{after_matchers, fault_before, judged, configuration, IsFaultOf, IsLate};
 ghost use Rattle.am_config.specs.Matching.{matchers_in, matcher_texts, matchers_fit, patterns_of_draft};
 ghost use Rattle.am_config.specs.Outcome.{Gives};
 ghost use Rattle.am_config.specs.Stopping.{IsStopOf};
@@ -82,7 +82,8 @@ impl Config {
 // The configuration of a draft, where every check passes.
 #[tactic(auto, using(crate::proofs::Judgements::repeated_fault))]
 fn judged(alloc: Global, draft: &Draft, cache: &mut PatternCache) -> Result<Config, ConfigFault>
-    requires { IsTree draft.now.routes }
+    requires tree { IsTree draft.now.routes }
+    requires root { root_has_receiver draft.now.routes ≡ true }
     ensures ok { IfOk result (λ c. judged draft.now ≡ Ok c) }
     ensures refused { OnOk result (cache.new.refused ≡ cache.old.refused) }
     ensures fault { IfErr result (IsFaultOf (Ok draft.now) cache.old.refused cache.new.refused) }
@@ -127,6 +128,9 @@ fn completed(
 ) -> Result<Config, ConfigFault>
     requires receivers { named.now ≡ draft.now.receivers }
     requires tree { IsTree draft.now.routes }
+    requires root { root_has_receiver draft.now.routes ≡ true }
+    requires passed { fault_before draft.now ≡ None }
+    requires read { matchers_fit draft.now ≡ true }
     requires matchers { matchers.items ≡ map (λ (node : Node RouteDraft). matchers_in node.item.matchers) draft.now.routes }
     requires rules { rules.items ≡ map rule_of draft.now.rules }
     ensures value { Gives (λ c. c) result (after_matchers draft.now) }

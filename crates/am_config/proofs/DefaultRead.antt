@@ -1,0 +1,17 @@
+-- The text of the default configuration, read and judged.
+use Rattle.std.proofs.Common.{◌≡◌, Ok, refl, ap, ◌∙◌}
+use Rattle.am_draft.specs.Drafts.{draft_in}
+use Rattle.am_draft.proofs.Plain.{plain_draft, plain_read}
+use Rattle.am_config.specs.Checks.{counts_fit, durations_fit, is_repeated, is_root_bare, receivers_fit}
+use Rattle.am_config.specs.Completing.{completed, receiver_of, receivers_of, routes_from, webhooks_of}
+use Rattle.am_config.specs.Default.{default_configuration, default_text}
+use Rattle.am_config.specs.Inheriting.{said, told}
+use Rattle.am_config.specs.Judging.{configuration, judged}
+use Rattle.am_config.specs.Matching.{gives_matchers, matchers_fit, matchers_in}
+
+default_judged : judged plain_draft ≡ Ok default_configuration
+unfolding counts_fit durations_fit is_repeated is_root_bare receivers_fit completed receiver_of receivers_of routes_from webhooks_of said told gives_matchers matchers_fit matchers_in
+default_judged = refl
+
+pub default_read : configuration (draft_in default_text) ≡ Ok default_configuration
+default_read = ap configuration plain_read ∙ default_judged

@@ -1,0 +1,10 @@
+use Rattle.am_draft.specs.Drafts.{draft_in, posted}
+use Rattle.am_draft.proofs.Rooted.{text_rooted, document_rooted}
+use Rattle.am_config.proofs.Configured.{configuration_inherits}
+use Rattle.am_config.proofs.laws.configurations_inherit.Goals as goal
+
+pub returns-clause-text : goal.returns-clause-text
+returns-clause-text c = λ text made e. configuration_inherits (draft_in text) (text_rooted text) made e
+
+pub returns-clause-document : goal.returns-clause-document
+returns-clause-document c = λ document made e. configuration_inherits (posted document) (document_rooted document) made e
