@@ -27,10 +27,9 @@ use Rattle.am_draft.specs.declared.receiver.WebhookDraft.{WebhookDraft}
 use Rattle.am_draft.specs.declared.route.RouteDraft.{RouteDraft}
 use Rattle.am_draft.specs.declared.rule.RuleDraft.{RuleDraft}
 use Rattle.am_draft.specs.declared.tree.Node.{Node}
-use Rattle.am_draft.specs.Drafts.{has_left_out, root_has_receiver}
+use Rattle.am_draft.specs.Drafts.{root_has_receiver}
 use Rattle.am_draft.specs.Trees.{IsTree, none, tree}
 use Rattle.am_config.specs.declared.fault.ConfigFault.{ConfigFault}
-use Rattle.am_config.specs.declared.fault.ConfigFault.TheVariants.{BadReceiver, RootMatchers, BadDuration, LeftOut, BadMatcher, TooMany}
 use Rattle.am_config.specs.declared.parts.Receiver.{Receiver}
 use Rattle.am_config.specs.declared.parts.Route.{Route}
 use Rattle.am_config.specs.declared.parts.Rule.{Rule}
@@ -46,7 +45,7 @@ use Rattle.am_config.specs.Matching.{given, gives_matchers, matchers_fit, matche
 use Rattle.am_config.specs.Outcome.{◌>>=◌}
 use Rattle.am_config.specs.Places.{place}
 use Rattle.am_config.proofs.Inherits.{all_inherit}
-use Rattle.am_config.proofs.Judgements.{few_routes, unless_ok}
+use Rattle.am_config.proofs.Judgements.{all_passed, few_routes, finished, unless_ok}
 use Rattle.am_config.proofs.Shapes.{tree-routes_from, length-routes_from}
 
 -- ---- the checks that passed
@@ -56,18 +55,6 @@ both : {A B : Type 0} (first : Result A ConfigFault) (next : A → Result B Conf
     (a : A) × ((first ≡ Ok a) × (next a ≡ Ok b))
 both (Ok a) next b e = (a, (refl, e))
 both (Err fault) next b e = absurd (cc)
-
-passed : (receivers root durations left : Bool) →
-    (if not receivers then Some BadReceiver else if not root then Some RootMatchers else if not durations then Some BadDuration
-    else if left then Some LeftOut else None) ≡ None → (receivers ≡ true) × ((root ≡ true) × (durations ≡ true))
-passed false root durations left e = absurd (cc)
-passed true false durations left e = absurd (cc)
-passed true true false left e = absurd (cc)
-passed true true true left e = (refl, (refl, refl))
-
-all_passed : (draft : Draft) → fault_before draft ≡ None →
-    (receivers_fit draft ≡ true) × ((is_root_bare draft.routes ≡ true) × (durations_fit draft ≡ true))
-all_passed draft clear = passed (receivers_fit draft) (is_root_bare draft.routes) (durations_fit draft) (has_left_out draft) clear
 
 apart_fit : (draft : Draft) → receivers_fit draft ≡ true →
     (is_repeated draft.receivers ≡ false) × (have_listed draft.receivers draft.routes ≡ true)
@@ -498,22 +485,13 @@ configured draft found clear fit counts read whole named =
       places = places_of draft found same
           (places_fit draft.receivers draft.routes (some_listed draft.receivers draft.routes named listed.1));
       groupings = groupings_fit draft.receivers draft.routes;
-      intervals = intervals_fit draft.receivers draft.routes (spans_fit draft checks.1.1);
+      intervals = intervals_fit draft.receivers draft.routes (spans_fit draft checks.1.1.0);
       patterns = routes_patterns draft.receivers draft.routes 0 draft.routes patterns.0;
       few_receivers = omega (arith, same, few.0);
       names = names_fit draft.receivers found read listed.0;
       few_webhooks = webhooks_fit draft.receivers found read few.1;
       rule_patterns = rules_patterns draft.rules patterns.1;
     }
-
--- what is left once no fault came before the matchers
-finished : (draft : Draft) (fit counts : Bool) (receivers : Result (List Receiver) ConfigFault) (c : Configuration) →
-    (if not fit then Err BadMatcher else (if not counts then Err TooMany else (receivers >>= λ found. Ok (completed draft found)))) ≡ Ok c →
-    (fit ≡ true) × ((counts ≡ true) × ((found : List Receiver) × ((receivers ≡ Ok found) × (completed draft found ≡ c))))
-finished draft false counts receivers c e = absurd (cc)
-finished draft true false receivers c e = absurd (cc)
-finished draft true true (Err fault) c e = absurd (cc)
-finished draft true true (Ok found) c e = let same : completed draft found ≡ c = cc in (refl, (refl, (found, (refl, same))))
 
 -- the configuration that a draft comes to
 pub judged_configured : (draft : Draft) (c : Configuration) → judged draft ≡ Ok c → IsTree draft.routes →

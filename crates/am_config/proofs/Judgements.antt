@@ -163,30 +163,41 @@ pub unless_ok : (fault : Option ConfigFault) (outcome : Result Configuration Con
 unless_ok None outcome c e = (refl, e)
 unless_ok (Some fault) outcome c e = absurd (cc)
 
-no_left_out : (receivers root durations left : Bool) →
+passed : (receivers root durations left : Bool) →
     (if not receivers then Some BadReceiver else if not root then Some RootMatchers else if not durations then Some BadDuration
-    else if left then Some LeftOut else None) ≡ None → left ≡ false
-no_left_out false root durations left e = absurd (cc)
-no_left_out true false durations left e = absurd (cc)
-no_left_out true true false left e = absurd (cc)
-no_left_out true true true true e = absurd (cc)
-no_left_out true true true false e = refl
+    else if left then Some LeftOut else None) ≡ None →
+    (receivers ≡ true) × ((root ≡ true) × ((durations ≡ true) × (left ≡ false)))
+passed false root durations left e = absurd (cc)
+passed true false durations left e = absurd (cc)
+passed true true false left e = absurd (cc)
+passed true true true true e = absurd (cc)
+passed true true true false e = (refl, (refl, (refl, refl)))
 
-completed_text : (draft : Draft) (fit counts : Bool) (receivers : Result (List Receiver) ConfigFault) (c : Configuration) →
+-- the checks that passed where no fault comes before the matchers
+pub all_passed : (draft : Draft) → fault_before draft ≡ None →
+    (receivers_fit draft ≡ true) × ((is_root_bare draft.routes ≡ true) × ((durations_fit draft ≡ true) × (has_left_out draft ≡ false)))
+all_passed draft clear = passed (receivers_fit draft) (is_root_bare draft.routes) (durations_fit draft) (has_left_out draft) clear
+
+-- and what passed after that, where all passed
+pub finished : (draft : Draft) (fit counts : Bool) (receivers : Result (List Receiver) ConfigFault) (c : Configuration) →
     (if not fit then Err BadMatcher else (if not counts then Err TooMany else (receivers >>= λ found. Ok (completed draft found)))) ≡ Ok c →
-    c.text ≡ draft.text
+    (fit ≡ true) × ((counts ≡ true) × ((found : List Receiver) × ((receivers ≡ Ok found) × (completed draft found ≡ c))))
+finished draft false counts receivers c e = absurd (cc)
+finished draft true false receivers c e = absurd (cc)
+finished draft true true (Err fault) c e = absurd (cc)
+finished draft true true (Ok found) c e = let same : completed draft found ≡ c = cc in (refl, (refl, (found, (refl, same))))
+
+text_of_completed : (draft : Draft) (found : List Receiver) → (completed draft found).text ≡ draft.text
 unfolding completed
-completed_text draft false counts receivers c e = absurd (cc)
-completed_text draft true false receivers c e = absurd (cc)
-completed_text draft true true (Err fault) c e = absurd (cc)
-completed_text draft true true (Ok found) c e = let same : completed draft found ≡ c = cc in sym (ap (λ (x : Configuration). x.text) same)
+text_of_completed draft found = refl
 
 -- a configuration's text is its draft's, and no key is left out
 pub judged_text : (draft : Draft) (c : Configuration) → judged draft ≡ Ok c → (c.text ≡ draft.text) × (has_left_out draft ≡ false)
 judged_text draft c e =
-    let parts = unless_ok (fault_before draft) _ c e in (
-      completed_text draft (matchers_fit draft) (counts_fit draft) (receivers_of draft.receivers) c parts.1,
-      no_left_out (receivers_fit draft) (is_root_bare draft.routes) (durations_fit draft) (has_left_out draft) parts.0,
+    let parts = unless_ok (fault_before draft) _ c e in
+    let rest = finished draft (matchers_fit draft) (counts_fit draft) (receivers_of draft.receivers) c parts.1 in (
+      ap (λ (made : Configuration). made.text) (sym rest.1.1.1.1) ∙ text_of_completed draft rest.1.1.0,
+      (all_passed draft parts.0).1.1.1,
     )
 
 -- so the text is read as the same configuration
