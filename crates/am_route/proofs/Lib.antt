@@ -1,3 +1,4 @@
+pub mod AskedLemmas
 pub mod FaultLemmas
 pub mod RoutesLemmas
 pub mod TreeLemmas

@@ -2,5 +2,7 @@
 pub mod Trees
 -- the routes of labels
 pub mod Routes
+-- the matchers that are asked
+pub mod Asked
 -- why no routes are given
 pub mod Faults

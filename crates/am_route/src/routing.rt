@@ -2,7 +2,9 @@ ghost use Rattle.std.specs.Prelude.{◌≡◌, ◌+◌, ◌++◌, ◌≤◌, ◌
 ghost use Rattle.std.specs.List.{list_all};
 ghost use Rattle.am_match.specs.Checking.{AreRefusedRightly};
 ghost use Rattle.am_match.specs.Meaning.{takes_labels};
-ghost use Rattle.am_route.specs.Faults.{IsErrorOf, IsMatchersFault, IsRoutingFault, patterns_of_routes};
+ghost use Rattle.am_match.specs.Matchers.{patterns_of};
+ghost use Rattle.am_route.specs.Asked.{asked_among, asked_at, asked_of};
+ghost use Rattle.am_route.specs.Faults.{IsAskingFault, IsErrorOf};
 ghost use Rattle.am_route.specs.Routes.{routes_among, routes_at, routes_within};
 ghost use Rattle.am_route.specs.Trees.{IsForest, forest_of};
 
@@ -22,8 +24,8 @@ use std::alloc::Global;
 ///
 /// # Errors
 ///
-/// Those of [`Matcher::matches`] for a matcher of one of the routes. The cache then keeps its pattern as refused, where
-/// it has at most 256 bytes; want of memory leaves the cache as it was.
+/// Those of [`Matcher::matches`] for a matcher that is asked on the way of these labels. The cache then keeps
+/// its pattern as refused, where it has at most 256 bytes; want of memory leaves the cache as it was.
 pub fn routes_of(
     alloc: Global,
     config: &Config,
@@ -32,11 +34,12 @@ pub fn routes_of(
 ) -> Result<Vec<RouteId>, Build>
     ensures routes { IfOk result (λ found. found.items ≡ routes_at labels.now config.now.routes) }
     ensures kept { OnOk result (cache.new.refused ≡ cache.old.refused) }
-    ensures fault { IfErr result (λ error. IsRoutingFault config.now.routes cache.old.refused error cache.new.refused) }
+    ensures fault { IfErr result (λ error.
+        IsAskingFault (asked_at labels.now config.now.routes) cache.old.refused error cache.new.refused) }
 
-    // Where no build of a pattern of the routes was refused, only want of memory is left, or no pattern.
-    ensures meaning { AreRefusedRightly cache.new.refused (patterns_of_routes config.now.routes)
-        → IfErr result (IsErrorOf config.now.routes) }
+    // Where no build of a pattern that is asked was refused, only want of memory is left, or no pattern.
+    ensures meaning { AreRefusedRightly cache.new.refused (patterns_of (asked_at labels.now config.now.routes))
+        → IfErr result (IsErrorOf (asked_at labels.now config.now.routes)) }
     ensures capacity { cache.new.capacity ≡ cache.old.capacity }
 {
     let mut found = Vec::new(alloc);
@@ -62,7 +65,8 @@ fn walk(
     ensures routes { OnOk result (found.new.items
         ≡ found.old.items ++ routes_among labels.now first (forest_of nodes.now)) }
     ensures kept { OnOk result (cache.new.refused ≡ cache.old.refused) }
-    ensures fault { IfErr result (λ error. IsRoutingFault nodes.now cache.old.refused error cache.new.refused) }
+    ensures fault { IfErr result (λ error.
+        IsAskingFault (asked_among labels.now (forest_of nodes.now)) cache.old.refused error cache.new.refused) }
     ensures capacity { cache.new.capacity ≡ cache.old.capacity }
 {
     let mut rest = nodes;
@@ -96,7 +100,8 @@ fn enter(
     ensures routes { OnOk result (found.new.items
         ≡ found.old.items ++ routes_within labels.now number (forest_of within.now)) }
     ensures kept { OnOk result (cache.new.refused ≡ cache.old.refused) }
-    ensures fault { IfErr result (λ error. IsRoutingFault within.now cache.old.refused error cache.new.refused) }
+    ensures fault { IfErr result (λ error.
+        IsAskingFault (asked_among labels.now (forest_of within.now)) cache.old.refused error cache.new.refused) }
     ensures capacity { cache.new.capacity ≡ cache.old.capacity }
 {
     let before = found.len();
@@ -116,7 +121,8 @@ fn takes_all(
 ) -> Result<bool, Build>
     ensures value { IfOk result (λ taken. taken ≡ list_all (λ matcher. takes_labels matcher labels.now) matchers.now) }
     ensures kept { OnOk result (cache.new.refused ≡ cache.old.refused) }
-    ensures fault { IfErr result (λ error. IsMatchersFault matchers.now cache.old.refused error cache.new.refused) }
+    ensures fault { IfErr result (λ error.
+        IsAskingFault (asked_of labels.now matchers.now) cache.old.refused error cache.new.refused) }
     ensures capacity { cache.new.capacity ≡ cache.old.capacity }
 {
     for matcher in matchers {

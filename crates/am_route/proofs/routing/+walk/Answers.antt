@@ -1,6 +1,9 @@
 use Rattle.std.proofs.Common.{rules, ◌≡◌, ◌∙◌, true, false, arith, sym}
 use Rattle.am_route.specs.Routes.{route_takes}
-use Rattle.am_route.proofs.FaultLemmas.{ArePart, back_is_part, behind_is_part, fault_of_part, front_is_part, handed_on}
+use Rattle.am_route.specs.Asked.{asked_among, asked_of}
+use Rattle.am_route.specs.Trees.{forest_of}
+use Rattle.am_route.proofs.AskedLemmas.{below_asked, later_asked, own_asked, passed_asked}
+use Rattle.am_route.proofs.FaultLemmas.{AreAmong, fault_of_part, handed_on}
 use Rattle.am_route.proofs.RoutesLemmas.{head_of, passed, routes_none, taken_last, taken_on}
 use Rattle.am_route.proofs.routing.+walk.Goals as goal
 use Rattle.am_route.proofs.routing.+walk.Goals.{walk-then-branch+in_ok-enter+else-not-node, walk-else-branch}
@@ -24,7 +27,14 @@ walk-sibling-preserved t c =
     record {
       forest = rw split.back head.after;
       few = omega (arith, split.back_len, behind);
-      part = rw split.back (λ node at. c.sibling.invariant.part node (rw c.in-Some.ensures.cases.0 (behind_is_part c.in-Some.node.now c.in-Some.behind.now node (back_is_part c.in-Some.node.now.within c.in-Some.behind.now node at))));
+      asked = elim c.if-branch.branch [
+        | walk-then-branch+in_ok-enter+else-not-node w ↦
+            let takes : route_takes c.in-Some.node.now.item c.args.labels.now ≡ true = rw (← c.as_slice.ensures) (sym c.in_ok-takes_all.ensures.value ∙ w.if-branch.true) in
+            rw split.back (λ matcher at. c.sibling.invariant.asked matcher (later_asked c.args.labels.now c.sibling.number c.sibling.rest.now c.in-Some.node.now c.in-Some.behind.now c.in-Some.ensures.cases.0 c.sibling.invariant.forest takes w.if-not-node.false matcher at))
+        | walk-else-branch w ↦
+            let takes : route_takes c.in-Some.node.now.item c.args.labels.now ≡ false = rw (← c.as_slice.ensures) (sym c.in_ok-takes_all.ensures.value ∙ w.if-branch.false) in
+            rw split.back (λ matcher at. c.sibling.invariant.asked matcher (passed_asked c.args.labels.now c.sibling.number c.sibling.rest.now c.in-Some.node.now c.in-Some.behind.now c.in-Some.ensures.cases.0 c.sibling.invariant.forest takes matcher at))
+      ];
       shorter = omega (arith, split.back_len, behind);
       routes = elim c.if-branch.branch [
         | walk-then-branch+in_ok-enter+else-not-node w ↦
@@ -50,9 +60,19 @@ pub walk-returns-in_default-clause-routes : goal.walk-returns-in_default-clause-
 walk-returns-in_default-clause-routes t c =
     sym (routes_none c.args.labels.now c.sibling.number c.sibling.rest.now c.sibling.found.items c.in_default.ensures.cases) ∙ c.sibling.invariant.routes
 
+pub walk-returns-in_err-takes_all-clause-fault : goal.walk-returns-in_err-takes_all-clause-fault
+walk-returns-in_err-takes_all-clause-fault t c =
+    let own = asked_of c.args.labels.now c.in-Some.node.now.item.matchers in
+    let all = asked_among c.args.labels.now (forest_of c.args.nodes.now) in
+    let among : AreAmong own all = λ matcher at. c.sibling.invariant.asked matcher (own_asked c.args.labels.now c.sibling.number c.sibling.rest.now c.in-Some.node.now c.in-Some.behind.now c.in-Some.ensures.cases.0 c.sibling.invariant.forest matcher at) in
+    handed_on _ c.from_residual.result c.in_err-takes_all.field-0.0 c.from_residual.ensures.1
+    (fault_of_part own all c.args.cache.now.refused c.takes_all.new.cache.refused c.in_err-takes_all.field-0.0 among (rw (c.as_slice.ensures, c.sibling.invariant.kept) at c.in_err-takes_all.ensures.fault))
+
 pub walk-returns-in_err-enter-clause-fault : goal.walk-returns-in_err-enter-clause-fault
 walk-returns-in_err-enter-clause-fault t c =
-    let among : ArePart c.split_at.result.0.now c.args.nodes.now = rw c.split_at.ensures.front (λ node at. c.sibling.invariant.part node (rw c.in-Some.ensures.cases.0 (behind_is_part c.in-Some.node.now c.in-Some.behind.now node (front_is_part c.in-Some.node.now.within c.in-Some.behind.now node at)))) in
+    let takes : route_takes c.in-Some.node.now.item c.args.labels.now ≡ true = rw (← c.as_slice.ensures) (sym c.in_ok-takes_all.ensures.value ∙ c.if-branch.true) in
+    let among : AreAmong (asked_among c.args.labels.now (forest_of c.split_at.result.0.now)) (asked_among c.args.labels.now (forest_of c.args.nodes.now)) =
+    rw c.split_at.ensures.front (λ matcher at. c.sibling.invariant.asked matcher (below_asked c.args.labels.now c.sibling.number c.sibling.rest.now c.in-Some.node.now c.in-Some.behind.now c.in-Some.ensures.cases.0 c.sibling.invariant.forest takes matcher at)) in
     let old : c.takes_all.new.cache.refused ≡ c.args.cache.now.refused = c.in_ok-takes_all.ensures.kept ∙ c.sibling.invariant.kept in
     handed_on _ c.from_residual-in_err-enter.result c.in_err-enter.field-0.0 c.from_residual-in_err-enter.ensures.1
-    (fault_of_part c.split_at.result.0.now c.args.nodes.now c.args.cache.now.refused c.enter.new.cache.refused c.in_err-enter.field-0.0 among (rw old at c.in_err-enter.ensures.fault))
+    (fault_of_part (asked_among c.args.labels.now (forest_of c.split_at.result.0.now)) (asked_among c.args.labels.now (forest_of c.args.nodes.now)) c.args.cache.now.refused c.enter.new.cache.refused c.in_err-enter.field-0.0 among (rw old at c.in_err-enter.ensures.fault))

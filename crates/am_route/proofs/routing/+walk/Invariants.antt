@@ -1,9 +1,8 @@
 use Rattle.std.proofs.Common.{◌≡◌, ◌+◌, ◌*◌, ◌++◌, ◌≤◌, ◌^◌, length}
-use Rattle.std.specs.List.{Contains}
-use Rattle.am_draft.specs.declared.tree.Node.{Node}
-use Rattle.am_config.specs.declared.parts.Route.{Route}
+use Rattle.am_route.specs.Asked.{asked_among}
 use Rattle.am_route.specs.Routes.{routes_among}
 use Rattle.am_route.specs.Trees.{IsForest, forest_of}
+use Rattle.am_route.proofs.FaultLemmas.{AreAmong}
 use Rattle.am_route.proofs.routing.+walk.Given as goal
 
 abbrev pub decreases-enter : goal.decreases-enter
@@ -17,7 +16,7 @@ invariant-walk-sibling l =
     record {
       forest : IsForest l.rest;
       few : l.number + length l.rest ≤ 2 ^ 62;
-      part : (node : Node Route) → Contains l.rest node → Contains l.nodes node;
+      asked : AreAmong (asked_among l.labels (forest_of l.rest)) (asked_among l.labels (forest_of l.nodes));
       shorter : length l.rest ≤ length l.nodes;
       routes : l.found.items ++ routes_among l.labels l.number (forest_of l.rest) ≡ l.fn.found.items ++ routes_among l.labels l.first (forest_of l.nodes);
       kept : l.cache.refused ≡ l.fn.cache.refused;

@@ -1,9 +1,11 @@
-use Rattle.std.proofs.Common.{◌∙◌, ◌∷◌, sym}
-use Rattle.am_route.proofs.FaultLemmas.{behind_is_part, error_left, fault_of_part, handed_on}
+use Rattle.std.proofs.Common.{◌∙◌, sym}
+use Rattle.am_route.proofs.AskedLemmas.{asked_of_tree}
+use Rattle.am_route.proofs.FaultLemmas.{error_left, handed_on}
 use Rattle.am_route.proofs.RoutesLemmas.{no_empty_tree, routes_of_tree}
 use Rattle.am_route.proofs.routing.routes_of.Goals as goal
 use Rattle.am_route.proofs.routing.routes_of.Goals.{in-Some+in_ok-enter, in_default}
-use Rattle.am_route.specs.Faults.{IsRoutingFault}
+use Rattle.am_route.specs.Asked.{asked_at}
+use Rattle.am_route.specs.Faults.{IsAskingFault}
 
 pub returns-clause-routes : goal.returns-clause-routes
 returns-clause-routes c =
@@ -16,11 +18,12 @@ returns-clause-routes c =
           absurd (no_empty_tree c.args.config.now.routes (rw c.routes.ensures.routes at w.in_default.ensures.cases) c.routes.ensures.tree)
     ]
 
--- the fault of the routes below the root is one of all routes
-fault_is : (c : goal.After-drop-found) → IsRoutingFault c.args.config.now.routes c.args.cache.now.refused c.in_err-enter.field-0.0 c.enter.new.cache.refused
+-- what is asked below the root is all that is asked
+fault_is : (c : goal.After-drop-found) → IsAskingFault (asked_at c.args.labels.now c.args.config.now.routes) c.args.cache.now.refused c.in_err-enter.field-0.0 c.enter.new.cache.refused
 fault_is c =
-    rw (sym c.routes.ensures.routes ∙ c.in-Some.ensures.cases.0)
-    (fault_of_part c.in-Some.within.now (c.in-Some._root.now ∷ c.in-Some.within.now) c.args.cache.now.refused c.enter.new.cache.refused c.in_err-enter.field-0.0 (behind_is_part c.in-Some._root.now c.in-Some.within.now) c.in_err-enter.ensures.fault)
+    let first = sym c.routes.ensures.routes ∙ c.in-Some.ensures.cases.0 in
+    rw (← asked_of_tree c.args.labels.now c.args.config.now.routes c.in-Some._root.now c.in-Some.within.now first c.routes.ensures.tree)
+    c.in_err-enter.ensures.fault
 
 pub returns-in_err-enter-clause-fault : goal.returns-in_err-enter-clause-fault
 returns-in_err-enter-clause-fault c =
@@ -29,4 +32,4 @@ returns-in_err-enter-clause-fault c =
 pub returns-in_err-enter-clause-meaning : goal.returns-in_err-enter-clause-meaning
 returns-in_err-enter-clause-meaning c rightly =
     handed_on _ c.from_residual.result c.in_err-enter.field-0.0 c.from_residual.ensures.1
-    (error_left c.args.config.now.routes c.args.cache.now.refused c.enter.new.cache.refused c.in_err-enter.field-0.0 (fault_is c) rightly)
+    (error_left (asked_at c.args.labels.now c.args.config.now.routes) c.args.cache.now.refused c.enter.new.cache.refused c.in_err-enter.field-0.0 (fault_is c) rightly)
