@@ -1,5 +1,5 @@
 -- The matchers that are asked: those of the first sibling, and those after it.
-use Rattle.std.proofs.Common.{◌≡◌, ℕ, ◌+◌, ◌<◌, true, false, List, [], ◌∷◌, ◌++◌, length, get_or, take, drop, refl, append-nil, arith}
+use Rattle.std.proofs.Common.{◌≡◌, ℕ, ◌+◌, ◌<◌, true, false, List, [], ◌∷◌, ◌++◌, length, get_or, take, drop, refl, subst, append-nil, arith}
 use Rattle.std.proofs.lemmas.List.{drop_more}
 use Rattle.std.specs.List.{Contains, list_all}
 use Rattle.std.specs.Prelude.{if◌then◌else◌}
@@ -13,8 +13,7 @@ use Rattle.am_route.specs.Asked.{asked_among, asked_at, asked_of}
 use Rattle.am_route.specs.Routes.{route_takes}
 use Rattle.am_route.specs.Trees.{IsForest, forest_of}
 use Rattle.am_route.proofs.FaultLemmas.{AreAmong, in_back, in_front}
-use Rattle.am_route.proofs.RoutesLemmas.{head_of}
-use Rattle.am_route.proofs.TreeLemmas.{forest_of-flat}
+use Rattle.am_route.proofs.TreeLemmas.{forest_of-flat, head}
 
 -- the matcher at a place, where those before it took the labels
 module _ (labels : List Label) (ms : List MatcherText) (k : ℕ) (m : MatcherText) (within : k < length ms) (is : m ≡ get_or ms k m) where
@@ -34,7 +33,7 @@ module _ (labels : List Label) (ms : List MatcherText) (k : ℕ) (m : MatcherTex
   pub asked_behind : takes_labels m labels ≡ true → AreAmong (asked_of labels (drop (k + 1) ms)) (asked_of labels (drop k ms))
   asked_behind takes matcher at = rw (rest_by_first, takes) (in_back (m ∷ []) (asked_of labels (drop (k + 1) ms)) matcher at)
 
-module _ (labels : List Label) (number : ℕ) (nodes : List (Node Route)) (node : Node Route) (behind : List (Node Route)) (e : nodes ≡ node ∷ behind) (h : IsForest nodes) where
+module _ (labels : List Label) (nodes : List (Node Route)) (node : Node Route) (behind : List (Node Route)) (e : nodes ≡ node ∷ behind) (h : IsForest nodes) where
   -- those of the first sibling
   abbrev own : List MatcherText
   own = asked_of labels node.item.matchers
@@ -53,7 +52,7 @@ module _ (labels : List Label) (number : ℕ) (nodes : List (Node Route)) (node 
 
   all_by_first : all ≡ own ++ (if route_takes node.item labels then below ++ (if node.item.goes_on then later else []) else later)
   unfolding asked_among
-  all_by_first = rw (e, (head_of labels number nodes node behind e h).is) refl
+  all_by_first = rw (e, (head node behind (subst (λ (list : List (Node Route)). IsForest list) e h)).is) refl
 
   -- the first sibling is asked
   pub own_asked : AreAmong own all

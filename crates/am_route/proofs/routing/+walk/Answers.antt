@@ -30,10 +30,10 @@ walk-sibling-preserved t c =
       asked = elim c.if-branch.branch [
         | walk-then-branch+in_ok-enter+else-not-node w ↦
             let takes : route_takes c.in-Some.node.now.item c.args.labels.now ≡ true = rw (← c.as_slice.ensures) (sym c.in_ok-takes_all.ensures.value ∙ w.if-branch.true) in
-            rw split.back (λ matcher at. c.sibling.invariant.asked matcher (later_asked c.args.labels.now c.sibling.number c.sibling.rest.now c.in-Some.node.now c.in-Some.behind.now c.in-Some.ensures.cases.0 c.sibling.invariant.forest takes w.if-not-node.false matcher at))
+            rw split.back (λ matcher at. c.sibling.invariant.asked matcher (later_asked c.args.labels.now c.sibling.rest.now c.in-Some.node.now c.in-Some.behind.now c.in-Some.ensures.cases.0 c.sibling.invariant.forest takes w.if-not-node.false matcher at))
         | walk-else-branch w ↦
             let takes : route_takes c.in-Some.node.now.item c.args.labels.now ≡ false = rw (← c.as_slice.ensures) (sym c.in_ok-takes_all.ensures.value ∙ w.if-branch.false) in
-            rw split.back (λ matcher at. c.sibling.invariant.asked matcher (passed_asked c.args.labels.now c.sibling.number c.sibling.rest.now c.in-Some.node.now c.in-Some.behind.now c.in-Some.ensures.cases.0 c.sibling.invariant.forest takes matcher at))
+            rw split.back (λ matcher at. c.sibling.invariant.asked matcher (passed_asked c.args.labels.now c.sibling.rest.now c.in-Some.node.now c.in-Some.behind.now c.in-Some.ensures.cases.0 c.sibling.invariant.forest takes matcher at))
       ];
       shorter = omega (arith, split.back_len, behind);
       routes = elim c.if-branch.branch [
@@ -64,7 +64,7 @@ pub walk-returns-in_err-takes_all-clause-fault : goal.walk-returns-in_err-takes_
 walk-returns-in_err-takes_all-clause-fault t c =
     let own = asked_of c.args.labels.now c.in-Some.node.now.item.matchers in
     let all = asked_among c.args.labels.now (forest_of c.args.nodes.now) in
-    let among : AreAmong own all = λ matcher at. c.sibling.invariant.asked matcher (own_asked c.args.labels.now c.sibling.number c.sibling.rest.now c.in-Some.node.now c.in-Some.behind.now c.in-Some.ensures.cases.0 c.sibling.invariant.forest matcher at) in
+    let among : AreAmong own all = λ matcher at. c.sibling.invariant.asked matcher (own_asked c.args.labels.now c.sibling.rest.now c.in-Some.node.now c.in-Some.behind.now c.in-Some.ensures.cases.0 c.sibling.invariant.forest matcher at) in
     handed_on _ c.from_residual.result c.in_err-takes_all.field-0.0 c.from_residual.ensures.1
     (fault_of_part own all c.args.cache.now.refused c.takes_all.new.cache.refused c.in_err-takes_all.field-0.0 among (rw (c.as_slice.ensures, c.sibling.invariant.kept) at c.in_err-takes_all.ensures.fault))
 
@@ -72,7 +72,7 @@ pub walk-returns-in_err-enter-clause-fault : goal.walk-returns-in_err-enter-clau
 walk-returns-in_err-enter-clause-fault t c =
     let takes : route_takes c.in-Some.node.now.item c.args.labels.now ≡ true = rw (← c.as_slice.ensures) (sym c.in_ok-takes_all.ensures.value ∙ c.if-branch.true) in
     let among : AreAmong (asked_among c.args.labels.now (forest_of c.split_at.result.0.now)) (asked_among c.args.labels.now (forest_of c.args.nodes.now)) =
-    rw c.split_at.ensures.front (λ matcher at. c.sibling.invariant.asked matcher (below_asked c.args.labels.now c.sibling.number c.sibling.rest.now c.in-Some.node.now c.in-Some.behind.now c.in-Some.ensures.cases.0 c.sibling.invariant.forest takes matcher at)) in
+    rw c.split_at.ensures.front (λ matcher at. c.sibling.invariant.asked matcher (below_asked c.args.labels.now c.sibling.rest.now c.in-Some.node.now c.in-Some.behind.now c.in-Some.ensures.cases.0 c.sibling.invariant.forest takes matcher at)) in
     let old : c.takes_all.new.cache.refused ≡ c.args.cache.now.refused = c.in_ok-takes_all.ensures.kept ∙ c.sibling.invariant.kept in
     handed_on _ c.from_residual-in_err-enter.result c.in_err-enter.field-0.0 c.from_residual-in_err-enter.ensures.1
     (fault_of_part (asked_among c.args.labels.now (forest_of c.split_at.result.0.now)) (asked_among c.args.labels.now (forest_of c.args.nodes.now)) c.args.cache.now.refused c.enter.new.cache.refused c.in_err-enter.field-0.0 among (rw old at c.in_err-enter.ensures.fault))
