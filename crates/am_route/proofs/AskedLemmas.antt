@@ -1,14 +1,16 @@
 -- The matchers that are asked: those of the first sibling, and those after it.
-use Rattle.std.proofs.Common.{◌≡◌, ℕ, ◌+◌, ◌<◌, true, false, List, [], ◌∷◌, ◌++◌, length, get_or, take, drop, refl, subst, append-nil, arith}
+use Rattle.std.proofs.Common.{◌≡◌, ℕ, ◌+◌, ◌<◌, Bool, true, false, List, All, [], ◌∷◌, ◌++◌, length, get_or, take, drop, refl, subst, append-nil, arith}
 use Rattle.std.proofs.lemmas.List.{drop_more}
+use Rattle.std.proofs.lemmas.List.Elements.{All-append, All-cons, All-head, All-nil, All-tail}
 use Rattle.std.specs.List.{Contains, list_all}
 use Rattle.std.specs.Prelude.{if◌then◌else◌}
 use Rattle.am_labels.specs.declared.Label.{Label}
 use Rattle.am_match.specs.Matchers.{MatcherText}
 use Rattle.am_match.specs.Meaning.{takes_labels}
 use Rattle.am_draft.specs.declared.tree.Node.{Node}
-use Rattle.am_draft.specs.Trees.{IsTree, flat, none, tree}
+use Rattle.am_draft.specs.Trees.{Forest, IsTree, flat, none, tree}
 use Rattle.am_config.specs.declared.parts.Route.{Route}
+use Rattle.am_config.specs.Configured.{HasPattern}
 use Rattle.am_route.specs.Asked.{asked_among, asked_at, asked_of}
 use Rattle.am_route.specs.Routes.{route_takes}
 use Rattle.am_route.specs.Trees.{IsForest, forest_of}
@@ -76,3 +78,50 @@ pub asked_of_tree : (labels : List Label) (nodes : List (Node Route)) (root : No
 asked_of_tree labels nodes root behind e (item, (within, is)) =
     let rest : behind ≡ flat within = cc (append-nil (flat within)) in
     rw (is, rest, forest_of-flat within, forest_of-flat (tree item within none)) refl
+
+-- of what holds of a whole list, those in its front and in its back
+all_in_front : {A : Type 0} (P : A → Type 0) (xs ys : List A) → All P (xs ++ ys) → All P xs
+all_in_front P [] ys fine = All-nil P
+all_in_front P (x ∷ xs) ys fine = All-cons P x xs (All-head P x (xs ++ ys) fine) (all_in_front P xs ys (All-tail P x (xs ++ ys) fine))
+
+all_in_back : {A : Type 0} (P : A → Type 0) (xs ys : List A) → All P (xs ++ ys) → All P ys
+all_in_back P [] ys fine = fine
+all_in_back P (x ∷ xs) ys fine = all_in_back P xs ys (All-tail P x (xs ++ ys) fine)
+
+-- each matcher of a route has its pattern
+abbrev pub HavePatterns : Node Route → Type 0
+HavePatterns node = All HasPattern node.item.matchers
+
+module _ (labels : List Label) where
+  patterns_asked_of : (ms : List MatcherText) → All HasPattern ms → All HasPattern (asked_of labels ms)
+  unfolding asked_of
+  patterns_asked_of [] fine = All-nil HasPattern
+  patterns_asked_of (m ∷ ms) fine =
+      All-cons HasPattern m _ (All-head HasPattern m ms fine)
+      (elim (takes_labels m labels) as (λ (b : Bool). All HasPattern (if b then asked_of labels ms else []))
+      [ true ↦ patterns_asked_of ms (All-tail HasPattern m ms fine) | false ↦ All-nil HasPattern ])
+
+  patterns_asked_among : (f : Forest Route) → All HavePatterns (flat f) → All HasPattern (asked_among labels f)
+  unfolding asked_among
+  patterns_asked_among none fine = All-nil HasPattern
+  patterns_asked_among (tree route within after) fine =
+      let behind = All-tail HavePatterns (record { item = route; within = length (flat within) }) (flat within ++ flat after) fine in
+      let below = patterns_asked_among within (all_in_front HavePatterns (flat within) (flat after) behind) in
+      let later = patterns_asked_among after (all_in_back HavePatterns (flat within) (flat after) behind) in
+      All-append HasPattern (asked_of labels route.matchers) _
+      (patterns_asked_of route.matchers (All-head HavePatterns (record { item = route; within = length (flat within) }) (flat within ++ flat after) fine))
+      (elim (route_takes route labels) as
+      (λ (b : Bool). All HasPattern (if b then asked_among labels within ++ (if route.goes_on then asked_among labels after else []) else asked_among labels after)) [
+        | true ↦
+            All-append HasPattern (asked_among labels within) _ below
+            (elim route.goes_on as (λ (b : Bool). All HasPattern (if b then asked_among labels after else [])) [ true ↦ later | false ↦ All-nil HasPattern ])
+        | false ↦ later
+      ])
+
+  -- each matcher that is asked has its pattern, where those of all routes have
+  pub patterns_asked_at : (nodes : List (Node Route)) → IsTree nodes → All HavePatterns nodes → All HasPattern (asked_at labels nodes)
+  patterns_asked_at nodes (root, (within, is)) fine =
+      rw (is, forest_of-flat (tree root within none))
+      (patterns_asked_among within
+      (all_in_front HavePatterns (flat within) []
+      (All-tail HavePatterns (record { item = root; within = length (flat within) }) (flat within ++ []) (rw is at fine))))

@@ -1,5 +1,5 @@
 -- A fault of some of the matchers that are asked is one of all of them.
-use Rattle.std.proofs.Common.{◌≡◌, ◌∙◌, ℕ, zero, suc, ◌<◌, Bool, true, false, List, [], ◌∷◌, ◌++◌, length, get_or, length-append, refl, sym, subst, arith}
+use Rattle.std.proofs.Common.{◌≡◌, ◌∙◌, ℕ, zero, suc, ◌<◌, Bool, true, false, List, All, [], ◌∷◌, ◌++◌, length, get_or, length-append, refl, sym, subst, arith}
 use Rattle.std.proofs.lemmas.List.{get_or_append_left}
 use Rattle.std.specs.List.{Contains}
 use Rattle.std.specs.Prelude.{Result, Ok, Err, IfErr, IsTrue}
@@ -9,7 +9,8 @@ use Rattle.am_pattern.specs.declared.error.Build.TheVariants.{Syntax, TooBig, Ou
 use Rattle.am_pattern.specs.Refused.{IsCauseOf, IsRefusedRightly, noted, refused_after}
 use Rattle.am_pattern.specs.Taking.{IsPattern}
 use Rattle.am_pattern.proofs.ForCallers.{has_text-noted}
-use Rattle.am_route.specs.Faults.{IsAskingFault, IsErrorOf}
+use Rattle.am_config.specs.Configured.{HasPattern}
+use Rattle.am_route.specs.Faults.{IsAskingFault}
 use Rattle.am_match.specs.Checking.{AreRefusedRightly}
 use Rattle.am_match.specs.Matchers.{MatcherText, is_on_pattern, patterns_of}
 use Rattle.std.proofs.lemmas.List.Elements.{All-contains}
@@ -61,10 +62,11 @@ no_pattern asked old new matcher (k, below, is) on note rightly pattern =
     All-contains (λ (p : List ℕ). IsRefusedRightly new p) (patterns_of asked) matcher.value rightly
     (pattern_among asked matcher k below is on) (rw note (has_text-noted old matcher.value pattern.0)) pattern
 
--- so only want of memory is left, or a matcher on no pattern
-pub error_left : (asked : List MatcherText) (old new : List (List ℕ)) (error : Build) → IsAskingFault asked old error new → AreRefusedRightly new (patterns_of asked) → IsErrorOf asked error
-error_left asked old new Syntax (matcher, at, refused) rightly =
-    (matcher, at, refused.on_pattern, no_pattern asked old new matcher at refused.on_pattern refused.noted rightly)
-error_left asked old new TooBig (matcher, at, refused) rightly =
+-- so only want of memory is left, where each of them has its pattern
+pub error_left : (asked : List MatcherText) (old new : List (List ℕ)) (error : Build) → All HasPattern asked → IsAskingFault asked old error new → AreRefusedRightly new (patterns_of asked)
+    → error ≡ OutOfMemory
+error_left asked old new Syntax fine (matcher, at, refused) rightly =
+    absurd (no_pattern asked old new matcher at refused.on_pattern refused.noted rightly (All-contains HasPattern asked matcher fine at refused.on_pattern))
+error_left asked old new TooBig fine (matcher, at, refused) rightly =
     absurd (no_pattern asked old new matcher at refused.on_pattern refused.noted rightly refused.cause)
-error_left asked old new OutOfMemory same rightly = tt
+error_left asked old new OutOfMemory fine same rightly = refl

@@ -4,7 +4,6 @@ use Rattle.std.specs.List.{Contains}
 use Rattle.am_pattern.specs.declared.error.Build.{Build}
 use Rattle.am_pattern.specs.declared.error.Build.TheVariants.{Syntax, TooBig, OutOfMemory}
 use Rattle.am_pattern.specs.Refused.{IsCauseOf, refused_after}
-use Rattle.am_pattern.specs.Taking.{IsPattern}
 use Rattle.am_match.specs.Matchers.{MatcherText, is_on_pattern}
 
 -- the pattern of the matcher was refused for this cause, and is then among the refused texts
@@ -24,14 +23,3 @@ abbrev pub IsAskingFault : List MatcherText → List (List ℕ) → Build → Li
 IsAskingFault asked old Syntax new = HasRefused asked old Syntax new
 IsAskingFault asked old TooBig new = HasRefused asked old TooBig new
 IsAskingFault asked old OutOfMemory new = new ≡ old
-
--- one of the matchers is on a pattern that is none
-abbrev pub HasNoPattern : List MatcherText → Type 0
-HasNoPattern asked =
-    (matcher : MatcherText) × Contains asked matcher × IsTrue (is_on_pattern matcher.operator) × ¬ IsPattern matcher.value
-
--- the error that is left, where no build of a pattern was refused: want of memory, or for no pattern
-abbrev pub IsErrorOf : List MatcherText → Build → Type 0
-IsErrorOf asked Syntax = HasNoPattern asked
-IsErrorOf asked TooBig = ⊥
-IsErrorOf asked OutOfMemory = Unit {0}

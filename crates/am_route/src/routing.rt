@@ -1,10 +1,11 @@
 ghost use Rattle.std.specs.Prelude.{◌≡◌, ◌+◌, ◌++◌, ◌≤◌, ◌^◌, length, IfErr, IfOk, OnOk};
 ghost use Rattle.std.specs.List.{list_all};
+ghost use Rattle.am_pattern.specs.declared.error.Build.TheVariants.{OutOfMemory};
 ghost use Rattle.am_match.specs.Checking.{AreRefusedRightly};
 ghost use Rattle.am_match.specs.Meaning.{takes_labels};
 ghost use Rattle.am_match.specs.Matchers.{patterns_of};
 ghost use Rattle.am_route.specs.Asked.{asked_among, asked_at, asked_of};
-ghost use Rattle.am_route.specs.Faults.{IsAskingFault, IsErrorOf};
+ghost use Rattle.am_route.specs.Faults.{IsAskingFault};
 ghost use Rattle.am_route.specs.Routes.{routes_among, routes_at, routes_within};
 ghost use Rattle.am_route.specs.Trees.{IsForest, forest_of};
 
@@ -37,9 +38,9 @@ pub fn routes_of(
     ensures fault { IfErr result (λ error.
         IsAskingFault (asked_at labels.now config.now.routes) cache.old.refused error cache.new.refused) }
 
-    // Where no build of a pattern that is asked was refused, only want of memory is left, or no pattern.
+    // Where no build of a pattern that is asked was refused, only want of memory is left.
     ensures meaning { AreRefusedRightly cache.new.refused (patterns_of (asked_at labels.now config.now.routes))
-        → IfErr result (IsErrorOf (asked_at labels.now config.now.routes)) }
+        → IfErr result (λ error. error ≡ OutOfMemory) }
     ensures capacity { cache.new.capacity ≡ cache.old.capacity }
 {
     let mut found = Vec::new(alloc);

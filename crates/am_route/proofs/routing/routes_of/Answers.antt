@@ -1,5 +1,5 @@
 use Rattle.std.proofs.Common.{◌∙◌, sym}
-use Rattle.am_route.proofs.AskedLemmas.{asked_of_tree}
+use Rattle.am_route.proofs.AskedLemmas.{asked_of_tree, patterns_asked_at}
 use Rattle.am_route.proofs.FaultLemmas.{error_left, handed_on}
 use Rattle.am_route.proofs.RoutesLemmas.{no_empty_tree, routes_of_tree}
 use Rattle.am_route.proofs.routing.routes_of.Goals as goal
@@ -32,4 +32,5 @@ returns-in_err-enter-clause-fault c =
 pub returns-in_err-enter-clause-meaning : goal.returns-in_err-enter-clause-meaning
 returns-in_err-enter-clause-meaning c rightly =
     handed_on _ c.from_residual.result c.in_err-enter.field-0.0 c.from_residual.ensures.1
-    (error_left (asked_at c.args.labels.now c.args.config.now.routes) c.args.cache.now.refused c.enter.new.cache.refused c.in_err-enter.field-0.0 (fault_is c) rightly)
+    (error_left (asked_at c.args.labels.now c.args.config.now.routes) c.args.cache.now.refused c.enter.new.cache.refused c.in_err-enter.field-0.0
+    (patterns_asked_at c.args.labels.now c.args.config.now.routes c.routes.ensures.tree c.routes.ensures.configured.patterns) (fault_is c) rightly)
