@@ -1,4 +1,5 @@
 pub mod AskedLemmas
 pub mod FaultLemmas
+pub mod PlacesLemmas
 pub mod RoutesLemmas
 pub mod TreeLemmas

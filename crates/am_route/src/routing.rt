@@ -1,4 +1,4 @@
-ghost use Rattle.std.specs.Prelude.{◌≡◌, ◌+◌, ◌++◌, ◌≤◌, ◌^◌, length, IfErr, IfOk, OnOk};
+ghost use Rattle.std.specs.Prelude.{◌≡◌, ◌+◌, ◌++◌, ◌<◌, ◌≤◌, ◌^◌, All, length, IfErr, IfOk, OnOk};
 ghost use Rattle.std.specs.List.{list_all};
 ghost use Rattle.am_pattern.specs.declared.error.Build.TheVariants.{OutOfMemory};
 ghost use Rattle.am_match.specs.Checking.{AreRefusedRightly};
@@ -21,12 +21,12 @@ use std::alloc::Global;
 ///
 /// An alert enters at the root. At each route it goes to the first child whose matchers all take its
 /// labels, and on to later ones only where that child has `continue`. Where no child takes it, the route
-/// itself is one of its routes.
+/// itself is one of its routes. So there is at least one, and each is a place in the configuration's routes.
 ///
 /// # Errors
 ///
-/// Those of [`Matcher::matches`] for a matcher that is asked on the way of these labels. The cache then keeps
-/// its pattern as refused, where it has at most 256 bytes; want of memory leaves the cache as it was.
+/// Want of memory, which leaves what the cache keeps as refused. Any other is that of [`Matcher::matches`] for
+/// a matcher that is asked on the way of these labels, and the cache then keeps its pattern as refused.
 pub fn routes_of(
     alloc: Global,
     config: &Config,
@@ -34,6 +34,8 @@ pub fn routes_of(
     cache: &mut PatternCache,
 ) -> Result<Vec<RouteId>, Build>
     ensures routes { IfOk result (λ found. found.items ≡ routes_at labels.now config.now.routes) }
+    ensures places { IfOk result (λ found. All (λ id. id < length config.now.routes) found.items) }
+    ensures some { IfOk result (λ found. 0 < length found.items) }
     ensures kept { OnOk result (cache.new.refused ≡ cache.old.refused) }
     ensures fault { IfErr result (λ error.
         IsAskingFault (asked_at labels.now config.now.routes) cache.old.refused error cache.new.refused) }

@@ -1,6 +1,7 @@
 use Rattle.std.proofs.Common.{◌∙◌, sym}
 use Rattle.am_route.proofs.AskedLemmas.{asked_of_tree, patterns_asked_at}
 use Rattle.am_route.proofs.FaultLemmas.{error_left, handed_on}
+use Rattle.am_route.proofs.PlacesLemmas.{places_at, some_at}
 use Rattle.am_route.proofs.RoutesLemmas.{no_empty_tree, routes_of_tree}
 use Rattle.am_route.proofs.routing.routes_of.Goals as goal
 use Rattle.am_route.proofs.routing.routes_of.Goals.{in-Some+in_ok-enter, in_default}
@@ -17,6 +18,14 @@ returns-clause-routes c =
       | in_default w ↦
           absurd (no_empty_tree c.args.config.now.routes (rw c.routes.ensures.routes at w.in_default.ensures.cases) c.routes.ensures.tree)
     ]
+
+pub returns-clause-places : goal.returns-clause-places
+returns-clause-places c =
+    rw (returns-clause-routes c) (places_at c.args.labels.now c.args.config.now.routes c.routes.ensures.tree)
+
+pub returns-clause-some : goal.returns-clause-some
+returns-clause-some c =
+    rw (returns-clause-routes c) (some_at c.args.labels.now c.args.config.now.routes c.routes.ensures.tree)
 
 -- what is asked below the root is all that is asked
 fault_is : (c : goal.After-drop-found) → IsAskingFault (asked_at c.args.labels.now c.args.config.now.routes) c.args.cache.now.refused c.in_err-enter.field-0.0 c.enter.new.cache.refused
