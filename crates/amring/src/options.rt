@@ -29,7 +29,7 @@ pub fn options<S: AsStr>(alloc: Global, words: &[S]) -> Result<Setup, Error>
 {
     let run = Command::new(alloc, "run").about("Plays the scenario on standard input");
     let command = Command::new(alloc, "amring")
-        .about("A multi-tenant Alertmanager on a hash ring")
+        .about("A multi-tenant Alertmanager")
         .subcommand_required(true)
         .subcommand(run)?;
     match command.try_get_matches_from(words) {
