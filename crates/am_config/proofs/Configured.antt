@@ -1,6 +1,6 @@
 -- What holds of every configuration that a draft makes.
 use Rattle.std.proofs.Common.{◌≡◌, ◌≢◌, ℕ, zero, suc, ◌+◌, ◌<◌, ◌≤◌, List, [], ◌∷◌, ◌++◌, All, AllPairs, Bool, true, false, not, ◌&&◌, Option, None, Some, Result, Ok, Err, length, get_or, chars, map, nat_le, refl, sym, ap, ◌∙◌, subst, inl, inr, append_assoc, length-append, arith, true≢false}
-use Rattle.std.specs.Prelude.{if◌then◌else◌, is_ok, is_some, unwrap_or, HoldsAt, IsSome}
+use Rattle.std.specs.Prelude.{if◌then◌else◌, ◌==◌, codes, is_ok, is_some, unwrap_or, HoldsAt, IsSome}
 use Rattle.std.specs.List.{list_all, list_any, flat_map}
 use Rattle.std.specs.Option.{ForSome, option_map_or}
 use Rattle.std.specs.Str.{bytes_eq}
@@ -11,8 +11,9 @@ use Rattle.std.proofs.lemmas.List.Elements.{All-append, All-cons, All-head, All-
 use Rattle.std.proofs.lemmas.List.Folds.{list_all-append}
 use Rattle.std.proofs.lemmas.List.Kept.{AllPairs-cons}
 use Rattle.std.proofs.lemmas.List.Quantifiers.{position-Some}
-use Rattle.am_text.specs.Duration.{duration}
+use Rattle.am_text.specs.Duration.{duration, longest_duration, parts_at, units, whole, within_range}
 use Rattle.am_text.specs.declared.fault.TextFault.{TextFault}
+use Rattle.am_text.specs.declared.fault.TextFault.TheVariants.{NotADuration, OutOfRange}
 use Rattle.am_pattern.specs.Taking.{IsPattern, is_pattern}
 use Rattle.am_pattern.proofs.Tests.{IsPattern-from_test}
 use Rattle.am_match.specs.declared.checking.MatchFault.{MatchFault}
@@ -27,8 +28,9 @@ use Rattle.am_draft.specs.declared.receiver.WebhookDraft.{WebhookDraft}
 use Rattle.am_draft.specs.declared.route.RouteDraft.{RouteDraft}
 use Rattle.am_draft.specs.declared.rule.RuleDraft.{RuleDraft}
 use Rattle.am_draft.specs.declared.tree.Node.{Node}
-use Rattle.am_draft.specs.Drafts.{root_has_receiver}
+use Rattle.am_draft.specs.Drafts.{draft_in, root_has_receiver}
 use Rattle.am_draft.specs.Trees.{IsTree, none, tree}
+use Rattle.am_draft.proofs.Rooted.{text_rooted}
 use Rattle.am_config.specs.declared.fault.ConfigFault.{ConfigFault}
 use Rattle.am_config.specs.declared.parts.Receiver.{Receiver}
 use Rattle.am_config.specs.declared.parts.Route.{Route}
@@ -36,17 +38,17 @@ use Rattle.am_config.specs.declared.parts.Rule.{Rule}
 use Rattle.am_config.specs.declared.parts.Settings.{Settings}
 use Rattle.am_config.specs.declared.parts.Webhook.{Webhook}
 use Rattle.am_config.specs.Checks.{are_receivers_few, are_routes_few, are_spans, counts_fit, durations_fit, has_few_webhooks, has_listed, have_listed, have_spans, is_listed, is_repeated, is_root_bare, is_span, lasts, receivers_fit}
-use Rattle.am_config.specs.Completing.{completed, receiver_of, receivers_of, routes_from, rule_of, webhook_of, webhooks_of}
+use Rattle.am_config.specs.Completing.{completed, default_resolve_timeout, receiver_of, receivers_of, routes_from, rule_of, webhook_of, webhooks_of}
 use Rattle.am_config.specs.Configuration.{Configuration}
-use Rattle.am_config.specs.Configured.{AreGrouped, HasBareRoot, HasIntervals, HasPattern, IsConfiguration}
+use Rattle.am_config.specs.Configured.{AreGrouped, HasBareRoot, HasPattern, HasSpans, IsConfiguration}
 use Rattle.am_config.specs.Inheriting.{InheritsFrom, defaults, is_around, milliseconds, place_of, said, settings_of, span, told}
-use Rattle.am_config.specs.Judging.{configuration, fault_before, judged}
+use Rattle.am_config.specs.Judging.{configuration, fault_before, judged, IsMeant}
 use Rattle.am_config.specs.Matching.{given, gives_matchers, matchers_fit, matchers_in, meaning, route_texts, rule_texts}
 use Rattle.am_config.specs.Outcome.{◌>>=◌}
 use Rattle.am_config.specs.Places.{place}
 use Rattle.am_config.proofs.Inherits.{all_inherit}
 use Rattle.am_config.proofs.Judgements.{all_passed, few_routes, finished, unless_ok}
-use Rattle.am_config.proofs.Shapes.{tree-routes_from, length-routes_from}
+use Rattle.am_config.proofs.Shapes.{tree-routes_from, length-routes_from, withins-routes_from}
 
 -- ---- the checks that passed
 
@@ -228,10 +230,39 @@ groupings_fit receivers all number other within n e =
     (λ m found. absurd (cc)) in
     let found = holds n (sym (ap (λ (settings : Settings). settings.grouping) same) ∙ e) in
     let below : n ≤ number = omega (arith, found.0) in
-    let inner : n < length (routes_from receivers all 0 all) = rw (length-routes_from receivers all) found.1.0 in
-    (below, inner, grouping-at receivers all 0 all n found.1.0 found.1.1)
+    (below, grouping-at receivers all 0 all n found.1.0 found.1.1)
 
--- ---- intervals
+-- ---- durations
+
+-- what is within range is no longer than the longest
+bounded_if : (n found : ℕ) (fits : Bool) → nat_le n longest_duration ≡ fits → (if fits then Ok n else Err OutOfRange) ≡ Ok found →
+    found ≤ longest_duration
+bounded_if n found true is e = let same : n ≡ found = cc in rw (← same) (leb-true n longest_duration is)
+bounded_if n found false is e = absurd (cc)
+
+bounded_whole : (parts : ℕ × List ℕ) (found : ℕ) (ends : Bool) → (if ends then within_range parts.0 else Err NotADuration) ≡ Ok found →
+    found ≤ longest_duration
+bounded_whole parts found true e = bounded_if parts.0 found (nat_le parts.0 longest_duration) refl e
+bounded_whole parts found false e = absurd (cc)
+
+bounded_by : (parts : ℕ × List ℕ) (found : ℕ) (zeros empty : Bool) →
+    (if zeros then Ok 0 else (if empty then Err NotADuration else whole parts)) ≡ Ok found → found ≤ longest_duration
+bounded_by parts found true empty e = let same : 0 ≡ found = cc in omega (arith, same)
+bounded_by parts found false true e = absurd (cc)
+bounded_by parts found false false e = bounded_whole parts found (length parts.1 == 0) e
+
+-- no duration is longer than the longest
+duration_bounded : (text : List ℕ) (found : ℕ) → duration text ≡ Ok found → found ≤ longest_duration
+duration_bounded text found e = bounded_by (parts_at units text) found (bytes_eq text (codes "0")) (length text == 0) e
+
+milliseconds_bounded : (up : ℕ) (read : Result ℕ TextFault) → up ≤ longest_duration →
+    ((found : ℕ) → read ≡ Ok found → found ≤ longest_duration) → milliseconds up read ≤ longest_duration
+milliseconds_bounded up (Ok found) holds bounded = bounded found refl
+milliseconds_bounded up (Err fault) holds bounded = holds
+
+span_bounded : (up : ℕ) (text : Option (List ℕ)) → up ≤ longest_duration → span up text ≤ longest_duration
+span_bounded up None holds = holds
+span_bounded up (Some text) holds = milliseconds_bounded up (duration text) holds (duration_bounded text)
 
 milliseconds_long : (up : ℕ) (read : Result ℕ TextFault) → 1000 ≤ up → lasts 1000 read ≡ true → 1000 ≤ milliseconds up read
 milliseconds_long up (Ok found) holds fit = leb-true 1000 found fit
@@ -241,26 +272,33 @@ span_long : (up : ℕ) (text : Option (List ℕ)) → 1000 ≤ up → is_span 10
 span_long up None holds fit = holds
 span_long up (Some text) holds fit = milliseconds_long up (duration text) holds fit
 
-said_intervals : (receivers : List ReceiverDraft) (number : ℕ) (up : Settings) (route : RouteDraft) → HasIntervals up →
-    are_spans route.intervals ≡ true → HasIntervals (said receivers number up route)
+said_spans : (receivers : List ReceiverDraft) (number : ℕ) (up : Settings) (route : RouteDraft) → HasSpans up →
+    are_spans route.intervals ≡ true → HasSpans (said receivers number up route)
 unfolding said
-said_intervals receivers number up route holds fit =
+said_spans receivers number up route holds fit =
     let later = and_parts (is_span 0 route.intervals.group_wait)
     (is_span 1000 route.intervals.group_interval && is_span 1000 route.intervals.repeat_interval) fit in
     let parts = and_parts (is_span 1000 route.intervals.group_interval) (is_span 1000 route.intervals.repeat_interval) later.1 in (
-      span_long up.group_interval route.intervals.group_interval holds.0 parts.0,
-      span_long up.repeat_interval route.intervals.repeat_interval holds.1 parts.1,
+      span_bounded up.group_wait route.intervals.group_wait holds.0,
+      (
+        span_long up.group_interval route.intervals.group_interval holds.1.0 parts.0,
+        span_bounded up.group_interval route.intervals.group_interval holds.1.1,
+      ),
+      (
+        span_long up.repeat_interval route.intervals.repeat_interval holds.2.0 parts.1,
+        span_bounded up.repeat_interval route.intervals.repeat_interval holds.2.1,
+      ),
     )
 
-intervals_fit : (receivers : List ReceiverDraft) (all : List (Node RouteDraft)) → have_spans all ≡ true →
-    All (λ (node : Node Route). HasIntervals node.item.settings) (routes_from receivers all 0 all)
-intervals_fit receivers all fit =
+routes_spans : (receivers : List ReceiverDraft) (all : List (Node RouteDraft)) → have_spans all ≡ true →
+    All (λ (node : Node Route). HasSpans node.item.settings) (routes_from receivers all 0 all)
+routes_spans receivers all fit =
     let test : Node RouteDraft → Bool = λ node. are_spans node.item.intervals in
-    All-settings receivers all HasIntervals
-    (λ inner. settings_keep receivers all inner HasIntervals
+    All-settings receivers all HasSpans
+    (λ inner. settings_keep receivers all inner HasSpans
     (λ number up front rest node is size low holds.
-    said_intervals receivers number up node.item holds (passes test front rest node (rw is at fit)))
-    (omega arith, omega arith)) 0 all
+    said_spans receivers number up node.item holds (passes test front rest node (rw is at fit)))
+    (omega arith, (omega arith, omega arith), (omega arith, omega arith))) 0 all
 
 -- ---- patterns
 
@@ -414,6 +452,17 @@ receivers_kept (draft ∷ drafts) receivers e =
     let parts = parts_of draft drafts receivers e in
     ap length (sym parts.is) ∙ ap suc (receivers_kept drafts parts.rest parts.rest_is)
 
+-- the receivers stand under their names
+names_kept : (drafts : List ReceiverDraft) (receivers : List Receiver) → receivers_of drafts ≡ Ok receivers →
+    map (λ (receiver : Receiver). receiver.name) receivers ≡ map (λ (receiver : ReceiverDraft). receiver.name) drafts
+names_kept [] receivers e = ap (map (λ (receiver : Receiver). receiver.name)) (sym (none_of receivers e))
+names_kept (draft ∷ drafts) receivers e =
+    let parts = parts_of draft drafts receivers e in
+    let named = (receiver_kept draft parts.first parts.first_is).0 in
+    ap (map (λ (receiver : Receiver). receiver.name)) (sym parts.is)
+    ∙ ap (λ name. name ∷ map (λ (receiver : Receiver). receiver.name) parts.rest) named
+    ∙ ap (λ names. draft.name ∷ names) (names_kept drafts parts.rest parts.rest_is)
+
 webhooks_fit : (drafts : List ReceiverDraft) (receivers : List Receiver) → receivers_of drafts ≡ Ok receivers →
     list_all has_few_webhooks drafts ≡ true → All (λ (receiver : Receiver). length receiver.webhooks ≤ 16) receivers
 webhooks_fit [] receivers e fit =
@@ -468,7 +517,7 @@ places_of draft found same places =
     subst (λ most. ArePlaces most (routes_from draft.receivers draft.routes 0 draft.routes)) same places
 
 -- the configuration of a draft that passes every check
-pub configured : (draft : Draft) (found : List Receiver) → fault_before draft ≡ None → matchers_fit draft ≡ true → counts_fit draft ≡ true →
+configured : (draft : Draft) (found : List Receiver) → fault_before draft ≡ None → matchers_fit draft ≡ true → counts_fit draft ≡ true →
     receivers_of draft.receivers ≡ Ok found → IsTree draft.routes → root_has_receiver draft.routes ≡ true →
     IsConfiguration (completed draft found)
 unfolding completed
@@ -479,13 +528,14 @@ configured draft found clear fit counts read whole named =
     let patterns = patterns_fit draft fit in
     let same : length draft.receivers ≡ length found = sym (receivers_kept draft.receivers found read) in
     record {
+      timeout = span_bounded default_resolve_timeout draft.global.resolve_timeout (omega arith);
       tree = tree-routes_from draft.receivers draft.routes whole;
       few_routes = rw (length-routes_from draft.receivers draft.routes) (few_routes draft counts);
       bare_root = root_bare draft.receivers draft.routes draft.routes checks.1.0;
       places = places_of draft found same
           (places_fit draft.receivers draft.routes (some_listed draft.receivers draft.routes named listed.1));
       groupings = groupings_fit draft.receivers draft.routes;
-      intervals = intervals_fit draft.receivers draft.routes (spans_fit draft checks.1.1.0);
+      spans = routes_spans draft.receivers draft.routes (spans_fit draft checks.1.1.0);
       patterns = routes_patterns draft.receivers draft.routes 0 draft.routes patterns.0;
       few_receivers = omega (arith, same, few.0);
       names = names_fit draft.receivers found read listed.0;
@@ -494,7 +544,7 @@ configured draft found clear fit counts read whole named =
     }
 
 -- the configuration that a draft comes to
-pub judged_configured : (draft : Draft) (c : Configuration) → judged draft ≡ Ok c → IsTree draft.routes →
+judged_configured : (draft : Draft) (c : Configuration) → judged draft ≡ Ok c → IsTree draft.routes →
     root_has_receiver draft.routes ≡ true → IsConfiguration c
 judged_configured draft c e whole named =
     let parts = unless_ok (fault_before draft) _ c e in
@@ -516,16 +566,24 @@ routes_of : (draft : Draft) (found : List Receiver) →
 unfolding completed
 routes_of draft found = refl
 
+found_of : (draft : Draft) (found : List Receiver) → (completed draft found).receivers ≡ found
+unfolding completed
+found_of draft found = refl
+
 inherits_from : (draft : Draft) (c : Configuration) → judged draft ≡ Ok c → IsTree draft.routes → InheritsFrom c draft
 inherits_from draft c e whole =
     let parts = unless_ok (fault_before draft) _ c e in
     let rest = finished draft (matchers_fit draft) (counts_fit draft) (receivers_of draft.receivers) c parts.1 in
     let routes : c.routes ≡ routes_from draft.receivers draft.routes 0 draft.routes =
     ap (λ (made : Configuration). made.routes) (sym rest.1.1.1.1) ∙ routes_of draft rest.1.1.0 in
+    let receivers : c.receivers ≡ rest.1.1.0 =
+    ap (λ (made : Configuration). made.receivers) (sym rest.1.1.1.1) ∙ found_of draft rest.1.1.0 in
     record {
       root = whole.0;
       within = whole.1.0;
       routes = whole.1.1;
+      shape = rw routes (withins-routes_from draft.receivers draft.routes 0 draft.routes);
+      names = rw receivers (names_kept draft.receivers rest.1.1.0 rest.1.1.1.0);
       settings = rw routes (all_inherit draft.receivers (tree whole.0 whole.1.0 none) draft.routes whole.1.1);
     }
 
@@ -543,3 +601,7 @@ module _ (drafted : Result Draft DraftFault)
   configuration_inherits c e =
       let from = comes_of drafted c e in
       (from.draft, (from.is, inherits_from from.draft c from.comes (rooted from.draft from.is).0))
+
+-- what is meant by its text
+pub meant_configured : (c : Configuration) → IsMeant c → IsConfiguration c
+meant_configured c e = configuration_holds (draft_in c.text) (text_rooted c.text) c e

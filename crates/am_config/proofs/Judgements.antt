@@ -24,7 +24,7 @@ use Rattle.am_config.specs.declared.parts.Receiver.{Receiver}
 use Rattle.am_config.specs.Checks.{is_repeated, counts_fit, receivers_fit, is_root_bare, durations_fit}
 use Rattle.am_config.specs.Completing.{completed, receivers_of}
 use Rattle.am_config.specs.Configuration.{Configuration}
-use Rattle.am_config.specs.Judging.{fault_before, after_matchers, judged, configuration, IsFaultOf, IsLate, unless}
+use Rattle.am_config.specs.Judging.{fault_before, after_matchers, judged, configuration, IsFaultOf, IsLate, IsMeant, unless}
 use Rattle.am_config.specs.Matching.{gives_matchers, matchers_fit, matcher_texts, patterns_of_texts, patterns_of_draft}
 use Rattle.am_config.specs.Outcome.{◌>>=◌, Fails, Gives, of_match}
 use Rattle.am_config.specs.Stopping.{StopsAt}
@@ -200,17 +200,23 @@ judged_text draft c e =
       (all_passed draft parts.0).1.1.1,
     )
 
+-- the configuration of a draft that passes every check
+judged_completed : (draft : Draft) (found : List Receiver) → fault_before draft ≡ None → matchers_fit draft ≡ true →
+    counts_fit draft ≡ true → receivers_of draft.receivers ≡ Ok found → judged draft ≡ Ok (completed draft found)
+judged_completed draft found clear fit counts read = rw (clear, fit, counts, read) refl
+
 -- so the text is read as the same configuration
-pub text_again : (draft : Draft) (c : Configuration) → judged draft ≡ Ok c → (has_left_out draft ≡ false → draft_in draft.text ≡ Ok draft) →
+text_again : (draft : Draft) (c : Configuration) → judged draft ≡ Ok c → (has_left_out draft ≡ false → draft_in draft.text ≡ Ok draft) →
     configuration (draft_in c.text) ≡ Ok c
 text_again draft c e again =
     let parts = judged_text draft c e in
     ap (λ text. configuration (draft_in text)) parts.0 ∙ ap configuration (again parts.1) ∙ e
 
-pub text_again_of : (draft : Draft) (result : Result Configuration ConfigFault) → IfOk result (λ c. judged draft ≡ Ok c) →
-    (has_left_out draft ≡ false → draft_in draft.text ≡ Ok draft) → IfOk result (λ c. configuration (draft_in c.text) ≡ Ok c)
-text_again_of draft (Ok c) is again = text_again draft c is again
-text_again_of draft (Err fault) is again = tt
+pub completed_meant : (draft : Draft) (found : List Receiver) → fault_before draft ≡ None → matchers_fit draft ≡ true →
+    counts_fit draft ≡ true → receivers_of draft.receivers ≡ Ok found →
+    (has_left_out draft ≡ false → draft_in draft.text ≡ Ok draft) → IsMeant (completed draft found)
+completed_meant draft found clear fit counts read again =
+    text_again draft (completed draft found) (judged_completed draft found clear fit counts read) again
 
 pub text_of : (draft : Draft) (result : Result Configuration ConfigFault) → IfOk result (λ c. judged draft ≡ Ok c) →
     IfOk result (λ c. c.text ≡ draft.text)

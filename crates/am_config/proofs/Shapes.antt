@@ -9,7 +9,7 @@ use Rattle.am_draft.specs.Trees.{Forest, none, tree, flat, IsTree}
 use Rattle.am_config.specs.Completing.{routes_from}
 
 -- how many nodes are within each
-abbrev withins : {A : Type 0} → List (Node A) → List ℕ
+abbrev pub withins : {A : Type 0} → List (Node A) → List ℕ
 withins {A} nodes = map (λ (node : Node A). node.within) nodes
 
 same_length : {A B : Type 0} (xs : List (Node A)) (ys : List (Node B)) → withins xs ≡ withins ys → length xs ≡ length ys
@@ -65,7 +65,7 @@ same_tree {A} {B} xs (y ∷ ys) whole e =
       ),
     )
 
-withins-routes_from : (receivers : List ReceiverDraft) (all : List (Node RouteDraft)) (number : ℕ) (nodes : List (Node RouteDraft)) →
+pub withins-routes_from : (receivers : List ReceiverDraft) (all : List (Node RouteDraft)) (number : ℕ) (nodes : List (Node RouteDraft)) →
     withins (routes_from receivers all number nodes) ≡ withins nodes
 unfolding routes_from
 withins-routes_from receivers all number [] = refl

@@ -7,6 +7,7 @@ use Rattle.am_draft.specs.declared.receiver.ReceiverDraft.{ReceiverDraft}
 use Rattle.am_draft.specs.declared.route.RouteDraft.{RouteDraft}
 use Rattle.am_draft.specs.declared.tree.Node.{Node}
 use Rattle.am_draft.specs.Trees.{Forest, none, tree, flat}
+use Rattle.am_config.specs.declared.parts.Receiver.{Receiver}
 use Rattle.am_config.specs.declared.parts.Route.{Route}
 use Rattle.am_config.specs.declared.parts.Settings.{Settings}
 use Rattle.am_config.specs.Configuration.{Configuration}
@@ -64,9 +65,12 @@ inherited receivers number up (tree route within after) =
     ∷ (inherited receivers (number + 1) (said receivers number up route) within
     ++ inherited receivers (number + 1 + length (flat within)) up after)
 
--- a draft's routes are one tree, and the settings of a configuration's routes are what they inherit there
+-- A draft's routes are one tree, and the settings of a configuration's routes are what they inherit there. Its routes and receivers
+-- stand where the draft's do: with as many routes within each, and under the same names.
 pub record InheritsFrom (c : Configuration) (draft : Draft) : Type 0 where
   pub root : RouteDraft
   pub within : Forest RouteDraft
   pub routes : draft.routes ≡ flat (tree root within none)
+  pub shape : map (λ (node : Node Route). node.within) c.routes ≡ map (λ (node : Node RouteDraft). node.within) draft.routes
+  pub names : map (λ (receiver : Receiver). receiver.name) c.receivers ≡ map (λ (receiver : ReceiverDraft). receiver.name) draft.receivers
   pub settings : map (λ (node : Node Route). node.item.settings) c.routes ≡ inherited draft.receivers 0 defaults (tree root within none)

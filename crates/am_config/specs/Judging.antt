@@ -2,7 +2,7 @@
 use Rattle.std.specs.Prelude.{◌≡◌, ℕ, not, List, Result, Ok, Err, Option, Some, None, IsOkAnd, if◌then◌else◌}
 use Rattle.am_draft.specs.declared.draft.Draft.{Draft}
 use Rattle.am_draft.specs.declared.fault.DraftFault.{DraftFault}
-use Rattle.am_draft.specs.Drafts.{has_left_out}
+use Rattle.am_draft.specs.Drafts.{draft_in, has_left_out}
 use Rattle.am_config.specs.declared.fault.ConfigFault.{ConfigFault}
 use Rattle.am_config.specs.declared.fault.ConfigFault.TheVariants.{BadReceiver, RootMatchers, BadDuration, LeftOut, BadMatcher, TooMany, BadUrl, BuildRefused, OutOfMemory}
 use Rattle.am_config.specs.Checks.{receivers_fit, is_root_bare, durations_fit, counts_fit}
@@ -40,6 +40,10 @@ judged draft = unless (fault_before draft) (if not (matchers_fit draft) then Err
 abbrev pub configuration : Result Draft DraftFault → Result Configuration ConfigFault
 configuration (Ok draft) = judged draft
 configuration (Err fault) = Err (of_draft fault)
+
+-- it is what its text means
+abbrev pub IsMeant : Configuration → Type 0
+IsMeant c = configuration (draft_in c.text) ≡ Ok c
 
 -- a draft's matchers were reached, and their reading stopped
 abbrev pub StopsInDraft : Draft → ConfigFault → List (List ℕ) → List (List ℕ) → Type 0

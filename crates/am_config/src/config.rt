@@ -2,7 +2,9 @@
 
 ghost use Rattle.std.specs.Prelude.{◌≡◌, ◌≤◌, length};
 ghost use Rattle.am_draft.specs.Trees.{IsTree};
+ghost use Rattle.am_config.specs.Checks.{most_routes};
 ghost use Rattle.am_config.specs.Configured.{IsConfiguration};
+ghost use Rattle.am_config.specs.Judging.{IsMeant};
 
 use crate::parts::{Receiver, Route, Rule};
 use am_draft::{Listed, Node};
@@ -21,27 +23,29 @@ pub struct Config {
 
 impl Model for Config {
     ghost use Rattle.am_config.specs.Configuration.{Configuration};
-    ghost use Rattle.am_config.specs.Configured.{IsConfiguration};
+    ghost use Rattle.am_config.specs.Judging.{IsMeant};
 
     ghost Value = { Configuration };
 
     ghost view = { λ c. record { text = c.text; resolve_timeout = c.resolve_timeout; routes = c.routes; receivers = c.receivers; rules = c.rules } };
 
-    ghost invariant = { λ c. IsConfiguration
+    ghost invariant = { λ c. IsMeant
         (record { text = c.text; resolve_timeout = c.resolve_timeout; routes = c.routes; receivers = c.receivers; rules = c.rules }) };
 }
 
 impl Config {
-    /// The configuration's text, as it was posted: what reading it again gives the same configuration.
+    /// The configuration's text, as it was posted: reading it again gives the same configuration.
     pub fn text(&self) -> &str
-        ensures { result.now ≡ self.now.text }
+        ensures text { result.now ≡ self.now.text }
+        ensures meant { IsMeant self.now }
     {
         self.text.as_str()
     }
 
     /// How long an alert without an end fires, in milliseconds: `resolve_timeout`, 5 minutes where it isn't written.
     pub fn resolve_timeout(&self) -> u64
-        ensures { result ≡ self.now.resolve_timeout }
+        ensures timeout { result ≡ self.now.resolve_timeout }
+        ensures configured { IsConfiguration self.now }
     {
         self.resolve_timeout
     }
@@ -50,7 +54,7 @@ impl Config {
     pub fn routes(&self) -> &[Node<Route>]
         ensures routes { result.now ≡ self.now.routes }
         ensures tree { IsTree self.now.routes }
-        ensures few { length self.now.routes ≤ 1000 }
+        ensures few { length self.now.routes ≤ most_routes }
         ensures configured { IsConfiguration self.now }
     {
         self.routes.as_slice()

@@ -1,8 +1,7 @@
 //! A configuration, from a document or a text.
 
-ghost use Rattle.std.specs.Prelude.{◌≡◌, true, map, None, Ok, IfOk, IfErr, OnOk};
-ghost use Rattle.am_draft.specs.Drafts.{draft_in, posted, root_has_receiver};
-ghost use Rattle.am_draft.specs.Trees.{IsTree};
+ghost use Rattle.std.specs.Prelude.{◌≡◌, false, true, map, None, Ok, IfOk, IfErr, OnOk};
+ghost use Rattle.am_draft.specs.Drafts.{draft_in, has_left_out, posted};
 ghost use Rattle.am_draft.specs.declared.route.RouteDraft.{RouteDraft};
 ghost use Rattle.am_draft.specs.declared.tree.Node.{Node};
 ghost use Rattle.am_match.specs.Checking.{AreRefusedRightly};
@@ -82,8 +81,7 @@ impl Config {
 // The configuration of a draft, where every check passes.
 #[tactic(auto, using(crate::proofs::Judgements::repeated_fault))]
 fn judged(alloc: Global, draft: &Draft, cache: &mut PatternCache) -> Result<Config, ConfigFault>
-    requires tree { IsTree draft.now.routes }
-    requires root { root_has_receiver draft.now.routes ≡ true }
+    requires again { has_left_out draft.now ≡ false → draft_in draft.now.text ≡ Ok draft.now }
     ensures ok { IfOk result (λ c. judged draft.now ≡ Ok c) }
     ensures refused { OnOk result (cache.new.refused ≡ cache.old.refused) }
     ensures fault { IfErr result (IsFaultOf (Ok draft.now) cache.old.refused cache.new.refused) }
@@ -127,8 +125,7 @@ fn completed(
     rules: Vec<Rule>,
 ) -> Result<Config, ConfigFault>
     requires receivers { named.now ≡ draft.now.receivers }
-    requires tree { IsTree draft.now.routes }
-    requires root { root_has_receiver draft.now.routes ≡ true }
+    requires again { has_left_out draft.now ≡ false → draft_in draft.now.text ≡ Ok draft.now }
     requires passed { fault_before draft.now ≡ None }
     requires read { matchers_fit draft.now ≡ true }
     requires matchers { matchers.items ≡ map (λ (node : Node RouteDraft). matchers_in node.item.matchers) draft.now.routes }

@@ -1,6 +1,6 @@
 use Rattle.std.proofs.Common.{◌≡◌, Ok, map, sym, ◌∙◌}
 use Rattle.am_config.specs.Completing.{completed, receivers_of, routes_from, rule_of}
-use Rattle.am_config.proofs.Configured.{configured}
+use Rattle.am_config.proofs.Judgements.{completed_meant}
 use Rattle.am_config.proofs.reading.completed.Goals as goal
 
 pub invariant_of-result : goal.invariant_of-result
@@ -14,5 +14,5 @@ invariant_of-result c =
     let receivers : c.from_vec-2.result ≡ found = c.from_vec-2.ensures in
     let rules : c.from_vec-3.result ≡ map rule_of draft.rules = c.from_vec-3.ensures ∙ c.requires.rules in
     rw (c.in_ok-text.ensures, c.span.ensures, routes, receivers, rules)
-    (configured draft found c.requires.passed c.requires.read (sym c.counts_fit.ensures ∙ c.if-not-counts_fit.false) read
-    c.requires.tree c.requires.root)
+    (completed_meant draft found c.requires.passed c.requires.read (sym c.counts_fit.ensures ∙ c.if-not-counts_fit.false) read
+    c.requires.again)
