@@ -7,7 +7,7 @@ use Rattle.std.specs.Str.{bytes_eq}
 use Rattle.std.specs.Cmp.Lexicographic.{bytes_decides}
 use Rattle.std.proofs.lemmas.Bool.{and_parts, cases_Bool, eqb-true, leb-true, not-false, not-true, or_parts}
 use Rattle.std.proofs.lemmas.List.{get_or_at, nil_from_length}
-use Rattle.std.proofs.lemmas.List.Elements.{All-append, All-cons, All-head, All-nil, All-tail}
+use Rattle.std.proofs.lemmas.List.Elements.{All-append, All-cons, All-head, All-map, All-nil, All-tail}
 use Rattle.std.proofs.lemmas.List.Folds.{list_all-append}
 use Rattle.std.proofs.lemmas.List.Kept.{AllPairs-cons}
 use Rattle.std.proofs.lemmas.List.Quantifiers.{position-Some}
@@ -29,7 +29,9 @@ use Rattle.am_draft.specs.declared.route.RouteDraft.{RouteDraft}
 use Rattle.am_draft.specs.declared.rule.RuleDraft.{RuleDraft}
 use Rattle.am_draft.specs.declared.tree.Node.{Node}
 use Rattle.am_draft.specs.Drafts.{draft_in, root_has_receiver}
+use Rattle.am_draft.specs.LabelNames.{AreLabelNames, HasLabelNames, ListsLabelNames}
 use Rattle.am_draft.specs.Trees.{IsTree, none, tree}
+use Rattle.am_draft.proofs.LabelNames.{text_named}
 use Rattle.am_draft.proofs.Rooted.{text_rooted}
 use Rattle.am_config.specs.declared.fault.ConfigFault.{ConfigFault}
 use Rattle.am_config.specs.declared.parts.Receiver.{Receiver}
@@ -231,6 +233,18 @@ groupings_fit receivers all number other within n e =
     let found = holds n (sym (ap (λ (settings : Settings). settings.grouping) same) ∙ e) in
     let below : n ≤ number = omega (arith, found.0) in
     (below, grouping-at receivers all 0 all n found.1.0 found.1.1)
+
+-- the names to group by are those of the drafts
+grouping_names : (receivers : List ReceiverDraft) (all : List (Node RouteDraft)) (number : ℕ) (nodes : List (Node RouteDraft)) →
+    All (λ (node : Node RouteDraft). ForSome node.item.grouping HasLabelNames) nodes →
+    All (λ (node : Node Route). ForSome node.item.grouping HasLabelNames) (routes_from receivers all number nodes)
+unfolding routes_from
+grouping_names receivers all number [] named = All-nil (λ (node : Node Route). ForSome node.item.grouping HasLabelNames)
+grouping_names receivers all number (node ∷ nodes) named =
+    let own = All-head (λ (n : Node RouteDraft). ForSome n.item.grouping HasLabelNames) node nodes named in
+    let rest = All-tail (λ (n : Node RouteDraft). ForSome n.item.grouping HasLabelNames) node nodes named in
+    All-cons (λ (n : Node Route). ForSome n.item.grouping HasLabelNames) _ (routes_from receivers all (number + 1) nodes) own
+    (grouping_names receivers all (number + 1) nodes rest)
 
 -- ---- durations
 
@@ -518,10 +532,10 @@ places_of draft found same places =
 
 -- the configuration of a draft that passes every check
 configured : (draft : Draft) (found : List Receiver) → fault_before draft ≡ None → matchers_fit draft ≡ true → counts_fit draft ≡ true →
-    receivers_of draft.receivers ≡ Ok found → IsTree draft.routes → root_has_receiver draft.routes ≡ true →
+    receivers_of draft.receivers ≡ Ok found → IsTree draft.routes → root_has_receiver draft.routes ≡ true → ListsLabelNames draft →
     IsConfiguration (completed draft found)
 unfolding completed
-configured draft found clear fit counts read whole named =
+configured draft found clear fit counts read whole named labels =
     let checks = all_passed draft clear in
     let listed = apart_fit draft checks.0 in
     let few = few_fit draft counts in
@@ -535,21 +549,23 @@ configured draft found clear fit counts read whole named =
       places = places_of draft found same
           (places_fit draft.receivers draft.routes (some_listed draft.receivers draft.routes named listed.1));
       groupings = groupings_fit draft.receivers draft.routes;
+      grouping_names = grouping_names draft.receivers draft.routes 0 draft.routes labels.groupings;
       spans = routes_spans draft.receivers draft.routes (spans_fit draft checks.1.1.0);
       patterns = routes_patterns draft.receivers draft.routes 0 draft.routes patterns.0;
       few_receivers = omega (arith, same, few.0);
       names = names_fit draft.receivers found read listed.0;
       few_webhooks = webhooks_fit draft.receivers found read few.1;
       rule_patterns = rules_patterns draft.rules patterns.1;
+      equal_names = All-map (λ (rule : Rule). AreLabelNames rule.equal) rule_of draft.rules labels.equal;
     }
 
 -- the configuration that a draft comes to
 judged_configured : (draft : Draft) (c : Configuration) → judged draft ≡ Ok c → IsTree draft.routes →
-    root_has_receiver draft.routes ≡ true → IsConfiguration c
-judged_configured draft c e whole named =
+    root_has_receiver draft.routes ≡ true → ListsLabelNames draft → IsConfiguration c
+judged_configured draft c e whole named labels =
     let parts = unless_ok (fault_before draft) _ c e in
     let rest = finished draft (matchers_fit draft) (counts_fit draft) (receivers_of draft.receivers) c parts.1 in
-    subst IsConfiguration rest.1.1.1.1 (configured draft rest.1.1.0 parts.0 rest.0 rest.1.0 rest.1.1.1.0 whole named)
+    subst IsConfiguration rest.1.1.1.1 (configured draft rest.1.1.0 parts.0 rest.0 rest.1.0 rest.1.1.1.0 whole named labels)
 
 -- a configuration comes of a draft
 record ComesOf (drafted : Result Draft DraftFault) (c : Configuration) : Type 0 where
@@ -590,11 +606,13 @@ inherits_from draft c e whole =
 -- where each draft that is read has one tree, whose root names a receiver
 module _ (drafted : Result Draft DraftFault)
     (rooted : (draft : Draft) → drafted ≡ Ok draft → IsTree draft.routes × (root_has_receiver draft.routes ≡ true)) where
-  pub configuration_holds : (c : Configuration) → configuration drafted ≡ Ok c → IsConfiguration c
-  configuration_holds c e =
+  -- and the labels that it names have label names
+  pub configuration_holds : ((draft : Draft) → drafted ≡ Ok draft → ListsLabelNames draft) →
+      (c : Configuration) → configuration drafted ≡ Ok c → IsConfiguration c
+  configuration_holds named c e =
       let from = comes_of drafted c e in
       let holds = rooted from.draft from.is in
-      judged_configured from.draft c from.comes holds.0 holds.1
+      judged_configured from.draft c from.comes holds.0 holds.1 (named from.draft from.is)
 
   pub configuration_inherits : (c : Configuration) → configuration drafted ≡ Ok c →
       (draft : Draft) × ((drafted ≡ Ok draft) × InheritsFrom c draft)
@@ -604,4 +622,4 @@ module _ (drafted : Result Draft DraftFault)
 
 -- what is meant by its text
 pub meant_configured : (c : Configuration) → IsMeant c → IsConfiguration c
-meant_configured c e = configuration_holds (draft_in c.text) (text_rooted c.text) c e
+meant_configured c e = configuration_holds (draft_in c.text) (text_rooted c.text) (text_named c.text) c e

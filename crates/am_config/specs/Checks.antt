@@ -47,7 +47,7 @@ have_listed receivers routes = list_all (λ (node : Node RouteDraft). has_listed
 unfoldable pub receivers_fit : Draft → Bool
 receivers_fit draft = not (is_repeated draft.receivers) && have_listed draft.receivers draft.routes
 
--- the root takes every alert
+-- the root has no matchers
 unfoldable pub is_root_bare : List (Node RouteDraft) → Bool
 is_root_bare [] = true
 is_root_bare (root ∷ routes) = length root.item.matchers == 0

@@ -5,6 +5,7 @@ use Rattle.am_text.specs.Duration.{longest_duration}
 use Rattle.am_pattern.specs.Taking.{IsPattern}
 use Rattle.am_match.specs.Matchers.{MatcherText, is_on_pattern}
 use Rattle.am_draft.specs.declared.tree.Node.{Node}
+use Rattle.am_draft.specs.LabelNames.{AreLabelNames, HasLabelNames}
 use Rattle.am_draft.specs.Trees.{IsTree}
 use Rattle.am_config.specs.declared.parts.Receiver.{Receiver}
 use Rattle.am_config.specs.declared.parts.Route.{Route}
@@ -53,6 +54,8 @@ pub record IsConfiguration (c : Configuration) : Type 0 where
   pub places : All (λ (node : Node Route). node.item.settings.receiver < length c.receivers) c.routes
   -- each route is grouped as a route at or before it says
   pub groupings : AreGrouped c.routes
+  -- the labels that a route names to group by are label names
+  pub grouping_names : All (λ (node : Node Route). ForSome node.item.grouping HasLabelNames) c.routes
   -- the durations of each route are within their bounds
   pub spans : All (λ (node : Node Route). HasSpans node.item.settings) c.routes
   -- the routes' matchers on patterns have patterns
@@ -65,3 +68,5 @@ pub record IsConfiguration (c : Configuration) : Type 0 where
   pub few_webhooks : All (λ (receiver : Receiver). length receiver.webhooks ≤ most_webhooks) c.receivers
   -- the inhibit rules' matchers on patterns have patterns
   pub rule_patterns : All (λ (rule : Rule). All HasPattern rule.source × All HasPattern rule.target) c.rules
+  -- the labels that they name to be equal are label names
+  pub equal_names : All (λ (rule : Rule). AreLabelNames rule.equal) c.rules

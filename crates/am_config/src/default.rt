@@ -20,6 +20,7 @@ impl Config {
     ///
     /// # Errors
     /// Want of memory alone.
+    #[tactic(auto, using(crate::proofs::DefaultRead::default_meant))]
     pub fn default_config(alloc: Global) -> Result<Config, AllocError>
         ensures { IfOk result (λ c. c ≡ default_configuration) }
     {

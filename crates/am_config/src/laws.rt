@@ -30,7 +30,7 @@ pub fn configurations_inherit()
         (draft : Draft) × ((posted document ≡ Ok draft) × InheritsFrom c draft) }
 {}
 
-/// What a text or a document means has what every configuration has.
+/// Each configuration that a text or a document means is an `IsConfiguration`.
 pub fn meanings_are_configurations()
     ensures text { (text : List ℕ) (c : Configuration) → configuration (draft_in text) ≡ Ok c → IsConfiguration c }
     ensures document { (document : List ℕ) (c : Configuration) → configuration (posted document) ≡ Ok c → IsConfiguration c }

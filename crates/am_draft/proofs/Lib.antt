@@ -3,4 +3,5 @@ pub mod Fronts
 pub mod Held
 pub mod Counted
 pub mod Rooted
+pub mod LabelNames
 pub mod Plain

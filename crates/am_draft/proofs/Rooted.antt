@@ -22,7 +22,7 @@ abbrev AreRooted : List (Node RouteDraft) → Type 0
 AreRooted routes = IsTree routes × (root_has_receiver routes ≡ true)
 
 -- a step after a step, of which both were done
-both : {A B : Type 0} (first : Result A DraftFault) (next : A → Result B DraftFault) (b : B) → (first >>= next) ≡ Ok b →
+pub both : {A B : Type 0} (first : Result A DraftFault) (next : A → Result B DraftFault) (b : B) → (first >>= next) ≡ Ok b →
     (a : A) × ((first ≡ Ok a) × (next a ≡ Ok b))
 both (Ok a) next b e = (a, (refl, e))
 both (Err fault) next b e = absurd (cc)

@@ -16,3 +16,5 @@ pub mod Receivers
 pub mod Rules
 -- a configuration as it is written
 pub mod Drafts
+-- the names of labels in it
+pub mod LabelNames
