@@ -1,5 +1,5 @@
 -- A list of alerts that is gone through from its end.
-use Rattle.std.proofs.Common.{◌≡◌, Bool, true, false, not, cond, ◌||◌, List, [], ◌∷◌, ◌++◌, reverse, refl, sym, ap, ◌∙◌, append_assoc}
+use Rattle.std.proofs.Common.{◌≡◌, Bool, true, false, not, cond, ◌||◌, List, [], ◌∷◌, ◌++◌, map, reverse, refl, sym, ap, ap₂, ◌∙◌, append_assoc}
 use Rattle.std.specs.Cmp.{eq_by_cmp_equiv}
 use Rattle.std.specs.Ordering.{is_eq}
 use Rattle.std.proofs.lemmas.Bool.{cond-false, cond-true}
@@ -7,7 +7,7 @@ use Rattle.std.proofs.lemmas.List.{reverse-append}
 use Rattle.am_labels.specs.declared.Label.{Label}
 use Rattle.am_labels.specs.Labels.{labels_cmp, labels_total}
 use Rattle.am_item.specs.declared.item.Alert.{Alert}
-use Rattle.am_alert.specs.Made.{is_posted, last_of_each}
+use Rattle.am_alert.specs.Made.{chosen, is_posted, last_of_each, lasts_among}
 
 -- the alert before the others comes to them
 pub regrouped : (whole old front later : List Alert) (alert : Alert) → whole ≡ old ++ later → old ≡ front ++ alert ∷ [] → whole ≡ front ++ alert ∷ later
@@ -23,21 +23,18 @@ key_more labels key old new alert later same before now =
     let turned : is_eq (labels_cmp labels key) ≡ is_eq (labels_cmp key alert.labels) = (eq_by_cmp_equiv labels_total).symm labels key ∙ ap (λ l. is_eq (labels_cmp key l)) same in
     now ∙ or_cond (is_eq (labels_cmp labels key)) old ∙ ap (λ b. b || old) turned ∙ ap (λ c. is_eq (labels_cmp key alert.labels) || c) before
 
--- the last alert of a label set stays
-pub kept : (last later : List Alert) (alert : Alert) → reverse last ≡ last_of_each later → is_posted alert.labels later ≡ false → reverse (last ++ alert ∷ []) ≡ last_of_each (alert ∷ later)
-unfolding last_of_each
-kept last later alert e new =
-    reverse-append last (alert ∷ []) ∙ ap (λ xs. alert ∷ xs) e ∙ sym (cond-false (is_posted alert.labels later) (last_of_each later) (alert ∷ last_of_each later) new)
+-- whether the alert before the others is the last of its label set
+pub last_more : (lasts : List Bool) (later : List Alert) (alert : Alert) (added : Bool) → reverse lasts ≡ lasts_among later → added ≡ not (is_posted alert.labels later)
+    → reverse (lasts ++ added ∷ []) ≡ lasts_among (alert ∷ later)
+last_more lasts later alert added e new = reverse-append lasts (added ∷ []) ∙ ap₂ (λ choice choices. choice ∷ choices) new e
 
--- an earlier alert of a label set goes
-pub passed_over : (last later : List Alert) (alert : Alert) → reverse last ≡ last_of_each later → is_posted alert.labels later ≡ true → reverse last ≡ last_of_each (alert ∷ later)
-unfolding last_of_each
-passed_over last later alert e old = e ∙ sym (cond-true (is_posted alert.labels later) (last_of_each later) (alert ∷ last_of_each later) old)
+by_choice : (b : Bool) (alert : Alert) (pairs : List (Alert × Bool)) (all : List Alert) → map (λ pair. pair.0) pairs ≡ all
+    → map (λ pair. pair.0) (cond (not b) ((alert, not b) ∷ pairs) pairs) ≡ cond b all (alert ∷ all)
+by_choice true alert pairs all e = e
+by_choice false alert pairs all e = ap (λ alerts. alert ∷ alerts) e
 
--- what the set of keys said of the alert
-pub is_new : (labels : List Label) (old added : Bool) (alert : Alert) (later : List Alert) → labels ≡ alert.labels → old ≡ is_posted labels later → added ≡ not old → is_posted alert.labels later ≡ not added
-is_new labels old added alert later same before told = ap (λ l. is_posted l later) (sym same) ∙ sym before ∙ not_not old ∙ ap not (sym told)
-  where
-    not_not : (b : Bool) → b ≡ not (not b)
-    not_not true = refl
-    not_not false = refl
+-- those that are the last of their label set
+pub chosen_lasts : (alerts : List Alert) → chosen (lasts_among alerts) alerts ≡ last_of_each alerts
+unfolding last_of_each
+chosen_lasts [] = refl
+chosen_lasts (alert ∷ later) = by_choice (is_posted alert.labels later) alert _ _ (chosen_lasts later)

@@ -1,4 +1,2 @@
-pub mod Json
-pub mod Listed
-pub mod LastOfEach
-pub mod Search
+mod Firing
+mod LastOfEach

@@ -1,6 +1,5 @@
-pub mod Code
-pub mod Outcome
-pub mod Written
-pub mod Posted
 pub mod Held
+pub mod HeldAlert
 pub mod Made
+pub mod Posted
+pub mod Written

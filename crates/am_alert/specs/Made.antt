@@ -1,16 +1,17 @@
 -- The items that a posted list makes.
-use Rattle.std.specs.Prelude.{ℕ, ◌+◌, ◌^◌, ◌≡◌, max, min, List, [], ◌∷◌, Bool, true, false, nat_le, Option, Some, None, Result, Ok, Err, if◌then◌else◌}
+use Rattle.std.specs.Prelude.{ℕ, ◌+◌, ◌^◌, ◌≡◌, max, min, List, [], ◌∷◌, filter, map, Bool, true, false, not, nat_le, Option, Some, None, Result, Ok, Err, if◌then◌else◌}
 use Rattle.std.specs.Global.{Vec}
-use Rattle.std.specs.List.{list_any, list_all}
+use Rattle.std.specs.List.{list_any, list_all, zip}
 use Rattle.std.specs.Ordering.{is_eq}
 use Rattle.am_text.specs.Moment.{greatest_moment}
 use Rattle.am_labels.specs.declared.Label.{Label}
 use Rattle.am_labels.specs.Labels.{labels_cmp}
+use Rattle.am_item.specs.declared.fault.Fault.{Fault}
+use Rattle.am_item.specs.declared.fault.Fault.TheVariants.{CountsExhausted, OutOfMemory}
 use Rattle.am_item.specs.declared.item.Alert.{Alert}
 use Rattle.am_item.specs.declared.item.Item.{Item}
+use Rattle.am_item.specs.declared.item.Thing.TheVariants as thing
 use Rattle.am_alert.specs.declared.maker.Maker.{Maker}
-use Rattle.am_alert.specs.declared.maker.ItemsFault.{ItemsFault}
-use Rattle.am_alert.specs.declared.maker.ItemsFault.TheVariants.{CountsExhausted, OutOfMemory}
 use Rattle.am_alert.specs.Held.{seen}
 
 -- an alert with this label set is in the list
@@ -21,6 +22,15 @@ is_posted labels alerts = list_any (λ other. is_eq (labels_cmp labels other.lab
 unfoldable pub last_of_each : List Alert → List Alert
 last_of_each [] = []
 last_of_each (alert ∷ later) = if is_posted alert.labels later then last_of_each later else alert ∷ last_of_each later
+
+-- of each alert whether no later one has its label set
+abbrev pub lasts_among : List Alert → List Bool
+lasts_among [] = []
+lasts_among (alert ∷ later) = not (is_posted alert.labels later) ∷ lasts_among later
+
+-- the alerts that are chosen, in their order
+abbrev pub chosen : List Bool → List Alert → List Alert
+chosen choice alerts = map (λ pair. pair.0) (filter (λ pair. pair.1) (zip alerts choice))
 
 -- the moment of the post, or one past what was seen of the key; no later than the greatest moment
 abbrev pub stamp_moment : ℕ → Option ℕ → ℕ
@@ -36,7 +46,7 @@ item_of held moment maker alert = record {
     incarnation = maker.incarnation;
     count = maker.used + 1;
   };
-  alert = alert;
+  thing = thing.Alert alert;
 }
 
 -- the alerts as items, with one count after another
@@ -57,8 +67,8 @@ greatest_count = 2 ^ 62
 abbrev pub counts_fit : List Item → Bool
 counts_fit items = list_all (λ i. nat_le i.stamp.count greatest_count) items
 
--- what was returned is these items; it fails only where a count would pass the greatest, or for want of memory
-abbrev pub MakesItems : Result (Vec Item) ItemsFault → List Item → Type 0
+-- what was returned is these items; it fails only where a count would pass the greatest, or where memory runs out
+abbrev pub MakesItems : Result (Vec Item) Fault → List Item → Type 0
 MakesItems (Ok v) items = (v.items ≡ items) × (counts_fit items ≡ true)
 MakesItems (Err CountsExhausted) items = counts_fit items ≡ false
 MakesItems (Err OutOfMemory) items = Unit {0}

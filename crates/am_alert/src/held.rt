@@ -1,20 +1,29 @@
 //! What is read off the items that are held of a tenant.
 
-ghost use Rattle.std.specs.Prelude.{◌≡◌, IfOk, map};
-ghost use Rattle.std.specs.Option.{option_copied};
-ghost use Rattle.am_item.specs.Best.{IsRising, item_at};
-ghost use Rattle.am_alert.specs.Held.{seen, firing};
+ghost use Rattle.std.specs.Prelude.{◌≡◌, IfOk, filter, map};
+ghost use Rattle.am_alert.specs.Held.{AreRising, fires, firing, seen};
+ghost use Rattle.am_alert.specs.HeldAlert.{all_held, held_alert};
 
-use am_item::Item;
+use am_item::{AlertDetails, Held, Stamped};
 use am_labels::LabelSet;
 use am_text::Moment;
 use std::alloc::{AllocError, Global};
+use std::collections::BTreeMap;
 use std::marker::Model;
+
+/// An alert that is held, borrowed.
+#[derive(Drop)]
+pub struct HeldAlert<'a> {
+    /// What identifies the alert.
+    pub labels: &'a LabelSet,
+    /// What else the alert is, and its stamp.
+    pub details: &'a Stamped<AlertDetails>,
+}
 
 /// The alerts that are held of one tenant.
 #[derive(Drop)]
 pub struct AlertBook<'a> {
-    held: &'a [Item],
+    held: &'a Held,
 }
 
 impl<'a> Model for AlertBook<'a> {
@@ -23,59 +32,50 @@ impl<'a> Model for AlertBook<'a> {
 
     ghost Value = { List Item };
 
-    ghost use Rattle.am_item.specs.Best.{IsRising};
-
     ghost view = { λ b. b.held.now };
-
-    ghost invariant = { λ b. IsRising b.held.now };
 }
 
 impl<'a> AlertBook<'a> {
-    /// Reads these items, which stand in the order of label sets.
-    pub fn new(held: &'a [Item]) -> AlertBook<'a>
-        requires { IsRising held.now }
+    /// Reads the alerts of what is held.
+    pub fn new(held: &'a Held) -> AlertBook<'a>
         ensures { result ≡ held.now }
     {
         AlertBook { held }
     }
 
-    /// The stamp moment of the item with this label set, where there is one.
+    /// The stamp moment of the alert with this label set, where there is one.
     pub fn seen(&self, labels: &LabelSet) -> Option<Moment>
         ensures { result ≡ seen labels.now self.now }
     {
-        item_at(self.held, labels).map(|item| item.stamp.moment)
+        self.held
+            .alerts()
+            .get(labels)
+            .map(|alert| alert.stamp.moment)
     }
 
-    /// The items whose alerts end after the moment, in the order of label sets.
-    pub fn firing(&self, alloc: Global, moment: Moment) -> Result<Vec<&'a Item>, AllocError>
-        ensures firing { IfOk result (λ v. map (λ i. i.now) v.items ≡ firing moment self.now) }
-        ensures rising { IfOk result (λ v. IsRising (map (λ i. i.now) v.items)) }
+    /// The alerts that end after the moment, in the order of label sets.
+    pub fn firing(&self, alloc: Global, moment: Moment) -> Result<Vec<HeldAlert<'a>>, AllocError>
+        ensures firing { IfOk result (λ v. map held_alert v.items ≡ firing moment self.now) }
+        ensures rising { IfOk result (λ v. AreRising (map held_alert v.items)) }
     {
-        let firing = firing_of(alloc, self.held, moment)?;
+        let firing = firing_among(alloc, self.held.alerts(), moment)?;
         Ok(firing)
     }
 }
 
-// The item with this label set.
-fn item_at<'a>(held: &'a [Item], labels: &LabelSet) -> Option<&'a Item>
-    requires { IsRising held.now }
-    ensures { option_copied result ≡ item_at labels.now held.now }
-{
-    match held.binary_search_by(|item| item.alert.labels.cmp(labels)) {
-        Ok(place) => Some(&held[place]),
-        Err(_) => None,
-    }
-}
-
-// The items whose alerts end after the moment, in their order.
-fn firing_of<'a>(
+// The alerts that end after the moment, in their order.
+fn firing_among<'a>(
     alloc: Global,
-    held: &'a [Item],
+    alerts: &'a BTreeMap<LabelSet, Stamped<AlertDetails>>,
     moment: Moment,
-) -> Result<Vec<&'a Item>, AllocError>
-    ensures { IfOk result (λ v. map (λ i. i.now) v.items ≡ firing moment held.now) }
+) -> Result<Vec<HeldAlert<'a>>, AllocError>
+    ensures { IfOk result (λ v. map held_alert v.items ≡ filter (λ alert. fires moment alert) (all_held alerts.now.entries)) }
 {
-    held.iter()
-        .filter(|item| moment < item.alert.ends_at)
-        .collect(alloc)
+    let mut firing = Vec::new(alloc);
+    for (labels, details) in alerts {
+        if moment < details.value.ends_at {
+            firing.push(HeldAlert { labels, details })?;
+        }
+    }
+    Ok(firing)
 }

@@ -1,18 +1,14 @@
 //! The items that a posted list makes.
 
 ghost use Rattle.std.specs.Prelude.{◌≡◌, IfOk};
-ghost use Rattle.am_item.specs.Best.{IsRising};
-ghost use Rattle.am_alert.specs.Made.{last_of_each, stamp_moment, items_from, made, MakesItems};
+ghost use Rattle.am_alert.specs.Made.{chosen, items_from, last_of_each, lasts_among, made, MakesItems, stamp_moment};
 
 use crate::held::AlertBook;
-use crate::maker::{ItemsFault, Maker};
-use am_item::{Alert, Item, Stamp};
+use crate::maker::Maker;
+use am_item::{Alert, Fault, GREATEST_COUNT, Held, Item, Stamp, Thing};
 use am_text::Moment;
 use std::alloc::{AllocError, Global};
 use std::collections::BTreeSet;
-
-/// The greatest count that a stamp may have.
-const GREATEST_COUNT: u64 = 1 << 62;
 
 /// The items of a posted list at a moment, where `held` is held, in the order of label sets: of each label
 /// set the last alert, in the order of those places, each with the next count. A stamp comes after that of
@@ -21,40 +17,59 @@ const GREATEST_COUNT: u64 = 1 << 62;
 pub fn items_of_post(
     alloc: Global,
     posted: Vec<Alert>,
-    held: &[Item],
+    held: &Held,
     moment: Moment,
     maker: Maker,
-) -> Result<Vec<Item>, ItemsFault>
-    requires { IsRising held.now }
+) -> Result<Vec<Item>, Fault>
     ensures { MakesItems result (made held.now moment maker posted.items) }
 {
     let alerts = last_of_each(alloc, posted)?;
     items_from(alloc, alerts, held, moment, maker)
 }
 
-fn last_of_each(alloc: Global, mut posted: Vec<Alert>) -> Result<Vec<Alert>, AllocError>
+// Of each label set the last alert, in the order of those places.
+fn last_of_each(alloc: Global, posted: Vec<Alert>) -> Result<Vec<Alert>, AllocError>
     ensures { IfOk result (λ v. v.items ≡ last_of_each posted.items) }
 {
+    let lasts = lasts_among(alloc, &posted)?;
+    chosen(alloc, posted, lasts)
+}
+
+// Of each alert whether no later one has its label set.
+fn lasts_among(alloc: Global, posted: &[Alert]) -> Result<Vec<bool>, AllocError>
+    ensures { IfOk result (λ v. v.items ≡ lasts_among posted.now) }
+{
     let mut keys = BTreeSet::new(alloc);
-    let mut last = Vec::new(alloc);
-    while let Some(alert) = posted.pop() {
-        if keys.insert(alert.labels.copy(alloc)?)? {
-            last.push(alert)?;
-        }
+    let mut lasts = Vec::with_capacity(alloc, posted.len())?;
+    let mut before = posted;
+    while let Some((alert, earlier)) = before.split_last() {
+        lasts.push(keys.insert(&alert.labels)?)?;
+        before = earlier;
     }
-    last.reverse();
-    Ok(last)
+    lasts.reverse();
+    Ok(lasts)
+}
+
+// The alerts that are chosen, in their order.
+fn chosen(alloc: Global, alerts: Vec<Alert>, choice: Vec<bool>) -> Result<Vec<Alert>, AllocError>
+    ensures { IfOk result (λ v. v.items ≡ chosen choice.items alerts.items) }
+{
+    alerts
+        .into_iter()
+        .zip(choice)
+        .filter(|(_, is_chosen)| *is_chosen)
+        .map(|(alert, _)| alert)
+        .collect(alloc)
 }
 
 #[tactic(auto, unfolding(crate::specs::Made::items_from))]
 fn items_from(
     alloc: Global,
     alerts: Vec<Alert>,
-    held: &[Item],
+    held: &Held,
     moment: Moment,
     maker: Maker,
-) -> Result<Vec<Item>, ItemsFault>
-    requires { IsRising held.now }
+) -> Result<Vec<Item>, Fault>
     ensures { MakesItems result (items_from held.now moment maker alerts.items) }
 {
     let book = AlertBook::new(held);
@@ -62,7 +77,7 @@ fn items_from(
     let mut used = maker.used;
     for alert in alerts {
         if used >= GREATEST_COUNT {
-            return Err(ItemsFault::CountsExhausted);
+            return Err(Fault::CountsExhausted);
         }
         used += 1;
         let stamp = Stamp {
@@ -71,7 +86,10 @@ fn items_from(
             incarnation: maker.incarnation,
             count: used,
         };
-        items.push(Item { stamp, alert })?;
+        items.push(Item {
+            stamp,
+            thing: Thing::Alert(alert),
+        })?;
     }
     Ok(items)
 }

@@ -2,47 +2,32 @@
 
 ghost use Rattle.std.specs.Prelude.{◌≡◌};
 ghost use Rattle.serde_json.specs.View.{view, items_view};
-ghost use Rattle.am_alert.specs.Outcome.{Gives, formed};
-ghost use Rattle.am_alert.specs.Posted.{json, completed, judged, alert_of, alerts_of, posted};
+ghost use Rattle.am_text.specs.Outcome.{Gives};
+ghost use Rattle.am_alert.specs.Posted.{completed, judged, alert_of, alerts_of, posted};
 
-use crate::fault::PostedFault;
 use crate::fields::written_of;
+use crate::refusal::PostedRefusal;
 use crate::written::Written;
 use am_item::Alert;
-use am_text::Moment;
+use am_json::{list_in, read_json};
+use am_text::{Failure, Moment, refuse_as};
 use serde_json::Value;
 use std::alloc::Global;
 
 /// The alerts of a posted body, in its order, at a moment. An alert without an end ends `resolve_timeout`
-/// milliseconds after the moment. The first fault of the list refuses all of it.
+/// milliseconds after the moment. The first alert that is refused refuses all of the list.
 #[tactic(auto, unfolding(crate::specs::Posted::posted))]
 pub fn read_posted(
     alloc: Global,
     body: &[u8],
     moment: Moment,
     resolve_timeout: u64,
-) -> Result<Vec<Alert>, PostedFault>
+) -> Result<Vec<Alert>, Failure<PostedRefusal>>
     ensures { Gives (λ v. v.items) result (posted moment resolve_timeout body.now) }
 {
-    let value = json_of(alloc, body)?;
-    match value.as_array() {
-        None => Err(PostedFault::BadForm),
-        Some(values) => alerts_of(alloc, values, moment, resolve_timeout),
-    }
-}
-
-fn json_of(alloc: Global, body: &[u8]) -> Result<Value, PostedFault>
-    ensures { Gives view result (formed (json body.now)) }
-{
-    match Value::from_slice(alloc, body) {
-        Ok(value) => Ok(value),
-        Err(e) => {
-            if e.is_memory() {
-                return Err(PostedFault::OutOfMemory);
-            }
-            Err(PostedFault::BadForm)
-        }
-    }
+    let value = refuse_as(read_json(alloc, body), PostedRefusal::BadForm)?;
+    let values = refuse_as(list_in(&value), PostedRefusal::BadForm)?;
+    alerts_of(alloc, values, moment, resolve_timeout)
 }
 
 #[tactic(auto, unfolding(crate::specs::Posted::alerts_of))]
@@ -51,10 +36,10 @@ fn alerts_of(
     values: &[Value],
     moment: Moment,
     resolve_timeout: u64,
-) -> Result<Vec<Alert>, PostedFault>
+) -> Result<Vec<Alert>, Failure<PostedRefusal>>
     ensures { Gives (λ v. v.items) result (alerts_of moment resolve_timeout (items_view values.now)) }
 {
-    let mut alerts = Vec::new(alloc);
+    let mut alerts = Vec::with_capacity(alloc, values.len())?;
     for value in values {
         alerts.push(alert_of(alloc, value, moment, resolve_timeout)?)?;
     }
@@ -67,10 +52,10 @@ fn alert_of(
     value: &Value,
     moment: Moment,
     resolve_timeout: u64,
-) -> Result<Alert, PostedFault>
+) -> Result<Alert, Failure<PostedRefusal>>
     ensures { Gives (λ a. a) result (alert_of moment resolve_timeout (view value.now)) }
 {
-    let written = written_of(alloc, value)?;
+    let written = refuse_as(written_of(alloc, value), PostedRefusal::BadForm)?;
     judged(completed(written, moment, resolve_timeout))
 }
 
@@ -90,14 +75,14 @@ fn completed(written: Written, moment: Moment, resolve_timeout: u64) -> Alert
     }
 }
 
-fn judged(alert: Alert) -> Result<Alert, PostedFault>
+fn judged(alert: Alert) -> Result<Alert, Failure<PostedRefusal>>
     ensures { Gives (λ a. a) result (judged alert) }
 {
     if alert.labels.is_empty() {
-        return Err(PostedFault::NoLabels);
+        return Err(Failure::Refused(PostedRefusal::NoLabels));
     }
     if alert.ends_at < alert.starts_at {
-        return Err(PostedFault::EndsBeforeStart);
+        return Err(Failure::Refused(PostedRefusal::EndsBeforeStart));
     }
     Ok(alert)
 }

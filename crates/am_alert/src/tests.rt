@@ -1,15 +1,15 @@
 //! Posted bodies, and what the rules say of each.
 
 use super::*;
-use PostedFault::{BadForm, EndsBeforeStart, NoLabels};
-use am_item::{Alert, Book};
+use PostedRefusal::{BadForm, EndsBeforeStart, NoLabels};
+use am_item::{Alert, Book, Item, Thing};
 use am_labels::Label;
 use am_tenant::TenantName;
-use am_text::Moment;
+use am_text::{Failure, Moment};
 use std::alloc::{AllocError, Global};
 use std::test::Fail;
 
-const REFUSED: [(&str, PostedFault); 46] = [
+const REFUSED: [(&str, PostedRefusal); 46] = [
     // No JSON, or no list of objects.
     ("", BadForm),
     ("[", BadForm),
@@ -233,9 +233,9 @@ fn filled(alloc: Global, field: &str, count: usize) -> Result<String, AllocError
 fn posted_bodies(rt: HostRuntime) -> Result<(), Fail> {
     let alloc = rt.alloc();
     let moment = Moment::from_milliseconds(1_750_000_000_000).ok_or("a moment")?;
-    for (body, fault) in &REFUSED {
+    for (body, refusal) in &REFUSED {
         let refused = read_posted(alloc, body.as_bytes(), moment, 300_000).err();
-        assert_eq!(rt; refused, Some(*fault), "{body}");
+        assert_eq!(rt; refused, Some(Failure::Refused(*refusal)), "{body}");
     }
     for (body, said) in &TAKEN {
         let posted = read_posted(alloc, body.as_bytes(), moment, 300_000)?;
@@ -251,19 +251,36 @@ fn limits(rt: HostRuntime) -> Result<(), Fail> {
     let moment = Moment::from_milliseconds(1_750_000_000_000).ok_or("a moment")?;
     let bodies = [
         (nested(alloc, 127)?, None),
-        (nested(alloc, 128)?, Some(BadForm)),
+        (nested(alloc, 128)?, Some(Failure::Refused(BadForm))),
         (filled(alloc, "labels", 64)?, None),
-        (filled(alloc, "labels", 65)?, Some(BadForm)),
+        (
+            filled(alloc, "labels", 65)?,
+            Some(Failure::Refused(BadForm)),
+        ),
         (filled(alloc, "annotations", 63)?, None),
-        (filled(alloc, "annotations", 64)?, Some(BadForm)),
+        (
+            filled(alloc, "annotations", 64)?,
+            Some(Failure::Refused(BadForm)),
+        ),
     ];
-    for (body, fault) in &bodies {
+    for (body, failure) in &bodies {
         let refused = read_posted(alloc, body.as_bytes(), moment, 300_000).err();
-        assert_eq!(rt; refused, *fault);
+        assert_eq!(rt; refused, *failure);
     }
     let no_text = read_posted(alloc, b"[{\"labels\":{\"a\":\"\xff\"}}]", moment, 300_000).err();
-    assert_eq!(rt; no_text, Some(BadForm));
+    assert_eq!(rt; no_text, Some(Failure::Refused(BadForm)));
     Ok(())
+}
+
+// A label of the item's alert, and the stamp's moment, in milliseconds after 15:00, and count.
+fn stamped<'a>(item: &'a Item, name: &str) -> (&'a str, u64, u64) {
+    let value = match &item.thing {
+        Thing::Alert(alert) => alert.labels.get(name),
+        _ => "",
+    };
+    let moment = item.stamp.moment.milliseconds();
+    let since = moment.saturating_sub(1_749_999_600_000);
+    (value, since, item.stamp.count)
 }
 
 #[test]
@@ -274,31 +291,21 @@ fn posts_make_items(rt: HostRuntime) -> Result<(), Fail> {
     let mut book = Book::new(alloc);
     let body =
         br#"[{"labels":{"a":"b"}},{"labels":{"c":"d"}},{"labels":{"a":"b"},"generatorURL":"x"}]"#;
-    // The counts used before, and of each item a label and its stamp's moment, after 15:00, and count.
-    let posts = [
-        (6, [("c", "d", 400_000, 7), ("a", "b", 400_000, 8)]),
-        (8, [("c", "d", 400_001, 9), ("a", "b", 400_001, 10)]),
-    ];
-    for (used, expected) in posts {
+    // The counts used before, and the moments and counts of the stamps.
+    for (used, since, counts) in [(6, 400_000, (7, 8)), (8, 400_001, (9, 10))] {
         let posted = read_posted(alloc, body, moment, 300_000)?;
         let maker = Maker {
             instance: 1,
             incarnation: 1,
             used,
         };
-        let items = items_of_post(alloc, posted, book.best(&tenant), moment, maker)?;
-        assert_eq!(rt; items.len(), expected.len());
-        for (item, (name, value, since, count)) in items.iter().zip(expected) {
-            let moment = item.stamp.moment.milliseconds();
-            assert_eq!(rt; item.alert.labels.get(name), value);
-            assert_eq!(rt; moment.saturating_sub(1_749_999_600_000), since);
-            assert_eq!(rt; item.stamp.count, count);
-        }
-        for item in items {
-            book.put(alloc, &tenant, item)?;
-        }
+        let items = items_of_post(alloc, posted, book.held(&tenant), moment, maker)?;
+        assert_eq!(rt; items.len(), 2);
+        assert_eq!(rt; stamped(&items[0], "c"), ("d", since, counts.0));
+        assert_eq!(rt; stamped(&items[1], "a"), ("b", since, counts.1));
+        book.put_all(alloc, &tenant, items)?;
     }
-    let held = AlertBook::new(book.best(&tenant));
+    let held = AlertBook::new(book.held(&tenant));
     assert_eq!(rt; held.firing(alloc, moment.plus(299_999))?.len(), 2);
     assert_eq!(rt; held.firing(alloc, moment.plus(300_000))?.len(), 0);
     Ok(())

@@ -12,8 +12,8 @@ use Rattle.std.proofs.lemmas.List.Folds.{list_all-append}
 use Rattle.std.proofs.lemmas.List.Kept.{AllPairs-cons}
 use Rattle.std.proofs.lemmas.List.Quantifiers.{position-Some}
 use Rattle.am_text.specs.Duration.{duration, longest_duration, parts_at, units, whole, within_range}
-use Rattle.am_text.specs.declared.fault.TextFault.{TextFault}
-use Rattle.am_text.specs.declared.fault.TextFault.TheVariants.{NotADuration, OutOfRange}
+use Rattle.am_text.specs.declared.refusal.TextRefusal.{TextRefusal}
+use Rattle.am_text.specs.declared.refusal.TextRefusal.TheVariants.{NotADuration, OutOfRange}
 use Rattle.am_pattern.specs.Taking.{IsPattern, is_pattern}
 use Rattle.am_pattern.proofs.Tests.{IsPattern-from_test}
 use Rattle.am_match.specs.declared.checking.MatchFault.{MatchFault}
@@ -269,7 +269,7 @@ bounded_by parts found false false e = bounded_whole parts found (length parts.1
 duration_bounded : (text : List ℕ) (found : ℕ) → duration text ≡ Ok found → found ≤ longest_duration
 duration_bounded text found e = bounded_by (parts_at units text) found (bytes_eq text (codes "0")) (length text == 0) e
 
-milliseconds_bounded : (up : ℕ) (read : Result ℕ TextFault) → up ≤ longest_duration →
+milliseconds_bounded : (up : ℕ) (read : Result ℕ TextRefusal) → up ≤ longest_duration →
     ((found : ℕ) → read ≡ Ok found → found ≤ longest_duration) → milliseconds up read ≤ longest_duration
 milliseconds_bounded up (Ok found) holds bounded = bounded found refl
 milliseconds_bounded up (Err fault) holds bounded = holds
@@ -278,7 +278,7 @@ span_bounded : (up : ℕ) (text : Option (List ℕ)) → up ≤ longest_duration
 span_bounded up None holds = holds
 span_bounded up (Some text) holds = milliseconds_bounded up (duration text) holds (duration_bounded text)
 
-milliseconds_long : (up : ℕ) (read : Result ℕ TextFault) → 1000 ≤ up → lasts 1000 read ≡ true → 1000 ≤ milliseconds up read
+milliseconds_long : (up : ℕ) (read : Result ℕ TextRefusal) → 1000 ≤ up → lasts 1000 read ≡ true → 1000 ≤ milliseconds up read
 milliseconds_long up (Ok found) holds fit = leb-true 1000 found fit
 milliseconds_long up (Err fault) holds fit = holds
 

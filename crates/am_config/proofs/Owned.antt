@@ -2,7 +2,7 @@
 use Rattle.std.proofs.Common.{◌≡◌, ℕ, ◌+◌, List, [], ◌∷◌, Some, None, Option, Result, Ok, Err, refl, ap, ◌∙◌}
 use Rattle.std.specs.Prelude.{if◌then◌else◌, unwrap_or}
 use Rattle.am_text.specs.Duration.{duration}
-use Rattle.am_text.specs.declared.fault.TextFault.{TextFault}
+use Rattle.am_text.specs.declared.refusal.TextRefusal.{TextRefusal}
 use Rattle.am_draft.specs.declared.receiver.ReceiverDraft.{ReceiverDraft}
 use Rattle.am_draft.specs.declared.route.RouteDraft.{RouteDraft}
 use Rattle.am_draft.specs.declared.tree.Node.{Node}
@@ -11,7 +11,7 @@ use Rattle.am_config.specs.declared.parts.Settings.{Settings}
 use Rattle.am_config.specs.Inheriting.{place_of, span, milliseconds, said, is_around, told}
 use Rattle.am_config.specs.Own.{read_span, span_said, place_said, own_of, owns_of, with_own, told_own}
 
-milliseconds_same : (otherwise : ℕ) (read : Result ℕ TextFault) → unwrap_or (read_span read) otherwise ≡ milliseconds otherwise read
+milliseconds_same : (otherwise : ℕ) (read : Result ℕ TextRefusal) → unwrap_or (read_span read) otherwise ≡ milliseconds otherwise read
 milliseconds_same otherwise (Ok found) = refl
 milliseconds_same otherwise (Err fault) = refl
 

@@ -3,7 +3,7 @@ use Rattle.std.specs.Prelude.{ℕ, Bool, true, false, not, ◌&&◌, ◌||◌, �
 use Rattle.std.specs.List.{list_all, list_any}
 use Rattle.std.specs.Str.{bytes_eq}
 use Rattle.am_text.specs.Duration.{duration}
-use Rattle.am_text.specs.declared.fault.TextFault.{TextFault}
+use Rattle.am_text.specs.declared.refusal.TextRefusal.{TextRefusal}
 use Rattle.am_draft.specs.declared.draft.Draft.{Draft}
 use Rattle.am_draft.specs.declared.receiver.ReceiverDraft.{ReceiverDraft}
 use Rattle.am_draft.specs.declared.route.Intervals.{Intervals}
@@ -53,7 +53,7 @@ is_root_bare [] = true
 is_root_bare (root ∷ routes) = length root.item.matchers == 0
 
 -- at least so many milliseconds
-abbrev pub lasts : ℕ → Result ℕ TextFault → Bool
+abbrev pub lasts : ℕ → Result ℕ TextRefusal → Bool
 lasts least (Ok milliseconds) = nat_le least milliseconds
 lasts least (Err fault) = false
 

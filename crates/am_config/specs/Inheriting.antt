@@ -1,7 +1,7 @@
 -- What holds for a route: what it says itself, and for the rest what the nearest route around it says.
 use Rattle.std.specs.Prelude.{◌≡◌, ℕ, ◌+◌, Bool, ◌&&◌, nat_le, List, [], ◌∷◌, ◌++◌, length, map, Option, Some, None, Result, Ok, Err, is_some, unwrap_or, if◌then◌else◌}
 use Rattle.am_text.specs.Duration.{duration}
-use Rattle.am_text.specs.declared.fault.TextFault.{TextFault}
+use Rattle.am_text.specs.declared.refusal.TextRefusal.{TextRefusal}
 use Rattle.am_draft.specs.declared.draft.Draft.{Draft}
 use Rattle.am_draft.specs.declared.receiver.ReceiverDraft.{ReceiverDraft}
 use Rattle.am_draft.specs.declared.route.RouteDraft.{RouteDraft}
@@ -18,7 +18,7 @@ abbrev pub defaults : Settings
 defaults = record { receiver = 0; grouping = None; group_wait = 30_000; group_interval = 300_000; repeat_interval = 14_400_000 }
 
 -- the milliseconds of a duration
-abbrev pub milliseconds : ℕ → Result ℕ TextFault → ℕ
+abbrev pub milliseconds : ℕ → Result ℕ TextRefusal → ℕ
 milliseconds otherwise (Ok found) = found
 milliseconds otherwise (Err fault) = otherwise
 

@@ -1,7 +1,7 @@
 -- What routes say themselves, their texts read, and what is told from that alone.
 use Rattle.std.specs.Prelude.{ℕ, ◌+◌, List, [], ◌∷◌, map, Option, Some, None, Result, Ok, Err, is_some, unwrap_or, if◌then◌else◌}
 use Rattle.am_text.specs.Duration.{duration}
-use Rattle.am_text.specs.declared.fault.TextFault.{TextFault}
+use Rattle.am_text.specs.declared.refusal.TextRefusal.{TextRefusal}
 use Rattle.am_draft.specs.declared.receiver.ReceiverDraft.{ReceiverDraft}
 use Rattle.am_draft.specs.declared.route.RouteDraft.{RouteDraft}
 use Rattle.am_draft.specs.declared.tree.Node.{Node}
@@ -11,7 +11,7 @@ use Rattle.am_config.specs.Inheriting.{is_around}
 use Rattle.am_config.specs.Places.{place}
 
 -- the milliseconds, where a duration is read
-abbrev pub read_span : Result ℕ TextFault → Option ℕ
+abbrev pub read_span : Result ℕ TextRefusal → Option ℕ
 read_span (Ok milliseconds) = Some milliseconds
 read_span (Err fault) = None
 

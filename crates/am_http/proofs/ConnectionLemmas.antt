@@ -3,7 +3,9 @@ use Rattle.std.proofs.Common.{◌≡◌, ℕ, Bool, true, false, List, [], ◌�
 use Rattle.std.specs.Ordering.{nat_cmp, is_eq}
 use Rattle.std.specs.Map.{lookup}
 use Rattle.std.proofs.lemmas.Bool.Decides.{nat_tests}
-use Rattle.am_http.specs.Connections.{bytes_of}
+use Rattle.am_http.specs.declared.request.Fed.{Fed}
+use Rattle.am_http.specs.declared.request.Fed.TheVariants as fed
+use Rattle.am_http.specs.Connections.{bytes_of, left_open}
 
 -- two numbers compare as equal where they are
 same_number : (a b : ℕ) → is_eq (nat_cmp a b) ≡ (a == b)
@@ -33,11 +35,18 @@ set_again : {A : Type 0} (b : Bool) (x y z : A) → cond b x (cond b y z) ≡ co
 set_again true x y z = refl
 set_again false x y z = refl
 
--- one connection is taken out, and put back with other bytes
-pub bytes_of-replaced : (k : ℕ) (v : List ℕ) (old mid new : List (ℕ × List ℕ))
-    → ((q : ℕ) → found q mid ≡ cond (is_eq (nat_cmp k q)) None (found q old))
-    → ((q : ℕ) → found q new ≡ cond (is_eq (nat_cmp k q)) (Some v) (found q mid))
-    → (c : ℕ) → bytes_of c new ≡ (if c == k then Some v else bytes_of c old)
-bytes_of-replaced k v old mid new taken put c =
-    bytes_of-updated k (Some v) mid new put c ∙ ap (λ (o : Option (List ℕ)). cond (c == k) (Some v) o) (bytes_of-updated k None old mid taken c)
-    ∙ set_again (c == k) (Some v) None (bytes_of c old)
+-- one connection is set, and then taken out
+pub bytes_of-closed : (k : ℕ) (v : List ℕ) (old mid new : List (ℕ × List ℕ))
+    → ((q : ℕ) → found q mid ≡ cond (is_eq (nat_cmp k q)) (Some v) (found q old))
+    → ((q : ℕ) → bytes_of q new ≡ (if q == k then None else bytes_of q mid))
+    → (c : ℕ) → bytes_of c new ≡ (if c == k then None else bytes_of c old)
+bytes_of-closed k v old mid new set closed c =
+    closed c ∙ ap (λ (o : Option (List ℕ)). cond (c == k) None o) (bytes_of-updated k (Some v) old mid set c)
+    ∙ set_again (c == k) None (Some v) (bytes_of c old)
+
+-- a decided connection is no longer read
+pub left_open-decided : (f : Fed) (bytes : List ℕ) → (f ≡ fed.Waits → ⊥) → left_open f bytes ≡ None
+left_open-decided fed.Waits bytes decided = absurd (decided refl)
+left_open-decided (fed.Refused refusal) bytes decided = refl
+left_open-decided fed.Ready bytes decided = refl
+left_open-decided (fed.Request request) bytes decided = refl

@@ -3,6 +3,9 @@ pub mod ReadingLemmas
 pub mod NumberLemmas
 pub mod StatingLemmas
 pub mod PathLemmas
+pub mod RouteLemmas
+pub mod AddLemmas
+pub mod BoundLemmas
 pub mod HeadLemmas
 pub mod StageLemmas
 pub mod VerdictLemmas

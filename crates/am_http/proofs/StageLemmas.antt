@@ -8,16 +8,16 @@ use Rattle.am_http.specs.declared.scan.Line.TheVariants.{Empty, Return, Text}
 use Rattle.am_http.specs.declared.scan.Place.{Place}
 use Rattle.am_http.specs.declared.scan.Scan.{Scan}
 use Rattle.am_http.specs.declared.scan.Scan.TheVariants.{Ended, Open}
-use Rattle.am_http.specs.declared.fault.FrontFault.{FrontFault}
-use Rattle.am_http.specs.declared.fault.FrontFault.TheVariants.{BadHead}
+use Rattle.am_http.specs.declared.refusal.FrontRefusal.{FrontRefusal}
+use Rattle.am_http.specs.declared.refusal.FrontRefusal.TheVariants.{LongHead}
 use Rattle.am_http.specs.declared.head.Plan.{Plan}
 use Rattle.am_http.specs.declared.request.Fed.TheVariants as fed
 use Rattle.am_http.specs.Scan.{kind, kind_and, start, next_line, next_place, scanned}
 use Rattle.am_http.specs.HeadEnd.{is_empty_line, head_len}
 use Rattle.am_http.specs.Reading.{read_head}
 use Rattle.am_http.specs.Checks.{judged}
-use Rattle.am_http.specs.Plans.{wanted_at, IsPlanAt}
-use Rattle.am_http.specs.Verdict.{request_of, after_head, verdict_at, verdict}
+use Rattle.am_http.specs.Plans.{asked_at, wanted_at, IsPlanAt}
+use Rattle.am_http.specs.Verdict.{asked_with, after_head, verdict_at, verdict}
 use Rattle.am_http.specs.Stages.{HasHead, HasPlace}
 use Rattle.am_http.proofs.HeadEndLemmas.{head_len_after, head_len-passed}
 
@@ -154,10 +154,10 @@ above : (a b : ℕ) → a < b → nat_lt a b ≡ true
 above a b h = grind (arith, nat_tests)
 
 -- a head that is too long
-pub long_head : (text : List ℕ) (n : ℕ) → scanned 0 start text ≡ Ended n → 16384 < n → verdict text ≡ fed.Refused BadHead
+pub long_head : (text : List ℕ) (n : ℕ) → scanned 0 start text ≡ Ended n → 16384 < n → verdict text ≡ fed.Refused LongHead
 long_head text n e long = at_end text n e ∙ rw (above 16384 n long) refl
 
-pub long_start : (text : List ℕ) (place : Place) → scanned 0 start text ≡ Open place → 16384 < length text → verdict text ≡ fed.Refused BadHead
+pub long_start : (text : List ℕ) (place : Place) → scanned 0 start text ≡ Open place → 16384 < length text → verdict text ≡ fed.Refused LongHead
 long_start text place e long = verdict-scanned text ∙ ap (λ (s : Scan). verdict_at text (ended s)) e ∙ rw (above 16384 (length text) long) refl
 
 -- a head that hasn't ended
@@ -165,9 +165,9 @@ pub no_head : (text : List ℕ) (place : Place) → HasPlace text place → verd
 no_head text place h = verdict-scanned text ∙ ap (λ (s : Scan). verdict_at text (ended s)) h.reached ∙ rw (below (length text) 16384 h.short) refl
 
 -- a head that is refused
-pub refused_head : (text : List ℕ) (n : ℕ) (fault : FrontFault) → scanned 0 start text ≡ Ended n → n ≤ 16384
-    → judged (read_head (take n text)) ≡ Err fault → verdict text ≡ fed.Refused fault
-refused_head text n fault e short refused = at_end text n e ∙ rw (below n 16384 short, refused) refl
+pub refused_head : (text : List ℕ) (n : ℕ) (refusal : FrontRefusal) → scanned 0 start text ≡ Ended n → n ≤ 16384
+    → judged (read_head (take n text)) ≡ Err refusal → verdict text ≡ fed.Refused refusal
+refused_head text n refusal e short refused = at_end text n e ∙ rw (below n 16384 short, refused) refl
 
 passed : (text : List ℕ) (plan : Plan) (n : ℕ) → HasHead text plan n → verdict text ≡ after_head (Ok (wanted_at (take n text) plan)) (drop n text)
 passed text plan n h = at_end text n h.ended ∙ rw (below n 16384 h.short, h.passes) refl
@@ -180,7 +180,7 @@ waits text plan n h short =
     passed text plan n h ∙ rw (above (length (drop n text)) plan.body_len left) refl
 
 pub whole : (text : List ℕ) (plan : Plan) (n : ℕ) → HasHead text plan n → n + plan.body_len ≤ length text
-    → verdict text ≡ fed.Request (request_of (wanted_at (take n text) plan) (take plan.body_len (drop n text)))
+    → verdict text ≡ asked_with (asked_at (take n text) plan.action) (take plan.body_len (drop n text))
 whole text plan n h long =
     let rest = length-drop n text in
     let there : plan.body_len ≤ length (drop n text) = let w = h.within in omega arith in

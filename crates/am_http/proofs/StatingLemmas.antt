@@ -2,8 +2,8 @@
 use Rattle.std.proofs.Common.{◌≡◌, ℕ, ◌⊎◌, inl, inr, Bool, true, false, List, [], ◌∷◌, map, refl, sym, ap, subst, ◌∙◌, arith, cond, ◌==◌, Option, Some, None, Result, Ok, Err, codes}
 use Rattle.std.specs.Str.{str_eq_ignore_ascii_case}
 use Rattle.std.proofs.lemmas.Bool.Decides.{nat_tests}
-use Rattle.am_http.specs.declared.fault.FrontFault.{FrontFault}
-use Rattle.am_http.specs.declared.fault.FrontFault.TheVariants.{BadHead}
+use Rattle.am_http.specs.declared.refusal.FrontRefusal.{FrontRefusal}
+use Rattle.am_http.specs.declared.refusal.FrontRefusal.TheVariants.{BadLength}
 use Rattle.am_http.specs.Fields.{Fields, values_of, number, agreed, content_length}
 use Rattle.am_http.specs.Stating.{and_stated, stated_after}
 
@@ -19,10 +19,10 @@ same_branches : {A : Type 0} (b : Bool) (x : A) → cond b x x ≡ x
 same_branches true x = refl
 same_branches false x = refl
 
-stated_bad : (fields : Fields) → stated_after (Err BadHead) fields ≡ Err BadHead
+stated_bad : (fields : Fields) → stated_after (Err BadLength) fields ≡ Err BadLength
 stated_bad [] = refl
 stated_bad (f ∷ fields) =
-    ap (λ (s : Result (Option ℕ) FrontFault). stated_after s fields) (same_branches (is_length f) (Err BadHead)) ∙ stated_bad fields
+    ap (λ (s : Result (Option ℕ) FrontRefusal). stated_after s fields) (same_branches (is_length f) (Err BadLength)) ∙ stated_bad fields
 
 same_or_not : (m n : ℕ) → (m ≡ n) ⊎ (((m == n) ≡ false) × ((n == m) ≡ false))
 same_or_not m n = grind (arith, nat_tests)

@@ -7,8 +7,8 @@ use Rattle.std.proofs.lemmas.Bool.Decides.{nat_tests}
 use Rattle.am_http.specs.declared.scan.Place.{Place}
 use Rattle.am_http.specs.declared.scan.Scan.{Scan}
 use Rattle.am_http.specs.declared.scan.Scan.TheVariants.{Ended, Open}
-use Rattle.am_http.specs.declared.fault.FrontFault.{FrontFault}
-use Rattle.am_http.specs.declared.fault.FrontFault.TheVariants.{BadHead}
+use Rattle.am_http.specs.declared.refusal.FrontRefusal.{FrontRefusal}
+use Rattle.am_http.specs.declared.refusal.FrontRefusal.TheVariants.{LongHead}
 use Rattle.am_http.specs.declared.request.Fed.{Fed}
 use Rattle.am_http.specs.declared.request.Fed.TheVariants as fed
 use Rattle.am_http.specs.Scan.{start, next_place, scanned}
@@ -34,7 +34,7 @@ test_le a b = grind (arith, nat_tests)
 -- ---- a head that hasn't ended
 
 long_more : (text more : List ℕ) (s : Scan) → scanned 0 start (text ++ more) ≡ s → ((m : ℕ) → s ≡ Ended m → length text < m) → 16384 < length text
-    → verdict (text ++ more) ≡ fed.Refused BadHead
+    → verdict (text ++ more) ≡ fed.Refused LongHead
 long_more text more (Ended m) e above long = let far = above m refl in long_head (text ++ more) m e (omega arith)
 long_more text more (Open place) e above long =
     let size = length-append text more in long_start (text ++ more) place e (omega arith)
@@ -65,8 +65,8 @@ body_more w rest more decided =
     not_below : (a b : ℕ) → b ≤ a → nat_lt a b ≡ false
     not_below a b h = grind (arith, nat_tests)
 
-rest_more : (r : Result Wanted FrontFault) (rest more : List ℕ) → after_head r rest ≢ fed.Waits → after_head r (rest ++ more) ≡ after_head r rest
-rest_more (Err fault) rest more decided = refl
+rest_more : (r : Result Wanted FrontRefusal) (rest more : List ℕ) → after_head r rest ≢ fed.Waits → after_head r (rest ++ more) ≡ after_head r rest
+rest_more (Err refusal) rest more decided = refl
 rest_more (Ok w) rest more decided = body_more w rest more decided
 
 ended_more : (text more : List ℕ) (n : ℕ) → scanned 0 start text ≡ Ended n → verdict text ≢ fed.Waits → verdict (text ++ more) ≡ verdict text
@@ -95,8 +95,11 @@ verdict-more text more decided = by_scan text more (scanned 0 start text) refl d
 by_verdict : (text rest : List ℕ) (v : Fed) → verdict text ≡ v
     → or_next v (verdict (text ++ rest)) ≡ verdict (text ++ rest)
 by_verdict text rest fed.Waits e = refl
-by_verdict text rest (fed.Refused fault) e =
-    let stays = verdict-more text rest (λ waits. let differ : fed.Refused fault ≡ fed.Waits = sym e ∙ waits in cc) in
+by_verdict text rest (fed.Refused refusal) e =
+    let stays = verdict-more text rest (λ waits. let differ : fed.Refused refusal ≡ fed.Waits = sym e ∙ waits in cc) in
+    sym (stays ∙ e)
+by_verdict text rest fed.Ready e =
+    let stays = verdict-more text rest (λ waits. let differ : fed.Ready ≡ fed.Waits = sym e ∙ waits in cc) in
     sym (stays ∙ e)
 by_verdict text rest (fed.Request request) e =
     let stays = verdict-more text rest (λ waits. let differ : fed.Request request ≡ fed.Waits = sym e ∙ waits in cc) in

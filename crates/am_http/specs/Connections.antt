@@ -11,5 +11,6 @@ bytes_of c (p ∷ connections) = if c == p.0 then Some p.1 else bytes_of c conne
 -- what stays of a connection with these bytes after this verdict: a decided one is taken out
 abbrev pub left_open : Fed → List ℕ → Option (List ℕ)
 left_open fed.Waits bytes = Some bytes
-left_open (fed.Refused fault) bytes = None
+left_open (fed.Refused refusal) bytes = None
+left_open fed.Ready bytes = None
 left_open (fed.Request request) bytes = None

@@ -4,11 +4,11 @@ use Rattle.std.specs.List.{list_all, list_any}
 use Rattle.std.specs.Str.{str_eq_ignore_ascii_case}
 use Rattle.std.specs.Char.{is_ascii_digit}
 use Rattle.std.specs.Str.Parse.{digits_value}
-use Rattle.am_tenant.specs.Names.{name_fault}
-use Rattle.am_tenant.specs.declared.NameFault.{NameFault}
-use Rattle.am_tenant.specs.declared.NameFault.TheVariants.{Empty, TooLong, BadByte, Reserved}
-use Rattle.am_http.specs.declared.fault.FrontFault.{FrontFault}
-use Rattle.am_http.specs.declared.fault.FrontFault.TheVariants.{NoTenant, EmptyTenant, TenantTooLong, BadTenant, ReservedTenant, BadHead}
+use Rattle.am_tenant.specs.Names.{name_refusal}
+use Rattle.am_tenant.specs.declared.NameRefusal.{NameRefusal}
+use Rattle.am_tenant.specs.declared.NameRefusal.TheVariants.{Empty, TooLong, BadByte, Reserved}
+use Rattle.am_http.specs.declared.refusal.FrontRefusal.{FrontRefusal}
+use Rattle.am_http.specs.declared.refusal.FrontRefusal.TheVariants.{BadLength, NoTenant, EmptyTenant, TenantTooLong, BadTenant, TenantTwice, ReservedTenant}
 
 -- the fields as names and values
 abbrev pub Fields : Type 0
@@ -37,34 +37,34 @@ abbrev pub is_number : ℕ → Option ℕ → Bool
 is_number n None = false
 is_number n (Some m) = m == n
 
--- the number that all of them are; a fault where one is none, or two differ
-abbrev pub agreed : List (Option ℕ) → Result (Option ℕ) FrontFault
+-- the number that all of them are; refused where one is none, or two differ
+abbrev pub agreed : List (Option ℕ) → Result (Option ℕ) FrontRefusal
 agreed [] = Ok None
-agreed (None ∷ numbers) = Err BadHead
-agreed (Some n ∷ numbers) = if list_all (is_number n) numbers then Ok (Some n) else Err BadHead
+agreed (None ∷ numbers) = Err BadLength
+agreed (Some n ∷ numbers) = if list_all (is_number n) numbers then Ok (Some n) else Err BadLength
 
 -- the length of the body, where Content-Length states one
-abbrev pub content_length : Fields → Result (Option ℕ) FrontFault
+abbrev pub content_length : Fields → Result (Option ℕ) FrontRefusal
 content_length fields = agreed (map number (values_of (codes "Content-Length") fields))
 
--- the front's fault for a fault of a tenant's name
-abbrev pub tenant_fault : NameFault → FrontFault
-tenant_fault Empty = EmptyTenant
-tenant_fault TooLong = TenantTooLong
-tenant_fault BadByte = BadTenant
-tenant_fault Reserved = ReservedTenant
+-- the front's refusal for a tenant's name that is refused
+abbrev pub tenant_refusal : NameRefusal → FrontRefusal
+tenant_refusal Empty = EmptyTenant
+tenant_refusal TooLong = TenantTooLong
+tenant_refusal BadByte = BadTenant
+tenant_refusal Reserved = ReservedTenant
 
--- a name without a fault
-abbrev pub named : List ℕ → Option NameFault → Result (List ℕ) FrontFault
+-- a name that isn't refused
+abbrev pub named : List ℕ → Option NameRefusal → Result (List ℕ) FrontRefusal
 named name None = Ok name
-named name (Some fault) = Err (tenant_fault fault)
+named name (Some refusal) = Err (tenant_refusal refusal)
 
 -- the tenant that the values of X-Scope-OrgID name: one value, which is a tenant's name
-abbrev pub tenant_in : List (List ℕ) → Result (List ℕ) FrontFault
+abbrev pub tenant_in : List (List ℕ) → Result (List ℕ) FrontRefusal
 tenant_in [] = Err NoTenant
-tenant_in (value ∷ []) = named value (name_fault value)
-tenant_in (_ ∷ _ ∷ _) = Err BadTenant
+tenant_in (value ∷ []) = named value (name_refusal value)
+tenant_in (_ ∷ _ ∷ _) = Err TenantTwice
 
 -- the tenant of a head
-abbrev pub tenant_of : Fields → Result (List ℕ) FrontFault
+abbrev pub tenant_of : Fields → Result (List ℕ) FrontRefusal
 tenant_of fields = tenant_in (values_of (codes "X-Scope-OrgID") fields)

@@ -5,12 +5,12 @@ pub mod Reading
 pub mod Fields
 pub mod Values
 pub mod Stating
-pub mod Checks
 pub mod Paths
+pub mod Routes
+pub mod Checks
 pub mod Plans
 pub mod Verdict
 pub mod Pieces
 pub mod Stages
-pub mod Grown
 pub mod Connections
 pub mod Replies

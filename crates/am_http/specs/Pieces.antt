@@ -7,7 +7,8 @@ use Rattle.am_http.specs.Verdict.{verdict}
 -- a verdict, or else what comes next
 abbrev pub or_next : Fed → Fed → Fed
 or_next fed.Waits next = next
-or_next (fed.Refused fault) next = fed.Refused fault
+or_next (fed.Refused refusal) next = fed.Refused refusal
+or_next fed.Ready next = fed.Ready
 or_next (fed.Request request) next = fed.Request request
 
 -- what a connection comes to that has these bytes and then takes in these pieces, one after the other, until one of

@@ -4,24 +4,31 @@ use Rattle.httparse.specs.declared.spans.HeaderSpan.{HeaderSpan}
 use Rattle.httparse.specs.declared.spans.RequestSpans.{RequestSpans}
 use Rattle.httparse.specs.Grammar.{RequestHead}
 use Rattle.httparse.specs.Spans.{IsWithin, IsHeaderWithin, header_bytes, span_bytes, name_and_value}
+use Rattle.am_http.specs.declared.head.Action.{Action}
+use Rattle.am_http.specs.declared.head.Action.TheVariants as action
 use Rattle.am_http.specs.declared.head.Plan.{Plan}
-use Rattle.am_http.specs.Checks.{Wanted, longest_body}
+use Rattle.am_http.specs.Checks.{Asked, Ready, Call, Wanted, longest_body, path_in, query_in}
+use Rattle.am_http.specs.Paths.{endpoint_of}
 use Rattle.am_http.specs.Reading.{read_head}
+
+-- what an action says of its head
+abbrev pub asked_at : List ℕ → Action → Asked
+asked_at head action.Ready = Ready
+asked_at head (action.Call tenant method path target) =
+    Call tenant method (endpoint_of path (path_in (span_bytes head target))) (query_in (span_bytes head target))
 
 -- what a plan says of its head
 abbrev pub wanted_at : List ℕ → Plan → Wanted
-wanted_at head plan =
-    record {
-      tenant = plan.tenant;
-      method = plan.method;
-      target = span_bytes head plan.target;
-      body_len = plan.body_len;
-    }
+wanted_at head plan = record { asked = asked_at head plan.action; body_len = plan.body_len }
 
--- the target lies in the head and is text, and the body isn't too long
+-- the target lies in the head and is text
+abbrev pub IsActionAt : List ℕ → Action → Type 0
+IsActionAt head action.Ready = Unit {0}
+IsActionAt head (action.Call tenant method path target) = IsWithin (length head) target × IsUtf8 (span_bytes head target)
+
+-- and the body isn't too long
 pub record IsPlanAt (head : List ℕ) (plan : Plan) : Type 0 where
-  pub within : IsWithin (length head) plan.target
-  pub text : IsUtf8 (span_bytes head plan.target)
+  pub action : IsActionAt head plan.action
   pub short : plan.body_len ≤ longest_body
 
 -- the spans cover the parts of the head h, which the text is

@@ -38,3 +38,7 @@ reply status body = status_line_of status ++ fields_of (length body) ++ body
 -- the body of a refusal: an object with the code
 abbrev pub refusal : List ℕ → List ℕ
 refusal code = codes "{\"code\":\"" ++ code ++ codes "\"}"
+
+-- the reply to the question whether the program is ready
+abbrev pub ready_reply : List ℕ
+ready_reply = reply 200 (codes "ready")

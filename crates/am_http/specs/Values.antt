@@ -3,13 +3,13 @@ use Rattle.std.specs.Prelude.{ℕ, List, [], ◌∷◌, length, Option, Some, No
 use Rattle.std.specs.Str.Parse.{digits_value}
 use Rattle.httparse.specs.declared.spans.Span.{Span}
 use Rattle.httparse.specs.Spans.{span_bytes, IsWithin}
-use Rattle.am_http.specs.declared.fault.FrontFault.{FrontFault}
+use Rattle.am_http.specs.declared.refusal.FrontRefusal.{FrontRefusal}
 use Rattle.am_http.specs.Fields.{is_digits}
 
 -- the value, if it is one, seen by a function
-abbrev pub seen : {A B : Type 0} → (A → B) → Result A FrontFault → Result B FrontFault
+abbrev pub seen : {A B : Type 0} → (A → B) → Result A FrontRefusal → Result B FrontRefusal
 seen f (Ok x) = Ok (f x)
-seen f (Err fault) = Err fault
+seen f (Err refusal) = Err refusal
 
 -- digits without the zeros in front
 abbrev pub without_zeros : List ℕ → List ℕ

@@ -1,15 +1,16 @@
 //! One connection that is being read.
-ghost use Rattle.std.specs.Prelude.{◌≡◌, ◌+◌, ◌≤◌, ℕ, List, [], ◌++◌, length, take, drop, IfOk};
-ghost use Rattle.am_http.specs.Grown.{GrownIs};
+ghost use Rattle.std.specs.Prelude.{◌≡◌, ◌≤◌, [], ◌++◌, length, take, IfOk};
+ghost use Rattle.am_http.specs.Plans.{asked_at, IsActionAt};
 ghost use Rattle.am_http.specs.Scan.{start, scanned};
+ghost use Rattle.am_http.specs.Stages.{HasHead, Stands};
+ghost use Rattle.am_http.specs.Verdict.{asked_with, verdict};
+ghost use Rattle.am_http.specs.declared.request.Fed.TheVariants.{Waits};
 ghost use Rattle.am_http.specs.declared.scan.Scan.TheVariants.{Ended};
-ghost use Rattle.am_http.specs.Plans.{wanted_at};
-ghost use Rattle.am_http.specs.Stages.{HasHead, Stands, StepIs};
-ghost use Rattle.am_http.specs.Verdict.{request_of};
 
-use crate::fault::FrontFault;
-use crate::head::{Plan, read_plan, split_target, text_at};
-use crate::request::Request;
+use crate::head::{Action, BODY_LIMIT, Plan, read_plan, split_target, text_at};
+use crate::paths::Paths;
+use crate::refusal::FrontRefusal;
+use crate::request::{Fed, Request};
 use crate::scan::{Place, Scan, find_end};
 use am_text::{Octets, Text};
 use std::alloc::{AllocError, Global};
@@ -18,27 +19,21 @@ use std::marker::Model;
 /// The greatest length of a head in bytes.
 const HEAD_LIMIT: usize = 16_384;
 
-// What is known of the bytes that came, which aren't decided.
+// How many bytes decide every connection: a head and a body of the greatest lengths.
+const LIMIT: usize = HEAD_LIMIT + BODY_LIMIT as usize;
+
+// What is known of the bytes that came.
 #[derive(Clone, Copy)]
 enum Stage {
     // The head hasn't ended.
     Head(Place),
-    // The head has this many bytes, and its body isn't whole.
+    // The head has this many bytes, and passes every check.
     Body(Plan, usize),
-}
-
-// What the bytes come to.
-#[derive(Clone, Copy)]
-enum Step {
-    // More bytes are needed.
-    Waits(Stage),
     // The request is refused.
-    Refused(FrontFault),
-    // The head has this many bytes, and its body is whole.
-    Whole(Plan, usize),
+    Refused(FrontRefusal),
 }
 
-/// A connection whose bytes aren't decided yet. A contract sees it as those bytes.
+/// A connection and its bytes, of which it keeps no more than decide it. A contract sees it as those bytes.
 #[derive(Drop)]
 pub(crate) struct Connection {
     text: Vec<u8>,
@@ -57,76 +52,67 @@ impl Model for Connection {
     ghost invariant = { λ c. Stands c.stage c.text.items };
 }
 
-/// What a connection comes to with more bytes.
-#[derive(Drop)]
-pub(crate) enum Grown {
-    /// The connection waits for more.
-    Waiting(Connection),
-    /// The request is refused.
-    Refused(FrontFault),
-    /// A whole request.
-    Whole(Request),
-}
-
-// What the bytes come to where the head has n bytes and passes every check.
-fn settle(plan: Plan, n: usize, text: &[u8]) -> Step
-    requires { HasHead text.now plan n }
-    ensures { StepIs result text.now }
-{
-    if text.len() - n < plan.body_len as usize {
-        Step::Waits(Stage::Body(plan, n))
-    } else {
-        Step::Whole(plan, n)
-    }
-}
-
-// What the bytes come to where the head has n bytes.
-fn at_end(alloc: Global, n: usize, text: &[u8]) -> Result<Step, AllocError>
+// The stage where the head has n bytes.
+fn at_end(paths: &Paths, n: usize, text: &[u8]) -> Stage
     requires ended { scanned 0 start text.now ≡ Ended n }
     requires within { n ≤ length text.now }
-    ensures { IfOk result (λ step. StepIs step text.now) }
+    ensures { Stands result text.now }
 {
     if n > HEAD_LIMIT {
-        return Ok(Step::Refused(FrontFault::BadHead));
+        return Stage::Refused(FrontRefusal::LongHead);
     }
-    match read_plan(alloc, &text[..n])? {
-        Ok(plan) => Ok(settle(plan, n, text)),
-        Err(fault) => Ok(Step::Refused(fault)),
+    match read_plan(paths, &text[..n]) {
+        Ok(plan) => Stage::Body(plan, n),
+        Err(refusal) => Stage::Refused(refusal),
     }
 }
 
-// What the bytes come to, of which the first `before` had come to this stage.
-fn advance(alloc: Global, stage: Stage, text: &[u8], before: usize) -> Result<Step, AllocError>
+// The stage of bytes, of which the first `before` had come to this stage.
+fn advance(paths: &Paths, stage: Stage, text: &[u8], before: usize) -> Stage
     requires stands { Stands stage (take before text.now) }
     requires within { before ≤ length text.now }
-    ensures { IfOk result (λ step. StepIs step text.now) }
+    ensures { Stands result text.now }
 {
     match stage {
         Stage::Head(place) => match find_end(place, text, before) {
-            Scan::Ended(n) => at_end(alloc, n, text),
-            Scan::Open(_) if text.len() > HEAD_LIMIT => Ok(Step::Refused(FrontFault::BadHead)),
-            Scan::Open(place) => Ok(Step::Waits(Stage::Head(place))),
+            Scan::Ended(n) => at_end(paths, n, text),
+            Scan::Open(_) if text.len() > HEAD_LIMIT => Stage::Refused(FrontRefusal::LongHead),
+            Scan::Open(place) => Stage::Head(place),
         },
-        Stage::Body(plan, n) => Ok(settle(plan, n, text)),
+        Stage::Body(plan, n) => Stage::Body(plan, n),
+        Stage::Refused(refusal) => Stage::Refused(refusal),
     }
 }
 
-// The request that a whole head and its body make.
-fn request(alloc: Global, text: &[u8], plan: Plan, n: usize) -> Result<Request, AllocError>
-    requires head { HasHead text.now plan n }
-    requires body { n + plan.body_len ≤ length text.now }
-    ensures { IfOk result (λ request.
-        request ≡ request_of (wanted_at (take n text.now) plan) (take plan.body_len (drop n text.now))) }
+// What a head asks for, with its body.
+fn ask(alloc: Global, head: &[u8], action: Action, body: &[u8]) -> Result<Fed, AllocError>
+    requires { IsActionAt head.now action }
+    ensures { IfOk result (λ fed. fed ≡ asked_with (asked_at head.now action) body.now) }
 {
-    let (path, query) = split_target(text_at(&text[..n], plan.target));
-    let rest = &text[n..];
-    Ok(Request {
-        tenant: plan.tenant,
-        method: plan.method,
-        path: Text::read(alloc, path)?,
+    let Action::Call(tenant, method, there, target) = action else {
+        return Ok(Fed::Ready);
+    };
+    let (path, query) = split_target(text_at(head, target));
+    Ok(Fed::Request(Request {
+        tenant,
+        method,
+        endpoint: there.endpoint(alloc, path)?,
         query: Text::read(alloc, query)?,
-        body: Octets::read(alloc, &rest[..plan.body_len as usize])?,
-    })
+        body: Octets::read(alloc, body)?,
+    }))
+}
+
+// What the bytes come to where the head has n bytes and passes every check.
+fn settle(alloc: Global, plan: Plan, n: usize, text: &[u8]) -> Result<Fed, AllocError>
+    requires { HasHead text.now plan n }
+    ensures { IfOk result (λ fed. fed ≡ verdict text.now) }
+{
+    let rest = &text[n..];
+    let body_len = plan.body_len as usize;
+    if rest.len() < body_len {
+        return Ok(Fed::Waits);
+    }
+    ask(alloc, &text[..n], plan.action, &rest[..body_len])
 }
 
 impl Connection {
@@ -140,17 +126,28 @@ impl Connection {
         }
     }
 
-    /// What the connection comes to with these bytes. Fails only where memory is refused.
-    pub fn grow(self, alloc: Global, piece: &[u8]) -> Result<Grown, AllocError>
-        ensures { IfOk result (λ grown. GrownIs grown (self ++ piece.now)) }
+    /// Takes in the next bytes, as far as they are needed, and says what all bytes come to. Fails only where
+    /// memory is refused.
+    pub fn feed(&mut self, alloc: Global, paths: &Paths, piece: &[u8]) -> Result<Fed, AllocError>
+        ensures fed { IfOk result (λ fed. fed ≡ verdict (self.old ++ piece.now)) }
+        ensures text { IfOk result (λ fed. fed ≡ Waits → self.new ≡ self.old ++ piece.now) }
     {
-        let Connection { mut text, stage } = self;
-        let before = text.len();
-        text.extend_from_slice(piece)?;
-        match advance(alloc, stage, &text, before)? {
-            Step::Waits(stage) => Ok(Grown::Waiting(Connection { text, stage })),
-            Step::Refused(fault) => Ok(Grown::Refused(fault)),
-            Step::Whole(plan, n) => Ok(Grown::Whole(request(alloc, &text, plan, n)?)),
+        let before = self.text.len();
+        let room = LIMIT.saturating_sub(before);
+        let needed = &piece[..piece.len().min(room)];
+        self.text.extend_from_slice(needed)?;
+        self.stage = advance(paths, self.stage, &self.text, before);
+        self.said(alloc)
+    }
+
+    // What the bytes come to.
+    fn said(&self, alloc: Global) -> Result<Fed, AllocError>
+        ensures { IfOk result (λ fed. fed ≡ verdict self.now) }
+    {
+        match self.stage {
+            Stage::Head(_) => Ok(Fed::Waits),
+            Stage::Body(plan, n) => settle(alloc, plan, n, &self.text),
+            Stage::Refused(refusal) => Ok(Fed::Refused(refusal)),
         }
     }
 }

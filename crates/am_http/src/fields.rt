@@ -5,13 +5,13 @@ ghost use Rattle.std.specs.List.{list_all};
 ghost use Rattle.std.specs.Str.{str_eq_ignore_ascii_case};
 ghost use Rattle.std.specs.Str.Parse.{digits_value};
 ghost use Rattle.httparse.specs.Spans.{IsWithin, IsHeaderWithin, header_bytes, span_bytes};
-ghost use Rattle.am_tenant.specs.Names.{name_fault};
-ghost use Rattle.am_http.specs.Fields.{has_field as holds_field, is_digits, number, content_length as stated_length, named, tenant_fault, tenant_of};
+ghost use Rattle.am_tenant.specs.Names.{name_refusal};
+ghost use Rattle.am_http.specs.Fields.{has_field as holds_field, is_digits, number, content_length as stated_length, named, tenant_refusal, tenant_of};
 ghost use Rattle.am_http.specs.Values.{without_zeros, number_at, seen, IsNumberAt};
 ghost use Rattle.am_http.specs.Stating.{stated_view, and_stated, IsStatedAt};
 
-use crate::fault::FrontFault;
-use am_tenant::{NameFault, TenantName};
+use crate::refusal::FrontRefusal;
+use am_tenant::{NameRefusal, TenantName};
 use httparse::spans::{HeaderSpan, Span};
 
 // Whether a field has this name, in any case.
@@ -35,30 +35,30 @@ pub(crate) fn has_field(head: &[u8], fields: &[HeaderSpan], name: &[u8]) -> bool
     false
 }
 
-// The front's fault for a fault of a tenant's name.
-fn fault_of(fault: NameFault) -> FrontFault
-    ensures { result ≡ tenant_fault fault }
+// The front's refusal for a tenant's name that is refused.
+fn refusal_of(refusal: NameRefusal) -> FrontRefusal
+    ensures { result ≡ tenant_refusal refusal }
 {
-    match fault {
-        NameFault::Empty => FrontFault::EmptyTenant,
-        NameFault::TooLong => FrontFault::TenantTooLong,
-        NameFault::BadByte => FrontFault::BadTenant,
-        NameFault::Reserved => FrontFault::ReservedTenant,
+    match refusal {
+        NameRefusal::Empty => FrontRefusal::EmptyTenant,
+        NameRefusal::TooLong => FrontRefusal::TenantTooLong,
+        NameRefusal::BadByte => FrontRefusal::BadTenant,
+        NameRefusal::Reserved => FrontRefusal::ReservedTenant,
     }
 }
 
 // The tenant of this name.
-fn tenant_named(name: &[u8]) -> Result<TenantName, FrontFault>
-    ensures { result ≡ named name.now (name_fault name.now) }
+fn tenant_named(name: &[u8]) -> Result<TenantName, FrontRefusal>
+    ensures { result ≡ named name.now (name_refusal name.now) }
 {
     match TenantName::read(name) {
         Ok(tenant) => Ok(tenant),
-        Err(fault) => Err(fault_of(fault)),
+        Err(refusal) => Err(refusal_of(refusal)),
     }
 }
 
 /// The tenant that a head names.
-pub(crate) fn tenant(head: &[u8], fields: &[HeaderSpan]) -> Result<TenantName, FrontFault>
+pub(crate) fn tenant(head: &[u8], fields: &[HeaderSpan]) -> Result<TenantName, FrontRefusal>
     requires { All (IsHeaderWithin (length head.now)) fields.now }
     ensures { result ≡ tenant_of (map (header_bytes head.now) fields.now) }
 {
@@ -66,14 +66,14 @@ pub(crate) fn tenant(head: &[u8], fields: &[HeaderSpan]) -> Result<TenantName, F
     for field in fields {
         if is_named(head, field, b"X-Scope-OrgID") {
             if found.is_some() {
-                return Err(FrontFault::BadTenant);
+                return Err(FrontRefusal::TenantTwice);
             }
             found = Some(field.value);
         }
     }
     match found {
         Some(value) => tenant_named(value.of(head)),
-        None => Err(FrontFault::NoTenant),
+        None => Err(FrontRefusal::NoTenant),
     }
 }
 
@@ -162,7 +162,10 @@ fn and_number(head: &[u8], before: Stated, value: Span) -> Stated
 }
 
 /// The number that Content-Length states, if there is one.
-pub(crate) fn content_length(head: &[u8], fields: &[HeaderSpan]) -> Result<Option<Span>, FrontFault>
+pub(crate) fn content_length(
+    head: &[u8],
+    fields: &[HeaderSpan],
+) -> Result<Option<Span>, FrontRefusal>
     requires { All (IsHeaderWithin (length head.now)) fields.now }
     ensures stated { seen (option_map (number_at head.now)) result ≡
         stated_length (map (header_bytes head.now) fields.now) }
@@ -177,7 +180,7 @@ pub(crate) fn content_length(head: &[u8], fields: &[HeaderSpan]) -> Result<Optio
     match stated {
         Stated::Nothing => Ok(None),
         Stated::Number(digits) => Ok(Some(digits)),
-        Stated::Bad => Err(FrontFault::BadHead),
+        Stated::Bad => Err(FrontRefusal::BadLength),
     }
 }
 

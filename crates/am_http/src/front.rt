@@ -1,9 +1,10 @@
 //! All connections that are being read.
-ghost use Rattle.std.specs.Prelude.{◌≡◌, ℕ, List, [], ◌++◌, Some, OnOk, IfOk, IsSome, is_some, if◌then◌else◌, ◌==◌};
+ghost use Rattle.std.specs.Prelude.{◌≡◌, ℕ, List, [], ◌++◌, None, Some, OnOk, IfOk, IsSome, is_some, if◌then◌else◌, ◌==◌};
 ghost use Rattle.am_http.specs.Connections.{bytes_of, left_open};
 ghost use Rattle.am_http.specs.Verdict.{verdict};
 
-use crate::connection::{Connection, Grown};
+use crate::connection::Connection;
+use crate::paths::Paths;
 use crate::request::{ConnectionId, Fed};
 use std::alloc::{AllocError, Global};
 use std::collections::BTreeMap;
@@ -13,6 +14,7 @@ use std::marker::Model;
 /// connections' numbers with the bytes that came.
 #[derive(Drop)]
 pub struct Front {
+    paths: Paths,
     connections: BTreeMap<ConnectionId, Connection>,
 }
 
@@ -25,15 +27,17 @@ impl Model for Front {
 }
 
 impl Front {
-    /// A front without connections. It takes no memory.
+    /// A front without connections. Fails only where memory is refused, for the table of paths.
     #[tactic(auto, unfolding(crate::specs::Connections::bytes_of))]
-    pub fn new(alloc: Global) -> Front
-        ensures none { result ≡ [] }
-        ensures unread { (c : ℕ) → bytes_of c result ≡ None }
+    pub fn new(alloc: Global) -> Result<Front, AllocError>
+        ensures none { IfOk result (λ front. front ≡ []) }
+        ensures unread { IfOk result (λ front. (c : ℕ) → bytes_of c front ≡ None) }
     {
-        Front {
+        let paths = Paths::new(alloc)?;
+        Ok(Front {
+            paths,
             connections: BTreeMap::new(alloc),
-        }
+        })
     }
 
     /// Begins a connection, or begins one anew; no bytes of it have come. Fails only where memory is
@@ -44,6 +48,22 @@ impl Front {
     {
         self.connections.insert(connection, Connection::new(alloc))?;
         Ok(())
+    }
+
+    /// Closes a connection whose client left: its bytes are dropped. It may be one that isn't read.
+    pub fn close(&mut self, connection: ConnectionId)
+        ensures { (c : ℕ) → bytes_of c self.new ≡ (if c == connection then None else bytes_of c self.old) }
+    {
+        self.connections.remove(&connection);
+    }
+
+    /// Closes all connections, and takes no memory.
+    #[tactic(auto, unfolding(crate::specs::Connections::bytes_of))]
+    pub fn close_all(&mut self)
+        ensures none { self.new ≡ [] }
+        ensures unread { (c : ℕ) → bytes_of c self.new ≡ None }
+    {
+        self.connections.clear();
     }
 
     /// Whether a connection is being read: it was begun, and its bytes aren't decided.
@@ -69,16 +89,15 @@ impl Front {
             bytes_of c self.new ≡
             (if c == connection then left_open fed (before ++ piece.now) else bytes_of c self.old)) }
     {
-        let Some(reading) = self.connections.remove(&connection) else {
+        let Some(reading) = self.connections.get_mut(&connection) else {
             unreachable!()
         };
-        match reading.grow(alloc, piece)? {
-            Grown::Waiting(waiting) => {
-                self.connections.insert(connection, waiting)?;
-                Ok(Fed::Waits)
+        match reading.feed(alloc, &self.paths, piece)? {
+            Fed::Waits => Ok(Fed::Waits),
+            decided => {
+                self.close(connection);
+                Ok(decided)
             }
-            Grown::Refused(fault) => Ok(Fed::Refused(fault)),
-            Grown::Whole(request) => Ok(Fed::Request(request)),
         }
     }
 }

@@ -1,23 +1,21 @@
 //! What a whole head asks for.
-ghost use Rattle.std.specs.Prelude.{◌≡◌, ◌≤◌, All, IsUtf8, length, map, None, IfOk, IfSome, IfNone, option_map};
+ghost use Rattle.std.specs.Prelude.{◌≡◌, ◌≤◌, All, IsUtf8, length, map, None, IfOk, IfSome, IfNone};
 ghost use Rattle.httparse.specs.Grammar.{RequestHead};
 ghost use Rattle.httparse.specs.Spans.{IsWithin, IsHeaderWithin, header_bytes, span_bytes};
-ghost use Rattle.am_http.specs.Checks.{path_in, query_in, method_in, lacks_length as lacks_stated_length, longest_body};
-ghost use Rattle.am_http.specs.Checks.{body_stated, served, checked, judged};
-ghost use Rattle.am_http.specs.Paths.{HasPaths};
-ghost use Rattle.am_http.specs.Plans.{wanted_at, IsPlanAt, IsHeadAt};
+ghost use Rattle.am_http.specs.Checks.{path_in, query_in, method_of, brought, taken, longest_body};
+ghost use Rattle.am_http.specs.Checks.{asked, asks_ready, body_stated, called, checked, judged};
+ghost use Rattle.am_http.specs.Paths.{path_at};
+ghost use Rattle.am_http.specs.Plans.{asked_at, wanted_at, IsActionAt, IsPlanAt, IsHeadAt};
 ghost use Rattle.am_http.specs.Reading.{most_fields, read_head};
 ghost use Rattle.am_http.specs.Values.{seen, number_at, IsNumberAt};
 
-use crate::fault::FrontFault;
 use crate::fields::{body_len, content_length, has_field, tenant};
-use crate::paths::{is_path, paths};
+use crate::paths::{Path, Paths, READY};
+use crate::refusal::FrontRefusal;
 use crate::request::Method;
 use am_tenant::TenantName;
 use httparse::Status;
 use httparse::spans::{EMPTY_HEADER_SPAN, HeaderSpan, RequestSpans, Span, parse_request};
-use matchit::Router;
-use std::alloc::{AllocError, Global};
 use std::str;
 
 /// The greatest length of a body in bytes.
@@ -28,10 +26,17 @@ const FIELD_LIMIT: usize = 64;
 
 /// What a head that passes every check asks for. It borrows nothing of the head.
 #[derive(Clone, Copy)]
+pub(crate) enum Action {
+    /// Whether the program is ready.
+    Ready,
+    /// Something of a tenant: what stands at the target's path, by a method that it takes.
+    Call(TenantName, Method, Path, Span),
+}
+
+/// What a head that passes every check asks for, and the length in bytes of the body that follows it.
+#[derive(Clone, Copy)]
 pub(crate) struct Plan {
-    pub tenant: TenantName,
-    pub method: Method,
-    pub target: Span,
+    pub action: Action,
     pub body_len: u32,
 }
 
@@ -58,71 +63,127 @@ pub(crate) fn split_target(target: &str) -> (&str, &str)
     }
 }
 
-// The method of this name, if it is one that is served.
+// The method of this name, if some path takes it.
 fn method_named(name: &[u8]) -> Option<Method>
-    ensures { result ≡ method_in name.now }
+    ensures { result ≡ method_of name.now }
 {
     if name == b"GET".as_slice() {
         Some(Method::Get)
     } else if name == b"POST".as_slice() {
         Some(Method::Post)
+    } else if name == b"DELETE".as_slice() {
+        Some(Method::Delete)
     } else {
         None
     }
 }
 
-// Whether a request says too little of its body's length: a POST states it, and no body is sent in a
-// transfer coding.
-fn lacks_length(method: &[u8], head: &[u8], fields: &[HeaderSpan], stated: Option<Span>) -> bool
-    requires { All (IsHeaderWithin (length head.now)) fields.now }
-    ensures { result ≡
-        lacks_stated_length method.now (map (header_bytes head.now) fields.now)
-        (option_map (number_at head.now) stated) }
-{
-    (method == b"POST".as_slice() && stated.is_none())
-        || has_field(head, fields, b"Transfer-Encoding")
-}
-
 // The length of the body that follows a head, in bytes.
 #[tactic(auto, unfolding(crate::specs::Checks::body_stated))]
-fn stated_body(method: &[u8], head: &[u8], fields: &[HeaderSpan]) -> Result<u32, FrontFault>
+fn stated_body(method: &[u8], head: &[u8], fields: &[HeaderSpan]) -> Result<u32, FrontRefusal>
     requires { All (IsHeaderWithin (length head.now)) fields.now }
     ensures length { result ≡ body_stated method.now (map (header_bytes head.now) fields.now) }
     ensures short { IfOk result (λ length. length ≤ longest_body) }
 {
     let stated = content_length(head, fields)?;
-    if lacks_length(method, head, fields, stated) {
-        return Err(FrontFault::BadHead);
+    if method == b"POST".as_slice() && stated.is_none() {
+        return Err(FrontRefusal::MissingLength);
+    }
+    if has_field(head, fields, b"Transfer-Encoding") {
+        return Err(FrontRefusal::TransferCoding);
     }
     let length = body_len(head, stated, BODY_LIMIT + 1);
     if length > BODY_LIMIT {
-        return Err(FrontFault::BadHead);
+        return Err(FrontRefusal::LongBody);
     }
     Ok(length)
 }
 
-// The method of a request with this target.
-#[tactic(auto, unfolding(crate::specs::Checks::served))]
-fn served_method(paths: &Router<()>, method: &[u8], target: &str) -> Result<Method, FrontFault>
-    requires { HasPaths paths.now }
-    ensures { result ≡ served method.now target.now }
+// What stands at a path, where its requests are answered.
+fn find(paths: &Paths, path: &str) -> Option<Path>
+    ensures { result ≡ brought (path_at path.now) }
+{
+    match paths.find(path) {
+        Some(there) if there.is_brought() => Some(there),
+        _ => None,
+    }
+}
+
+// The method, where the path takes it.
+fn take(path: Path, method: Option<Method>) -> Option<Method>
+    ensures { result ≡ taken path method }
+{
+    match method {
+        Some(method) if path.takes(method) => Some(method),
+        _ => None,
+    }
+}
+
+// What a tenant's request with this method and this target asks for.
+#[tactic(auto, unfolding(crate::specs::Checks::called))]
+fn call(
+    paths: &Paths,
+    tenant: TenantName,
+    method: &[u8],
+    head: &[u8],
+    target: Span,
+) -> Result<Action, FrontRefusal>
+    requires target { IsWithin (length head.now) target }
+    requires text { IsUtf8 (span_bytes head.now target) }
+    ensures asked { seen (asked_at head.now) result ≡
+        called tenant method.now (path_in (span_bytes head.now target)) (query_in (span_bytes head.now target)) }
+    ensures action { IfOk result (IsActionAt head.now) }
+{
+    let (path, _) = split_target(text_at(head, target));
+    if path == READY {
+        return Err(FrontRefusal::WrongMethod);
+    }
+    let there = find(paths, path).ok_or(FrontRefusal::NoSuchPath)?;
+    let method = take(there, method_named(method)).ok_or(FrontRefusal::WrongMethod)?;
+    Ok(Action::Call(tenant, method, there, target))
+}
+
+// Whether a request asks if the program is ready.
+fn is_ready_asked(method: &[u8], target: &str) -> bool
+    ensures { result ≡ asks_ready method.now (path_in target.now) }
 {
     let (path, _) = split_target(target);
-    if !is_path(paths, path) {
-        return Err(FrontFault::NoSuchPath);
+    path == READY && method == b"GET".as_slice()
+}
+
+// What a head asks for whose parts these spans cover.
+#[tactic(auto, unfolding(crate::specs::Checks::asked))]
+fn action_of(
+    paths: &Paths,
+    head: &[u8],
+    spans: RequestSpans,
+    fields: &[HeaderSpan],
+) -> Result<Action, FrontRefusal>
+    requires method { IsWithin (length head.now) spans.method }
+    requires target { IsWithin (length head.now) spans.path }
+    requires text { IsUtf8 (span_bytes head.now spans.path) }
+    requires fields { All (IsHeaderWithin (length head.now)) fields.now }
+    ensures asked { seen (asked_at head.now) result ≡
+        asked (span_bytes head.now spans.method) (span_bytes head.now spans.path)
+        (map (header_bytes head.now) fields.now) }
+    ensures action { IfOk result (IsActionAt head.now) }
+{
+    let method = spans.method.of(head);
+    if is_ready_asked(method, text_at(head, spans.path)) {
+        return Ok(Action::Ready);
     }
-    method_named(method).ok_or(FrontFault::BadHead)
+    let tenant = tenant(head, fields)?;
+    call(paths, tenant, method, head, spans.path)
 }
 
 // The checks of a head whose parts these spans cover, in their order.
 #[tactic(auto, unfolding(crate::specs::Checks::checked))]
 fn check(
-    paths: &Router<()>,
+    paths: &Paths,
     head: &[u8],
     spans: RequestSpans,
     fields: &[HeaderSpan],
-) -> Result<Plan, FrontFault>
-    requires paths { HasPaths paths.now }
+) -> Result<Plan, FrontRefusal>
     requires method { IsWithin (length head.now) spans.method }
     requires target { IsWithin (length head.now) spans.path }
     requires text { IsUtf8 (span_bytes head.now spans.path) }
@@ -132,16 +193,9 @@ fn check(
         (map (header_bytes head.now) fields.now) }
     ensures plan { IfOk result (IsPlanAt head.now) }
 {
-    let method = spans.method.of(head);
-    let body_len = stated_body(method, head, fields)?;
-    let tenant = tenant(head, fields)?;
-    let method = served_method(paths, method, text_at(head, spans.path))?;
-    Ok(Plan {
-        tenant,
-        method,
-        target: spans.path,
-        body_len,
-    })
+    let body_len = stated_body(spans.method.of(head), head, fields)?;
+    let action = action_of(paths, head, spans, fields)?;
+    Ok(Plan { action, body_len })
 }
 
 // The parts of the head that the text is, as a whole.
@@ -163,15 +217,14 @@ fn parse_head(text: &[u8], headers: &mut [HeaderSpan]) -> Option<RequestSpans>
     }
 }
 
-/// What a text asks for, if it is a head that passes every check. Fails only where memory is refused.
-pub(crate) fn read_plan(alloc: Global, head: &[u8]) -> Result<Result<Plan, FrontFault>, AllocError>
-    ensures wanted { IfOk result (λ plan. seen (wanted_at head.now) plan ≡ judged (read_head head.now)) }
-    ensures plan { IfOk result (λ plan. IfOk plan (IsPlanAt head.now)) }
+/// What a text asks for, if it is a head that passes every check.
+pub(crate) fn read_plan(paths: &Paths, head: &[u8]) -> Result<Plan, FrontRefusal>
+    ensures wanted { seen (wanted_at head.now) result ≡ judged (read_head head.now) }
+    ensures plan { IfOk result (IsPlanAt head.now) }
 {
     let mut headers = [EMPTY_HEADER_SPAN; FIELD_LIMIT];
     let Some(spans) = parse_head(head, &mut headers) else {
-        return Ok(Err(FrontFault::BadHead));
+        return Err(FrontRefusal::BadHead);
     };
-    let paths = paths(alloc)?;
-    Ok(check(&paths, head, spans, &headers[..spans.headers]))
+    check(paths, head, spans, &headers[..spans.headers])
 }

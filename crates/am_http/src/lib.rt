@@ -6,19 +6,19 @@
 #![tactic(auto)]
 
 mod connection;
-mod fault;
 mod fields;
 mod front;
 mod head;
 pub mod laws;
 mod paths;
+mod refusal;
 mod reply;
 mod request;
 mod scan;
 #[cfg(test)]
 mod tests;
 
-pub use fault::FrontFault;
 pub use front::Front;
-pub use reply::{refusal_body, reply_bytes};
-pub use request::{ConnectionId, Fed, Method, Request};
+pub use refusal::FrontRefusal;
+pub use reply::{ready_reply, refusal_body, reply_bytes};
+pub use request::{ConnectionId, Endpoint, Fed, Method, Request};

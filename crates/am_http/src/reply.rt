@@ -1,6 +1,6 @@
 //! Replies as bytes.
 ghost use Rattle.std.specs.Prelude.{◌≡◌, IfOk, string_bytes};
-ghost use Rattle.am_http.specs.Replies.{phrase_of, status_line_of, fields_of, reply, refusal};
+ghost use Rattle.am_http.specs.Replies.{phrase_of, status_line_of, fields_of, reply, ready_reply as the_ready_reply, refusal};
 
 use am_text::Octets;
 use http::StatusCode;
@@ -58,4 +58,12 @@ pub fn refusal_body(alloc: Global, code: &str) -> Result<Octets, AllocError>
 {
     let text = format!(in alloc; "{{\"code\":\"{code}\"}}")?;
     Ok(Octets::from_vec(text.into_bytes()))
+}
+
+/// The reply to the question whether the program is ready: 200 with the body `ready`. Fails only where memory is
+/// refused.
+pub fn ready_reply(alloc: Global) -> Result<Octets, AllocError>
+    ensures { IfOk result (λ bytes. bytes ≡ the_ready_reply) }
+{
+    reply_bytes(alloc, 200, b"ready")
 }

@@ -1,7 +1,7 @@
 //! Connections' names, and what a connection asks for.
 ghost use Rattle.std.specs.Prelude.{◌≡◌, ◌<◌, ◌^◌};
 
-use crate::fault::FrontFault;
+use crate::refusal::FrontRefusal;
 use am_tenant::TenantName;
 use am_text::{Octets, Text};
 use std::marker::Model;
@@ -48,6 +48,25 @@ pub enum Method {
     Get,
     /// `POST`, it brings something.
     Post,
+    /// `DELETE`, it takes something away.
+    Delete,
+}
+
+/// What a request speaks of, by its path.
+#[derive(Debug, Drop)]
+pub enum Endpoint {
+    /// `/alertmanager/api/v2/alerts`, by GET and POST: the alerts.
+    Alerts,
+    /// `/alertmanager/api/v2/alerts/groups`, by GET: the alerts in their groups.
+    AlertGroups,
+    /// `/alertmanager/api/v2/silences`, by GET and POST: the silences.
+    Silences,
+    /// `/alertmanager/api/v2/silence/{id}`, by GET and DELETE: the silence with this identifier, undecoded.
+    Silence(Text),
+    /// `/alertmanager/api/v2/receivers`, by GET: the receivers of the configuration.
+    Receivers,
+    /// `/api/v1/alerts`, by GET, POST and DELETE: the configuration.
+    Configuration,
 }
 
 /// A whole request of a tenant.
@@ -55,11 +74,11 @@ pub enum Method {
 pub struct Request {
     /// The tenant that the header `X-Scope-OrgID` names.
     pub tenant: TenantName,
-    /// The method.
+    /// The method, which the endpoint takes.
     pub method: Method,
-    /// The bytes of the target up to its first `?`, undecoded.
-    pub path: Text,
-    /// What follows that `?`, undecoded; empty where there is none.
+    /// What the path names.
+    pub endpoint: Endpoint,
+    /// What follows the first `?` of the target, undecoded; empty where there is none.
     pub query: Text,
     /// The body, at most 1,048,576 bytes.
     pub body: Octets,
@@ -71,7 +90,9 @@ pub enum Fed {
     /// More bytes are needed.
     Waits,
     /// The request is refused.
-    Refused(FrontFault),
-    /// A whole request came.
+    Refused(FrontRefusal),
+    /// `GET /ready` came whole, with or without a tenant: whether the program is ready is asked.
+    Ready,
+    /// A whole request of a tenant came.
     Request(Request),
 }

@@ -1,6 +1,7 @@
 ghost use Rattle.std.specs.Prelude.{◌<◌};
 
 use super::*;
+use crate::paths::{Path, Paths};
 use std::alloc::{AllocError, Global};
 use std::process::Abort;
 use std::test::Fail;
@@ -11,7 +12,8 @@ const ALERTS: &str = "/alertmanager/api/v2/alerts";
 fn name_of(fed: &Fed) -> &'static str {
     match fed {
         Fed::Waits => "waits",
-        Fed::Refused(fault) => fault.code(),
+        Fed::Refused(refusal) => refusal.code(),
+        Fed::Ready => "ready",
         Fed::Request(_) => "request",
     }
 }
@@ -21,7 +23,7 @@ fn fed(alloc: Global, text: &[u8], piece_len: usize) -> Result<Fed, AllocError>
     requires { 0 < piece_len }
 {
     let connection = ConnectionId::new(7);
-    let mut front = Front::new(alloc);
+    let mut front = Front::new(alloc)?;
     front.open(alloc, connection)?;
     let mut said = Fed::Waits;
     for piece in text.chunks(piece_len) {
@@ -46,182 +48,195 @@ fn check(
     Ok(())
 }
 
-// Connections' bytes and what they come to, where `@` stands for the path of alerts.
-const HEADS: &[(&str, &str)] = &[
-    // Line ends and empty lines: RFC 9112 section 2.2.
-    ("GET @ HTTP/1.1\r\nX-Scope-OrgID: a\r\n\r\n", "request"),
-    ("GET @ HTTP/1.0\nX-Scope-OrgID: a\n\n", "request"),
-    ("GET @ HTTP/1.1\nX-Scope-OrgID: a\r\n\n", "request"),
-    (
-        "\r\n\n\r\nGET @ HTTP/1.1\r\nX-Scope-OrgID: a\r\n\r\n",
-        "request",
-    ),
-    ("\r\n\r\n\r\n", "waits"),
-    (" \r\n\r\n", "H1"),
-    ("GET @ HTTP/1.1\r\nX-Scope-OrgID: a\r\n", "waits"),
-    ("GET @ HTTP/1.1\r\nX-Scope-OrgID: a\r\n\r", "waits"),
-    (
-        "GET @ HTTP/1.1\r\nX-Scope-OrgID: a\r\nx: b\rc\r\n\r\n",
-        "H1",
-    ),
-    ("GET @ HTTP/1.1\r\nX-Scope-OrgID: a\r\n\r\r\n\r\n", "H1"),
-    // The request line: RFC 9112 section 3.
-    ("GET @ HTTP/2.0\r\nX-Scope-OrgID: a\r\n\r\n", "H1"),
-    ("GET @ http/1.1\r\nX-Scope-OrgID: a\r\n\r\n", "H1"),
-    ("GET  @ HTTP/1.1\r\nX-Scope-OrgID: a\r\n\r\n", "H1"),
-    ("GET\t@ HTTP/1.1\r\nX-Scope-OrgID: a\r\n\r\n", "H1"),
-    (" GET @ HTTP/1.1\r\nX-Scope-OrgID: a\r\n\r\n", "H1"),
-    ("GET @ HTTP/1.1 \r\nX-Scope-OrgID: a\r\n\r\n", "H1"),
-    ("GET @\r\nX-Scope-OrgID: a\r\n\r\n", "H1"),
-    ("G(T @ HTTP/1.1\r\nX-Scope-OrgID: a\r\n\r\n", "H1"),
-    // Field lines: RFC 9112 section 5, with obs-text (RFC 9110 section 5.5) and folded lines.
-    (
-        "GET @ HTTP/1.1\r\nX-Scope-OrgID: a\r\nx: \u{e9}\r\n\r\n",
-        "request",
-    ),
-    (
-        "GET @ HTTP/1.1\r\nX-Scope-OrgID: a\r\nx:\r\n\r\n",
-        "request",
-    ),
-    (
-        "GET @ HTTP/1.1\r\nX-Scope-OrgID: a\r\nX: b\r\n c\r\n\r\n",
-        "H1",
-    ),
-    (
-        "GET @ HTTP/1.1\r\nX-Scope-OrgID: a\r\nX: b\r\n\tc\r\n\r\n",
-        "H1",
-    ),
-    ("GET @ HTTP/1.1\r\n X-Scope-OrgID: a\r\n\r\n", "H1"),
-    ("GET @ HTTP/1.1\r\nX-Scope-OrgID : a\r\n\r\n", "H1"),
-    ("GET @ HTTP/1.1\r\nX-Scope-OrgID\t: a\r\n\r\n", "H1"),
-    ("GET @ HTTP/1.1\r\nX-Scope-OrgID: a\r\n: b\r\n\r\n", "H1"),
-    ("GET @ HTTP/1.1\r\nX-Scope-OrgID: a\r\nx\r\n\r\n", "H1"),
-    (
-        "GET @ HTTP/1.1\r\nX-Scope-OrgID: a\r\n\u{e9}: b\r\n\r\n",
-        "H1",
-    ),
-    (
-        "GET @ HTTP/1.1\r\nX-Scope-OrgID: a\r\nx: \u{1}\r\n\r\n",
-        "H1",
-    ),
-    (
-        "GET @ HTTP/1.1\r\nX-Scope-OrgID: a\r\nx: \u{7f}\r\n\r\n",
-        "H1",
-    ),
-    // The length of the body: RFC 9112 section 6.
-    ("POST @ HTTP/1.1\r\n\r\n", "H1"),
-    (
-        "POST @ HTTP/1.1\r\nX-Scope-OrgID: a\r\nContent-Length: 2\r\n\r\n[]more",
-        "request",
-    ),
-    (
-        "POST @ HTTP/1.1\r\nX-Scope-OrgID: a\r\nContent-Length: 2\r\n\r\n[",
-        "waits",
-    ),
-    (
-        "POST @ HTTP/1.1\r\nX-Scope-OrgID: a\r\ncontent-length:\t2 \r\n\r\n[]",
-        "request",
-    ),
-    (
-        "POST @ HTTP/1.1\r\nX-Scope-OrgID: a\r\nContent-Length: 0\r\n\r\n",
-        "request",
-    ),
-    (
-        "POST @ HTTP/1.1\r\nX-Scope-OrgID: a\r\nContent-Length: 2\r\nTransfer-Encoding: chunked\r\n\r\n[]",
-        "H1",
-    ),
-    (
-        "GET @ HTTP/1.1\r\nX-Scope-OrgID: a\r\ntransfer-encoding:\r\n\r\n",
-        "H1",
-    ),
-    (
-        "GET @ HTTP/1.1\r\nX-Scope-OrgID: a\r\nContent-Length: 1\r\n\r\n",
-        "waits",
-    ),
-    (
-        "GET @ HTTP/1.1\r\nX-Scope-OrgID: a\r\nContent-Length:\r\n\r\n",
-        "H1",
-    ),
-    (
-        "GET @ HTTP/1.1\r\nX-Scope-OrgID: a\r\nContent-Length: +5\r\n\r\n",
-        "H1",
-    ),
-    (
-        "GET @ HTTP/1.1\r\nX-Scope-OrgID: a\r\nContent-Length: 5, 5\r\n\r\n",
-        "H1",
-    ),
-    (
-        "GET @ HTTP/1.1\r\nX-Scope-OrgID: a\r\nContent-Length: 1\r\ncontent-length: 01\r\n\r\nx",
-        "request",
-    ),
-    (
-        "GET @ HTTP/1.1\r\nX-Scope-OrgID: a\r\nContent-Length: 1\r\nContent-Length: 2\r\n\r\nxy",
-        "H1",
-    ),
-    (
-        "GET @ HTTP/1.1\r\nX-Scope-OrgID: a\r\nContent-Length: 00\r\nContent-Length: 0\r\n\r\n",
-        "request",
-    ),
-    (
-        "GET @ HTTP/1.1\r\nX-Scope-OrgID: a\r\nContent-Length: 1048576\r\n\r\n",
-        "waits",
-    ),
-    (
-        "GET @ HTTP/1.1\r\nX-Scope-OrgID: a\r\nContent-Length: 1048577\r\n\r\n",
-        "H1",
-    ),
-    (
-        "GET @ HTTP/1.1\r\nX-Scope-OrgID: a\r\nContent-Length: 18446744073709551617\r\n\r\n",
-        "H1",
-    ),
-    // The tenant: the header in any case, once, with blanks around its value.
-    ("GET @ HTTP/1.1\r\nx-scope-orgid:\t a \t\r\n\r\n", "request"),
-    ("GET @ HTTP/1.1\r\nX-SCOPE-ORGID:a\r\n\r\n", "request"),
-    ("GET @ HTTP/1.1\r\n\r\n", "N0"),
-    ("GET @ HTTP/1.1\r\nX-Scope-OrgID: \t\r\n\r\n", "N1"),
-    ("GET @ HTTP/1.1\r\nX-Scope-OrgID: a|b\r\n\r\n", "N3"),
-    ("GET @ HTTP/1.1\r\nX-Scope-OrgID: a b\r\n\r\n", "N3"),
-    ("GET @ HTTP/1.1\r\nX-Scope-OrgID: \u{e9}\r\n\r\n", "N3"),
-    (
-        "GET @ HTTP/1.1\r\nX-Scope-OrgID: a\r\nx-scope-orgid: a\r\n\r\n",
-        "N3",
-    ),
-    (
-        "GET @ HTTP/1.1\r\nX-Scope-OrgID:\r\nX-Scope-OrgID:\r\n\r\n",
-        "N3",
-    ),
-    ("GET @ HTTP/1.1\r\nX-Scope-OrgID: ..\r\n\r\n", "N4"),
-    // The path, byte by byte up to the first question mark, and its methods.
-    (
-        "GET @?x=y?z HTTP/1.1\r\nX-Scope-OrgID: a\r\n\r\n",
-        "request",
-    ),
-    ("GET @? HTTP/1.1\r\nX-Scope-OrgID: a\r\n\r\n", "request"),
-    ("GET @/ HTTP/1.1\r\nX-Scope-OrgID: a\r\n\r\n", "H5"),
-    ("GET @# HTTP/1.1\r\nX-Scope-OrgID: a\r\n\r\n", "H5"),
-    ("GET http://h@ HTTP/1.1\r\nX-Scope-OrgID: a\r\n\r\n", "H5"),
-    (
-        "GET /alertmanager/api/v2/alert%73 HTTP/1.1\r\nX-Scope-OrgID: a\r\n\r\n",
-        "H5",
-    ),
-    ("GET * HTTP/1.1\r\nX-Scope-OrgID: a\r\n\r\n", "H5"),
-    ("GET /ready HTTP/1.1\r\nX-Scope-OrgID: a\r\n\r\n", "H5"),
-    ("PUT @ HTTP/1.1\r\nX-Scope-OrgID: a\r\n\r\n", "H1"),
-    ("get @ HTTP/1.1\r\nX-Scope-OrgID: a\r\n\r\n", "H1"),
-    // The order of the checks: length, tenant, path, method.
-    ("POST / HTTP/1.1\r\n\r\n", "H1"),
-    ("GET / HTTP/1.1\r\nContent-Length: one\r\n\r\n", "H1"),
-    ("GET /ready HTTP/1.1\r\n\r\n", "N0"),
-    ("PUT / HTTP/1.1\r\n\r\n", "N0"),
-    ("PUT @ HTTP/1.1\r\n\r\n", "N0"),
-    ("PUT / HTTP/1.1\r\nX-Scope-OrgID: a\r\n\r\n", "H5"),
-];
+// What connections' bytes come to. `¶` stands for CR LF, `↓` for LF, `←` for CR, `@` for the path of alerts.
+const HEADS: &str = "\
+# Line ends, empty lines and bare CR: RFC 9112 section 2.2.
+request GET @ HTTP/1.1¶X-Scope-OrgID: a¶¶
+request GET @ HTTP/1.0↓X-Scope-OrgID: a↓↓
+request GET @ HTTP/1.1↓X-Scope-OrgID: a¶↓
+request ¶↓¶GET @ HTTP/1.1¶X-Scope-OrgID: a¶¶
+waits ¶¶¶
+waits GET @ HTTP/1.1¶X-Scope-OrgID: a¶
+waits GET @ HTTP/1.1¶X-Scope-OrgID: a¶←
+H1  ¶¶
+H1 GET @ HTTP/1.1¶X-Scope-OrgID: a¶x: b←c¶¶
+H1 GET @ HTTP/1.1¶X-Scope-OrgID: a¶←¶¶
+# The request line, and the versions of HTTP: RFC 9112 section 3.
+H1 GET @ HTTP/2.0¶X-Scope-OrgID: a¶¶
+H1 GET @ HTTP/1.2¶X-Scope-OrgID: a¶¶
+H1 GET @ HTTP/0.9¶X-Scope-OrgID: a¶¶
+H1 GET @ http/1.1¶X-Scope-OrgID: a¶¶
+H1 GET  @ HTTP/1.1¶X-Scope-OrgID: a¶¶
+H1 GET\t@ HTTP/1.1¶X-Scope-OrgID: a¶¶
+H1  GET @ HTTP/1.1¶X-Scope-OrgID: a¶¶
+H1 GET @ HTTP/1.1 ¶X-Scope-OrgID: a¶¶
+H1 GET @¶X-Scope-OrgID: a¶¶
+H1 G(T @ HTTP/1.1¶X-Scope-OrgID: a¶¶
+# Field lines, obs-text and folded lines: RFC 9112 section 5, RFC 9110 section 5.5.
+request GET @ HTTP/1.1¶X-Scope-OrgID: a¶x: \u{e9}¶¶
+request GET @ HTTP/1.1¶X-Scope-OrgID: a¶x:¶¶
+H1 GET @ HTTP/1.1¶X-Scope-OrgID: a¶X: b¶ c¶¶
+H1 GET @ HTTP/1.1¶X-Scope-OrgID: a¶X: b¶\tc¶¶
+H1 GET @ HTTP/1.1¶ X-Scope-OrgID: a¶¶
+H1 GET @ HTTP/1.1¶X-Scope-OrgID : a¶¶
+H1 GET @ HTTP/1.1¶X-Scope-OrgID\t: a¶¶
+H1 GET @ HTTP/1.1¶X-Scope-OrgID: a¶: b¶¶
+H1 GET @ HTTP/1.1¶X-Scope-OrgID: a¶x¶¶
+H1 GET @ HTTP/1.1¶X-Scope-OrgID: a¶\u{e9}: b¶¶
+H1 GET @ HTTP/1.1¶X-Scope-OrgID: a¶x: \u{1}¶¶
+H1 GET @ HTTP/1.1¶X-Scope-OrgID: a¶x: \u{7f}¶¶
+# The length of the body, one number or a list of it, and transfer codings: RFC 9112 section 6.
+request POST @ HTTP/1.1¶X-Scope-OrgID: a¶Content-Length: 2¶¶[]more
+waits POST @ HTTP/1.1¶X-Scope-OrgID: a¶Content-Length: 2¶¶[
+request POST @ HTTP/1.1¶X-Scope-OrgID: a¶content-length:\t2 ¶¶[]
+request POST @ HTTP/1.1¶X-Scope-OrgID: a¶Content-Length: 0¶¶
+waits GET @ HTTP/1.1¶X-Scope-OrgID: a¶Content-Length: 1¶¶
+request GET @ HTTP/1.1¶X-Scope-OrgID: a¶Content-Length: 1¶content-length: 01¶¶x
+request GET @ HTTP/1.1¶X-Scope-OrgID: a¶Content-Length: 00¶Content-Length: 0¶¶
+H1 GET @ HTTP/1.1¶X-Scope-OrgID: a¶Content-Length: 1¶Content-Length: 2¶¶xy
+H1 GET @ HTTP/1.1¶X-Scope-OrgID: a¶Content-Length:¶¶
+H1 GET @ HTTP/1.1¶X-Scope-OrgID: a¶Content-Length: +5¶¶
+H1 GET @ HTTP/1.1¶X-Scope-OrgID: a¶Content-Length: 5, 5¶¶
+H2 POST @ HTTP/1.1¶X-Scope-OrgID: a¶¶
+H2 POST @ HTTP/1.1¶X-Scope-OrgID: a¶Content-Length: 2¶Transfer-Encoding: chunked¶¶[]
+H2 GET @ HTTP/1.1¶X-Scope-OrgID: a¶transfer-encoding:¶¶
+waits GET @ HTTP/1.1¶X-Scope-OrgID: a¶Content-Length: 1048576¶¶
+H3 GET @ HTTP/1.1¶X-Scope-OrgID: a¶Content-Length: 1048577¶¶
+H3 GET @ HTTP/1.1¶X-Scope-OrgID: a¶Content-Length: 18446744073709551617¶¶
+# The tenant: the header in any case, once, with blanks around its value.
+request GET @ HTTP/1.1¶x-scope-orgid:\t a \t¶¶
+request GET @ HTTP/1.1¶X-SCOPE-ORGID:a¶¶
+N0 GET @ HTTP/1.1¶¶
+N1 GET @ HTTP/1.1¶X-Scope-OrgID: \t¶¶
+N3 GET @ HTTP/1.1¶X-Scope-OrgID: a|b¶¶
+N3 GET @ HTTP/1.1¶X-Scope-OrgID: a b¶¶
+N3 GET @ HTTP/1.1¶X-Scope-OrgID: \u{e9}¶¶
+N3 GET @ HTTP/1.1¶X-Scope-OrgID: a¶x-scope-orgid: a¶¶
+N3 GET @ HTTP/1.1¶X-Scope-OrgID:¶X-Scope-OrgID:¶¶
+N4 GET @ HTTP/1.1¶X-Scope-OrgID: ..¶¶
+# The path, byte by byte up to the first question mark, and its methods.
+request GET @?x=y?z HTTP/1.1¶X-Scope-OrgID: a¶¶
+request GET @? HTTP/1.1¶X-Scope-OrgID: a¶¶
+H5 GET @/ HTTP/1.1¶X-Scope-OrgID: a¶¶
+H5 GET @# HTTP/1.1¶X-Scope-OrgID: a¶¶
+H5 GET http://h@ HTTP/1.1¶X-Scope-OrgID: a¶¶
+H5 GET /alertmanager/api/v2/alert%73 HTTP/1.1¶X-Scope-OrgID: a¶¶
+H5 GET /alertmanager/api/v2/status HTTP/1.1¶X-Scope-OrgID: a¶¶
+H5 GET * HTTP/1.1¶X-Scope-OrgID: a¶¶
+H6 DELETE @ HTTP/1.1¶X-Scope-OrgID: a¶¶
+H6 PUT @ HTTP/1.1¶X-Scope-OrgID: a¶¶
+H6 get @ HTTP/1.1¶X-Scope-OrgID: a¶¶
+# Whether the program is ready: GET needs no tenant, and waits for its body.
+ready GET /ready HTTP/1.1¶¶
+ready GET /ready?x HTTP/1.1¶X-Scope-OrgID: a|b¶¶
+waits GET /ready HTTP/1.1¶Content-Length: 1¶¶
+ready GET /ready HTTP/1.1¶Content-Length: 1¶¶x
+H2 GET /ready HTTP/1.1¶Transfer-Encoding: chunked¶¶
+H6 POST /ready HTTP/1.1¶X-Scope-OrgID: a¶Content-Length: 0¶¶
+H6 PUT /ready HTTP/1.1¶X-Scope-OrgID: a¶¶
+H5 GET /ready/ HTTP/1.1¶X-Scope-OrgID: a¶¶
+# The order of the checks: the head, its length, its coding, the length's limit, tenant, path, method.
+H1 POST / HTTP/1.1¶Content-Length: one¶Transfer-Encoding: chunked¶¶
+H2 POST / HTTP/1.1¶¶
+H2 POST / HTTP/1.1¶Content-Length: 1048577¶Transfer-Encoding: chunked¶¶
+H3 PUT / HTTP/1.1¶Content-Length: 1048577¶¶
+N0 PUT / HTTP/1.1¶¶
+N0 PUT @ HTTP/1.1¶¶
+N0 PUT /ready HTTP/1.1¶¶
+H5 PUT / HTTP/1.1¶X-Scope-OrgID: a¶¶
+";
+
+// The bytes that a row stands for.
+fn bytes_of(alloc: Global, row: &str) -> Result<String, AllocError> {
+    let text = row.replace(alloc, "@", ALERTS)?;
+    let text = text.replace(alloc, "¶", "\r\n")?;
+    let text = text.replace(alloc, "↓", "\n")?;
+    text.replace(alloc, "←", "\r")
+}
 
 #[test]
 fn heads(rt: HostRuntime) -> Result<(), Fail> {
-    for (head, expected) in HEADS {
-        let text = head.replace(rt.alloc(), "@", ALERTS)?;
-        check(&rt, rt.alloc(), head, text.as_bytes(), expected)?;
+    for line in HEADS.lines() {
+        if let Some((expected, row)) = line.split_once(' ') {
+            if expected != "#" {
+                let text = bytes_of(rt.alloc(), row)?;
+                check(&rt, rt.alloc(), row, text.as_bytes(), expected)?;
+            }
+        }
+    }
+    Ok(())
+}
+
+// What two pieces come to that a text is cut into.
+fn fed_in_two(alloc: Global, text: &[u8], at: usize) -> Result<Fed, AllocError> {
+    let connection = ConnectionId::new(7);
+    let mut front = Front::new(alloc)?;
+    front.open(alloc, connection)?;
+    let (first, second) = text.split_at(at.min(text.len()));
+    let said = front.feed(alloc, connection, first)?;
+    if front.is_reading(connection) {
+        return front.feed(alloc, connection, second);
+    }
+    Ok(said)
+}
+
+// Wherever a request is cut, it comes to the same.
+#[test]
+fn cuts(rt: HostRuntime) -> Result<(), Fail> {
+    for (expected, row) in [
+        (
+            "request",
+            "↓POST @ HTTP/1.1¶X-Scope-OrgID: a¶Content-Length: 2¶¶[]more",
+        ),
+        ("ready", "GET /ready HTTP/1.1↓Content-Length: 3↓↓abc"),
+        ("H1", "GET @ HTTP/1.1¶X: b¶ c¶¶more"),
+        ("H6", "PUT @ HTTP/1.1¶X-Scope-OrgID: a¶¶more"),
+    ] {
+        let text = bytes_of(rt.alloc(), row)?;
+        for at in 0..text.len() {
+            let said = fed_in_two(rt.alloc(), text.as_bytes(), at)?;
+            assert_eq!(rt; name_of(&said), expected, "{row} at {at}");
+        }
+    }
+    Ok(())
+}
+
+// What stands at a path, of the paths of all requests.
+fn found_at(paths: &Paths, path: &str) -> &'static str {
+    match paths.find(path) {
+        Some(Path::Alerts) => "alerts",
+        Some(Path::AlertGroups) => "groups",
+        Some(Path::Silences) => "silences",
+        Some(Path::Silence) => "silence",
+        Some(Path::Receivers) => "receivers",
+        Some(Path::Configuration) => "configuration",
+        None => "nothing",
+    }
+}
+
+#[test]
+fn places(rt: HostRuntime) -> Result<(), Fail> {
+    let paths = Paths::new(rt.alloc())?;
+    for (path, expected) in [
+        ("/alertmanager/api/v2/alerts", "alerts"),
+        ("/alertmanager/api/v2/alerts/groups", "groups"),
+        ("/alertmanager/api/v2/receivers", "receivers"),
+        ("/alertmanager/api/v2/silences", "silences"),
+        ("/alertmanager/api/v2/silence/a%2Fb", "silence"),
+        ("/alertmanager/api/v2/silence/", "nothing"),
+        ("/alertmanager/api/v2/silence/a/", "nothing"),
+        ("/alertmanager/api/v2/silence", "nothing"),
+        ("/alertmanager/api/v2/alerts/", "nothing"),
+        ("/alertmanager/api/v2/silences/a", "nothing"),
+        ("/api/v1/alerts", "configuration"),
+        ("/api/v1", "nothing"),
+        ("", "nothing"),
+    ] {
+        assert_eq!(rt; found_at(&paths, path), expected, "{path}");
+    }
+    match Path::Silence.endpoint(rt.alloc(), "/alertmanager/api/v2/silence/a%2Fb")? {
+        Endpoint::Silence(id) => assert_eq!(rt; id.as_str(), "a%2Fb"),
+        _ => assert!(rt; false, "no silence"),
     }
     Ok(())
 }
@@ -261,9 +276,9 @@ fn counts(rt: HostRuntime) -> Result<(), Fail> {
 fn long_heads(rt: HostRuntime) -> Result<(), Fail> {
     for (len, end, expected) in [
         (16_384, "", "waits"),
-        (16_385, "", "H1"),
+        (16_385, "", "H4"),
         (16_380, "\r\n\r\n", "request"),
-        (16_381, "\r\n\r\n", "H1"),
+        (16_381, "\r\n\r\n", "H4"),
     ] {
         let mut text = head_with(rt.alloc(), 0, "a")?;
         text.push_str("x: ")?;
@@ -289,33 +304,45 @@ fn bytes(rt: HostRuntime) -> Result<(), Fail> {
 // A request has its five parts, and nothing of what follows it.
 #[test]
 fn parts(rt: HostRuntime) -> Result<(), Fail> {
-    let head =
-        "POST @?a=%20?b HTTP/1.1\r\nX-Scope-OrgID: \ta.b \r\nContent-Length: 2\r\n\r\n[]more";
-    let text = head.replace(rt.alloc(), "@", ALERTS)?;
+    let head = "POST @?a=%20?b HTTP/1.1¶X-Scope-OrgID: \ta.b ¶Content-Length: 2¶¶[]more";
+    let text = bytes_of(rt.alloc(), head)?;
     match fed(rt.alloc(), text.as_bytes(), 10)? {
         Fed::Request(request) => {
             assert_eq!(rt; request.tenant.as_str(), "a.b");
             assert_eq!(rt; request.method, Method::Post);
-            assert_eq!(rt; request.path.as_str(), ALERTS);
+            assert!(rt; matches!(&request.endpoint, Endpoint::Alerts));
             assert_eq!(rt; request.query.as_str(), "a=%20?b");
             assert_eq!(rt; request.body.as_slice(), b"[]".as_slice());
         }
-        Fed::Waits => assert!(rt; false, "it waits"),
-        Fed::Refused(fault) => assert!(rt; false, "{fault}"),
+        other => assert!(rt; false, "{}", name_of(&other)),
     }
+    Ok(())
+}
+
+// A connection that is closed isn't read, and the others are.
+#[test]
+fn closed(rt: HostRuntime) -> Result<(), Fail> {
+    let mut front = Front::new(rt.alloc())?;
+    let (one, two) = (ConnectionId::new(1), ConnectionId::new(2));
+    front.open(rt.alloc(), one)?;
+    front.open(rt.alloc(), two)?;
+    front.close(one);
+    assert!(rt; !front.is_reading(one) && front.is_reading(two));
+    front.close_all();
+    assert!(rt; !front.is_reading(two));
     Ok(())
 }
 
 // RFC 9112 section 4.
 #[test]
 fn replies(rt: HostRuntime) -> Result<(), Fail> {
-    let empty = reply_bytes(rt.alloc(), 200, b"")?;
+    let ready = ready_reply(rt.alloc())?;
     assert_eq!(rt;
-        empty.as_slice(),
-        b"HTTP/1.1 200 OK\r\nContent-Type: application/json\r\nContent-Length: 0\r\nConnection: close\r\n\r\n".as_slice()
+        ready.as_slice(),
+        b"HTTP/1.1 200 OK\r\nContent-Type: application/json\r\nContent-Length: 5\r\nConnection: close\r\n\r\nready".as_slice()
     );
-    let body = refusal_body(rt.alloc(), FrontFault::NoTenant.code())?;
-    let refused = reply_bytes(rt.alloc(), FrontFault::NoTenant.status(), body.as_slice())?;
+    let body = refusal_body(rt.alloc(), FrontRefusal::NoTenant.code())?;
+    let refused = reply_bytes(rt.alloc(), FrontRefusal::NoTenant.status(), body.as_slice())?;
     assert_eq!(rt;
         refused.as_slice(),
         b"HTTP/1.1 401 Unauthorized\r\nContent-Type: application/json\r\nContent-Length: 13\r\nConnection: close\r\n\r\n{\"code\":\"N0\"}".as_slice()

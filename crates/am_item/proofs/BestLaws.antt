@@ -6,21 +6,19 @@ use Rattle.std.specs.Option.{is_some}
 use Rattle.std.specs.Ordering.{is_eq}
 use Rattle.std.proofs.lemmas.Bool.{cond-false, cond-true, false≢true, or_parts}
 use Rattle.std.proofs.lemmas.List.Elements.{filter-append}
-use Rattle.am_labels.specs.declared.Label.{Label}
 use Rattle.am_item.specs.declared.item.Item.{Item}
 use Rattle.am_item.specs.Best.{IsRising, best, greatest, item_at, joined, keys_of, merged, of_key}
-use Rattle.am_labels.specs.Labels.{labels_cmp}
-use Rattle.am_item.specs.Item.{exceeds, has_key, key_of}
+use Rattle.am_item.specs.Key.{Key, exceeds, has_key, key_cmp, key_of}
 use Rattle.am_item.proofs.Greatest.{by_cases, greatest-latest, later, latest, latest-append, some_same}
 use Rattle.am_item.proofs.Keys.{any_key, key_same, sorted_keys}
 use Rattle.am_item.proofs.Rising.{AllAbove, at_made, here_at, later_at, rising_made, rising_same}
 
 -- the greatest item of a key
-abbrev pub greatest_at : List Label → List Item → Option Item
+abbrev pub greatest_at : Key → List Item → Option Item
 greatest_at key xs = greatest (of_key key xs)
 
 -- each item of a key has that key
-found_keyed : (key : List Label) (xs : List Item) (p : Item → Bool) (x : Item) → find p (of_key key xs) ≡ Some x → has_key key x ≡ true
+found_keyed : (key : Key) (xs : List Item) (p : Item → Bool) (x : Item) → find p (of_key key xs) ≡ Some x → has_key key x ≡ true
 found_keyed key [] p x h = absurd (false≢true (ap is_some h))
 found_keyed key (y ∷ ys) p x h =
     by_cases (has_key key y)
@@ -32,11 +30,11 @@ found_keyed key (y ∷ ys) p x h =
     (λ e. found_keyed key ys p x (sym (ap (find p) (cond-false _ (y ∷ of_key key ys) (of_key key ys) e)) ∙ h))
 
 -- the greatest item of a key has that key
-pub greatest_keyed : (xs : List Item) (key : List Label) (x : Item) → greatest_at key xs ≡ Some x → key_of x ≡ key
+pub greatest_keyed : (xs : List Item) (key : Key) (x : Item) → greatest_at key xs ≡ Some x → key_of x ≡ key
 greatest_keyed xs key x h = sym (key_same key (key_of x) (found_keyed key xs _ x h))
 
 -- a list without the key has no item of it
-none_of_key : (key : List Label) (xs : List Item) → list_any (λ x. has_key key x) xs ≡ false → of_key key xs ≡ []
+none_of_key : (key : Key) (xs : List Item) → list_any (λ x. has_key key x) xs ≡ false → of_key key xs ≡ []
 none_of_key key [] h = refl
 none_of_key key (x ∷ xs) h =
     let parts = or_parts (has_key key x) (list_any (λ y. has_key key y) xs) h in
@@ -48,20 +46,20 @@ unfolding best
 rising-best xs = rising_made (λ key. greatest_at key xs) (greatest_keyed xs) (keys_of xs) (sorted_keys xs)
 
 -- a best list has, at each key, the greatest item of that key
-pub at-best : (key : List Label) (xs : List Item) → item_at key (best xs) ≡ greatest_at key xs
+pub at-best : (key : Key) (xs : List Item) → item_at key (best xs) ≡ greatest_at key xs
 unfolding best
 at-best key xs =
     at_made (λ q. greatest_at q xs) (greatest_keyed xs) key (keys_of xs)
-    ∙ by_cases (list_any (λ p. is_eq (labels_cmp key p)) (keys_of xs))
+    ∙ by_cases (list_any (λ p. is_eq (key_cmp key p)) (keys_of xs))
     (λ e. cond-true _ (greatest_at key xs) None e)
     (λ e. cond-false _ (greatest_at key xs) None e ∙ sym (ap greatest (none_of_key key xs (sym (any_key key xs) ∙ e))))
 
 -- lists with the same greatest item of each key have the same best
-pub best_same : (xs ys : List Item) → ((key : List Label) → greatest_at key xs ≡ greatest_at key ys) → best xs ≡ best ys
+pub best_same : (xs ys : List Item) → ((key : Key) → greatest_at key xs ≡ greatest_at key ys) → best xs ≡ best ys
 best_same xs ys h = rising_same (best xs) (best ys) (rising-best xs) (rising-best ys) (λ key. at-best key xs ∙ h key ∙ sym (at-best key ys))
 
 -- the greatest of two lists is the later of their greatest
-pub greatest_at-append : (key : List Label) (xs ys : List Item) → greatest_at key (xs ++ ys) ≡ later (greatest_at key xs) (greatest_at key ys)
+pub greatest_at-append : (key : Key) (xs ys : List Item) → greatest_at key (xs ++ ys) ≡ later (greatest_at key xs) (greatest_at key ys)
 greatest_at-append key xs ys =
     ap greatest (filter-append (λ x. has_key key x) xs ys)
     ∙ greatest-latest (of_key key xs ++ of_key key ys)
@@ -71,12 +69,12 @@ greatest_at-append key xs ys =
 -- ---- a list whose keys rise is its own best
 
 -- no item of a key that is below all of them
-none_of_lower : (key : List Label) (xs : List Item) → AllAbove key xs → of_key key xs ≡ []
+none_of_lower : (key : Key) (xs : List Item) → AllAbove key xs → of_key key xs ≡ []
 none_of_lower key [] all = refl
 none_of_lower key (x ∷ xs) all = cond-false _ (x ∷ of_key key xs) (of_key key xs) (ap is_eq all.0) ∙ none_of_lower key xs all.1
 
 -- in a rising list the greatest item of a key is the one with the key
-pub greatest_at-rising : (key : List Label) (xs : List Item) → IsRising xs → greatest_at key xs ≡ item_at key xs
+pub greatest_at-rising : (key : Key) (xs : List Item) → IsRising xs → greatest_at key xs ≡ item_at key xs
 unfolding IsStrictlySortedBy
 greatest_at-rising key [] up = refl
 greatest_at-rising key (x ∷ xs) up =
@@ -89,7 +87,7 @@ greatest_at-rising key (x ∷ xs) up =
     (λ e. ap greatest (cond-false _ (x ∷ of_key key xs) (of_key key xs) e) ∙ greatest_at-rising key xs up.1 ∙ sym (later_at key x xs e))
 
 -- the greatest item of a key of a best list is that of the list
-pub greatest_at-best : (key : List Label) (xs : List Item) → greatest_at key (best xs) ≡ greatest_at key xs
+pub greatest_at-best : (key : Key) (xs : List Item) → greatest_at key (best xs) ≡ greatest_at key xs
 greatest_at-best key xs = greatest_at-rising key (best xs) (rising-best xs) ∙ at-best key xs
 
 -- the best of a rising list is the list

@@ -9,7 +9,8 @@ use Rattle.std.proofs.lemmas.Bool.{and_from, and_parts, cond-false, cond-true, f
 use Rattle.std.proofs.lemmas.Cmp.{tied_itself, upto}
 use Rattle.am_item.specs.declared.item.Item.{Item}
 use Rattle.am_item.specs.Best.{greatest, none_exceeds}
-use Rattle.am_item.specs.Item.{exceeds, stamp_cmp}
+use Rattle.am_item.specs.Key.{exceeds}
+use Rattle.am_item.specs.Stamp.{stamp_cmp}
 use Rattle.am_item.proofs.Order.{stamps_total}
 
 -- a list without elements

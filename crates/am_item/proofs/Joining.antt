@@ -2,16 +2,16 @@
 use Rattle.std.proofs.Common.{◌≡◌, Bool, true, false, cond, List, [], ◌∷◌, ◌++◌, Option, Some, None, refl, sym, ap, ◌∙◌, append_assoc}
 use Rattle.std.specs.Option.{is_some}
 use Rattle.std.proofs.lemmas.Bool.{cond-false, cond-true, false≢true}
+use Rattle.std.proofs.lemmas.List.{append-nil}
 use Rattle.std.proofs.lemmas.List.Elements.{Contains-append_left, Contains-append_right}
-use Rattle.am_labels.specs.declared.Label.{Label}
 use Rattle.am_item.specs.declared.item.Item.{Item}
-use Rattle.am_item.specs.Best.{IsRising, StampsTellApart, best, item_at, joined, merged}
-use Rattle.am_item.specs.Item.{exceeds, has_key, key_of}
-use Rattle.am_item.proofs.BestLaws.{best-append_best_left, best-push, best_same, greatest_at, greatest_at-append, greatest_keyed, later_same}
+use Rattle.am_item.specs.Best.{IsRising, StampsTellApart, all_joined, best, item_at, joined, merged}
+use Rattle.am_item.specs.Key.{Key, exceeds, has_key, key_of}
+use Rattle.am_item.proofs.BestLaws.{best-append_best_left, best-push, best-rising, best_same, greatest_at, greatest_at-append, greatest_keyed, later_same}
 use Rattle.am_item.proofs.Greatest.{by_cases, exceeds_asym, later, later_assoc, some_same}
 use Rattle.am_item.proofs.Keys.{key_same}
 use Rattle.am_item.proofs.Meaning.{greatest_among, stamps_same}
-use Rattle.am_item.proofs.Places.{at-joined, greatest_of_one, rising-joined, with_item}
+use Rattle.am_item.proofs.Joined.{at-joined, greatest_of_one, rising-joined, with_item}
 use Rattle.am_item.proofs.Rising.{rising_same}
 
 -- the later of two is the same in either order, where stamps tell them apart
@@ -40,7 +40,7 @@ merged_comm xs ys tell =
 -- ---- one item
 
 -- the greatest of a list and one item more, by key
-greatest_at-push : (key : List Label) (xs : List Item) (y : Item) → greatest_at key (xs ++ y ∷ []) ≡ later (greatest_at key xs) (cond (has_key key y) (Some y) None)
+greatest_at-push : (key : Key) (xs : List Item) (y : Item) → greatest_at key (xs ++ y ∷ []) ≡ later (greatest_at key xs) (cond (has_key key y) (Some y) None)
 greatest_at-push key xs y = greatest_at-append key xs (y ∷ []) ∙ ap (later (greatest_at key xs)) (greatest_of_one key y)
 
 -- an item that comes again changes nothing
@@ -62,7 +62,7 @@ one_of true x y h = some_same x y h
 one_of false x y h = absurd (false≢true (ap is_some h))
 
 -- an item of which the key is asked has the key
-one_keyed : (key : List Label) (x y : Item) → cond (has_key key x) (Some x) None ≡ Some y → key_of x ≡ key
+one_keyed : (key : Key) (x y : Item) → cond (has_key key x) (Some x) None ≡ Some y → key_of x ≡ key
 one_keyed key x y h = by_cases (has_key key x)
     (λ e. sym (key_same key (key_of x) e))
     (λ e. absurd (false≢true (ap is_some (sym (cond-false _ (Some x) None e) ∙ h))))
@@ -87,7 +87,7 @@ joined_comm xs x y tell =
     ∙ sym (best-append_best_left (xs ++ y ∷ []) (x ∷ []))
 
 -- a look-up stays where the item held is not exceeded
-stays_at : (key : List Label) (o : Option Item) (x y : Item) → (has_key key y ≡ true → o ≡ Some x) → exceeds y x ≡ false → with_item key o y ≡ o
+stays_at : (key : Key) (o : Option Item) (x y : Item) → (has_key key y ≡ true → o ≡ Some x) → exceeds y x ≡ false → with_item key o y ≡ o
 stays_at key o x y at e =
     by_cases (has_key key y)
     (λ h. cond-true _ (later o (Some y)) o h ∙ ap (λ p. later p (Some y)) (at h) ∙ cond-false _ (Some y) (Some x) e ∙ sym (at h))
@@ -104,6 +104,21 @@ joined_stays xs x y up at e =
 -- a list is joined item by item
 pub merged-push : (xs ys : List Item) (y : Item) → merged xs (ys ++ y ∷ []) ≡ joined (merged xs ys) y
 merged-push xs ys y = ap best (sym (append_assoc xs ys (y ∷ []))) ∙ best-push (xs ++ ys) y
+
+-- items that come one after the other come as a list
+pub all_joined-merged : (xs ys : List Item) → IsRising xs → all_joined xs ys ≡ merged xs ys
+all_joined-merged xs [] up = sym (ap best (append-nil xs) ∙ best-rising xs up)
+all_joined-merged xs (y ∷ ys) up = all_joined-merged (joined xs y) ys (rising-joined xs y) ∙ best-append_best_left (xs ++ y ∷ []) ys ∙ ap best (append_assoc xs (y ∷ []) ys)
+
+-- one more item after others
+pub all_joined-push : (xs ys : List Item) (y : Item) → all_joined xs (ys ++ y ∷ []) ≡ joined (all_joined xs ys) y
+all_joined-push xs [] y = refl
+all_joined-push xs (z ∷ zs) y = all_joined-push (joined xs z) zs y
+
+-- one more item, on a test
+pub joined_step : (b : Bool) (was mid now : List Item) (ys : List Item) (y : Item) → mid ≡ cond b (all_joined was ys) was → now ≡ cond b (joined mid y) mid → now ≡ cond b (all_joined was (ys ++ y ∷ [])) was
+joined_step true was mid now ys y h k = k ∙ ap (λ xs. joined xs y) h ∙ sym (all_joined-push was ys y)
+joined_step false was mid now ys y h k = k ∙ h
 
 -- a list that comes again changes nothing
 pub merged_twice : (xs ys : List Item) → merged (merged xs ys) ys ≡ merged xs ys

@@ -3,8 +3,12 @@ pub mod Greatest
 pub mod Keys
 pub mod Rising
 pub mod BestLaws
-pub mod Places
-pub mod Lists
-pub mod Tallies
+pub mod Joined
 pub mod Meaning
 pub mod Joining
+pub mod Adjacent
+pub mod ByName
+pub mod Whole
+pub mod Lists
+pub mod Tallies
+pub mod Reading

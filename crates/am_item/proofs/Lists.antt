@@ -1,6 +1,5 @@
 -- The pairs of a book, tenant by tenant.
-use Rattle.std.proofs.Common.{◌≡◌, ℕ, cond, List, [], ◌∷◌, ◌++◌, Option, Some, None, Ordering, Result, Ok, Err, OnErr, OnOk, Vec, refl, sym, ap, ◌∙◌, subst}
-use Rattle.std.specs.declared.alloc.Global.{Global}
+use Rattle.std.proofs.Common.{◌≡◌, ℕ, cond, List, [], ◌∷◌, ◌++◌, Option, Some, None, Ordering, Result, Ok, Err, OnErr, OnOk, refl, sym, ap, ◌∙◌, subst}
 use Rattle.std.specs.BTreeMap.{BTreeMap, IsOrdered, get, insert_entry, is_at}
 use Rattle.std.specs.Cmp.Lexicographic.{slice_cmp}
 use Rattle.std.specs.List.{AllByRecursion}
@@ -18,12 +17,12 @@ use Rattle.am_item.specs.declared.item.Item.{Item}
 use Rattle.am_item.specs.Best.{IsRising, joined}
 use Rattle.am_item.specs.Book.{AreHeld, items_of, pairs_in, pairs_of, with_tenant}
 use Rattle.am_item.proofs.Greatest.{by_cases}
-use Rattle.am_item.proofs.Places.{rising-joined}
+use Rattle.am_item.proofs.Joined.{rising-joined}
 
 -- the items in what a look-up of a tenant gives
-abbrev pub items_in : Option (Vec Item Global) → List Item
-items_in None = []
-items_in (Some held) = held.items
+abbrev pub found_items : Option (List Item) → List Item
+found_items None = []
+found_items (Some held) = held
 
 -- a tenant's pairs in front of others
 of_one : (t s : List ℕ) (xs : List Item) (rest : List (List ℕ × Item)) → items_of t (with_tenant s xs ++ rest) ≡ cond (same t s) (xs ++ items_of t rest) (items_of t rest)
@@ -42,107 +41,107 @@ of_one t s (x ∷ xs) rest =
     ∙ sym (cond-false _ (x ∷ (xs ++ items_of t rest)) (items_of t rest) e))
 
 -- lists of greater tenants have nothing of this one
-of_greater : (t : List ℕ) (es : List (List ℕ × Vec Item Global)) → AllByRecursion (λ s. slice_cmp nat_cmp t s ≡ Less) (keys_of es) → items_of t (pairs_in es) ≡ []
+of_greater : (t : List ℕ) (es : List (List ℕ × List Item)) → AllByRecursion (λ s. slice_cmp nat_cmp t s ≡ Less) (keys_of es) → items_of t (pairs_in es) ≡ []
 unfolding items_of
 of_greater t [] all = refl
 of_greater t (e ∷ es) all =
-    of_one t e.0 e.1.items (pairs_in es)
-    ∙ cond-false _ (e.1.items ++ items_of t (pairs_in es)) (items_of t (pairs_in es)) (sym (is_eq-name_cmp t e.0) ∙ ap is_eq all.0)
+    of_one t e.0 e.1 (pairs_in es)
+    ∙ cond-false _ (e.1 ++ items_of t (pairs_in es)) (items_of t (pairs_in es)) (sym (is_eq-name_cmp t e.0) ∙ ap is_eq all.0)
     ∙ of_greater t es all.1
 
 -- what pairs have of a tenant is what a look-up of the tenant gives
-items_of-pairs_in : (t : List ℕ) (es : List (List ℕ × Vec Item Global)) → IsStrictlySortedBy (slice_cmp nat_cmp) (keys_of es) → items_of t (pairs_in es) ≡ items_in (lookup (is_at (slice_cmp nat_cmp t)) es)
+items_of-pairs_in : (t : List ℕ) (es : List (List ℕ × List Item)) → IsStrictlySortedBy (slice_cmp nat_cmp) (keys_of es) → items_of t (pairs_in es) ≡ found_items (lookup (is_at (slice_cmp nat_cmp t)) es)
 unfolding items_of IsStrictlySortedBy
 items_of-pairs_in t [] s = refl
 items_of-pairs_in t (e ∷ es) s =
-    of_one t e.0 e.1.items (pairs_in es)
+    of_one t e.0 e.1 (pairs_in es)
     ∙ by_cases (same t e.0)
     (λ h.
     let rest : items_of t (pairs_in es) ≡ [] = of_greater t es (subst (λ q. AllByRecursion (λ p. slice_cmp nat_cmp q p ≡ Less) (keys_of es)) (sym (eq_from_same t e.0 h)) s.0) in
-    cond-true _ (e.1.items ++ items_of t (pairs_in es)) (items_of t (pairs_in es)) h
-    ∙ ap (λ zs. e.1.items ++ zs) rest ∙ append-nil e.1.items
-    ∙ sym (ap items_in (cond-true _ (Some e.1) (lookup (is_at (slice_cmp nat_cmp t)) es) (is_eq-name_cmp t e.0 ∙ h))))
+    cond-true _ (e.1 ++ items_of t (pairs_in es)) (items_of t (pairs_in es)) h
+    ∙ ap (λ zs. e.1 ++ zs) rest ∙ append-nil e.1
+    ∙ sym (ap found_items (cond-true _ (Some e.1) (lookup (is_at (slice_cmp nat_cmp t)) es) (is_eq-name_cmp t e.0 ∙ h))))
     (λ h.
-    cond-false _ (e.1.items ++ items_of t (pairs_in es)) (items_of t (pairs_in es)) h
+    cond-false _ (e.1 ++ items_of t (pairs_in es)) (items_of t (pairs_in es)) h
     ∙ items_of-pairs_in t es s.1
-    ∙ sym (ap items_in (cond-false _ (Some e.1) (lookup (is_at (slice_cmp nat_cmp t)) es) (is_eq-name_cmp t e.0 ∙ h))))
+    ∙ sym (ap found_items (cond-false _ (Some e.1) (lookup (is_at (slice_cmp nat_cmp t)) es) (is_eq-name_cmp t e.0 ∙ h))))
 
 -- the order of tenants
 abbrev tenants : List ℕ → List ℕ → Ordering
 tenants = slice_cmp nat_cmp
 
 -- what a book has of a tenant is what a look-up of the tenant gives
-pub items_of-pairs_of : (t : List ℕ) (m : BTreeMap (List ℕ) (Vec Item Global)) → IsOrdered tenants m → items_of t (pairs_of m) ≡ items_in (get tenants m t)
+pub items_of-pairs_of : (t : List ℕ) (m : BTreeMap (List ℕ) (List Item)) → IsOrdered tenants m → items_of t (pairs_of m) ≡ found_items (get tenants m t)
 unfolding pairs_of
 items_of-pairs_of t m ordered = items_of-pairs_in t m.entries ordered
 
 -- ---- one item more
 
 -- a list that rises, or a new one without items, rises
-found_rises : (o : Option (Vec Item Global)) (fresh : Vec Item Global) → fresh.items ≡ [] → IfSome o (λ held. IsRising held.items) → IsRising (unwrap_or o fresh).items
+found_rises : (o : Option (List Item)) (fresh : List Item) → fresh ≡ [] → IfSome o (λ held. IsRising held) → IsRising (unwrap_or o fresh)
 unfolding IsStrictlySortedBy
 found_rises None fresh none all = rw none tt
 found_rises (Some held) fresh none all = all
 
 -- a tenant's list rises, and a new one too
-pub rising_found : (m : BTreeMap (List ℕ) (Vec Item Global)) (tenant : List ℕ) (fresh : Vec Item Global) → AreHeld m → fresh.items ≡ [] → IsRising (unwrap_or (get tenants m tenant) fresh).items
-rising_found m tenant fresh are none = found_rises (get tenants m tenant) fresh none (IfSome-lookup_from_All (λ held. IsRising held.items) (is_at (tenants tenant)) m.entries are.rising)
+pub rising_found : (m : BTreeMap (List ℕ) (List Item)) (tenant : List ℕ) (fresh : List Item) → AreHeld m → fresh ≡ [] → IsRising (unwrap_or (get tenants m tenant) fresh)
+rising_found m tenant fresh are none = found_rises (get tenants m tenant) fresh none (IfSome-lookup_from_All (λ held. IsRising held) (is_at (tenants tenant)) m.entries are.rising)
 
 -- a list that an item has joined rises, and one that stayed too
 pub rising_after : {T E : Type 0} (r : Result T E) (was now : List Item) (item : Item) → OnOk r (now ≡ joined was item) → OnErr r (now ≡ was) → IsRising was → IsRising now
 rising_after (Ok _) was now item h _ up = rw h (rising-joined was item)
 rising_after (Err _) was now item _ h up = rw h up
 
-module _ (m n : BTreeMap (List ℕ) (Vec Item Global)) (tenant : List ℕ) (now : Vec Item Global) where
+module _ (m n : BTreeMap (List ℕ) (List Item)) (tenant : List ℕ) (now : List Item) where
   -- a rising list put into a book
-  pub held_after : AreHeld m → IsOrdered tenants n → n.entries ≡ insert_entry tenants m.entries tenant now → IsRising now.items → AreHeld n
-  held_after are ordered entries up = record { ordered = ordered; rising = rw entries (All-values-insert_entry tenants tenant now (λ held. IsRising held.items) m.entries are.rising up) }
+  pub held_after : AreHeld m → IsOrdered tenants n → n.entries ≡ insert_entry tenants m.entries tenant now → IsRising now → AreHeld n
+  held_after are ordered entries up = record { ordered = ordered; rising = rw entries (All-values-insert_entry tenants tenant now (λ held. IsRising held) m.entries are.rising up) }
 
   -- a list found, or a new one without items, has the items of the look-up
-  in_found : (o : Option (Vec Item Global)) (fresh : Vec Item Global) → fresh.items ≡ [] → (unwrap_or o fresh).items ≡ items_in o
+  in_found : (o : Option (List Item)) (fresh : List Item) → fresh ≡ [] → unwrap_or o fresh ≡ found_items o
   in_found None fresh none = none
   in_found (Some held) fresh none = refl
 
   -- what a book has of each tenant once an item has joined the list of one
-  pub items_after : (was fresh : Vec Item Global) (item : Item) → AreHeld m → IsOrdered tenants n
+  pub items_after : (was fresh : List Item) (item : Item) → AreHeld m → IsOrdered tenants n
       → ((q : List ℕ) → get tenants n q ≡ cond (is_at (tenants tenant) q) (Some now) (get tenants m q))
-      → fresh.items ≡ [] → was ≡ unwrap_or (get tenants m tenant) fresh → now.items ≡ joined was.items item
+      → fresh ≡ [] → was ≡ unwrap_or (get tenants m tenant) fresh → now ≡ joined was item
       → (t : List ℕ) → items_of t (pairs_of n) ≡ cond (same t tenant) (joined (items_of t (pairs_of m)) item) (items_of t (pairs_of m))
   items_after was fresh item are ordered gets none found joins t =
       let old = items_of t (pairs_of m) in
       let test : is_at (tenants tenant) t ≡ same t tenant = is_eq-name_cmp tenant t ∙ same-sym tenant t in
-      items_of-pairs_of t n ordered ∙ ap items_in (gets t)
+      items_of-pairs_of t n ordered ∙ ap found_items (gets t)
       ∙ by_cases (same t tenant)
       (λ h.
-      let held : was.items ≡ old = ap (λ v. v.items) found ∙ in_found (get tenants m tenant) fresh none ∙ ap (λ q. items_in (get tenants m q)) (sym (eq_from_same t tenant h)) ∙ sym (items_of-pairs_of t m are.ordered) in
-      ap items_in (cond-true _ (Some now) (get tenants m t) (test ∙ h)) ∙ joins ∙ ap (λ xs. joined xs item) held ∙ sym (cond-true _ (joined old item) old h))
+      let held : was ≡ old = found ∙ in_found (get tenants m tenant) fresh none ∙ ap (λ q. found_items (get tenants m q)) (sym (eq_from_same t tenant h)) ∙ sym (items_of-pairs_of t m are.ordered) in
+      ap found_items (cond-true _ (Some now) (get tenants m t) (test ∙ h)) ∙ joins ∙ ap (λ xs. joined xs item) held ∙ sym (cond-true _ (joined old item) old h))
       (λ h.
-      ap items_in (cond-false _ (Some now) (get tenants m t) (test ∙ h)) ∙ sym (items_of-pairs_of t m are.ordered) ∙ sym (cond-false _ (joined old item) old h))
+      ap found_items (cond-false _ (Some now) (get tenants m t) (test ∙ h)) ∙ sym (items_of-pairs_of t m are.ordered) ∙ sym (cond-false _ (joined old item) old h))
 
   -- what a book has of each tenant once the list of one was put back as it was
-  pub items_put_back : (was fresh : Vec Item Global) → AreHeld m → IsOrdered tenants n
+  pub items_put_back : (was fresh : List Item) → AreHeld m → IsOrdered tenants n
       → ((q : List ℕ) → get tenants n q ≡ cond (is_at (tenants tenant) q) (Some now) (get tenants m q))
-      → fresh.items ≡ [] → was ≡ unwrap_or (get tenants m tenant) fresh → now.items ≡ was.items
+      → fresh ≡ [] → was ≡ unwrap_or (get tenants m tenant) fresh → now ≡ was
       → (t : List ℕ) → items_of t (pairs_of n) ≡ items_of t (pairs_of m)
   items_put_back was fresh are ordered gets none found back t =
       let test : is_at (tenants tenant) t ≡ same t tenant = is_eq-name_cmp tenant t ∙ same-sym tenant t in
-      items_of-pairs_of t n ordered ∙ ap items_in (gets t)
+      items_of-pairs_of t n ordered ∙ ap found_items (gets t)
       ∙ by_cases (same t tenant)
       (λ h.
-      let held : was.items ≡ items_of t (pairs_of m) = ap (λ v. v.items) found ∙ in_found (get tenants m tenant) fresh none ∙ ap (λ q. items_in (get tenants m q)) (sym (eq_from_same t tenant h)) ∙ sym (items_of-pairs_of t m are.ordered) in
-      ap items_in (cond-true _ (Some now) (get tenants m t) (test ∙ h)) ∙ back ∙ held)
-      (λ h. ap items_in (cond-false _ (Some now) (get tenants m t) (test ∙ h)) ∙ sym (items_of-pairs_of t m are.ordered))
+      let held : was ≡ items_of t (pairs_of m) = found ∙ in_found (get tenants m tenant) fresh none ∙ ap (λ q. found_items (get tenants m q)) (sym (eq_from_same t tenant h)) ∙ sym (items_of-pairs_of t m are.ordered) in
+      ap found_items (cond-true _ (Some now) (get tenants m t) (test ∙ h)) ∙ back ∙ held)
+      (λ h. ap found_items (cond-false _ (Some now) (get tenants m t) (test ∙ h)) ∙ sym (items_of-pairs_of t m are.ordered))
 
 -- from one map to an equal one
-pub held_same : (n m : BTreeMap (List ℕ) (Vec Item Global)) → AreHeld m → n ≡ m → AreHeld n
+pub held_same : (n m : BTreeMap (List ℕ) (List Item)) → AreHeld m → n ≡ m → AreHeld n
 held_same n m are e = subst AreHeld (sym e) are
 
 -- equal maps have the same items of a tenant
-pub items_same : (t : List ℕ) (n m : BTreeMap (List ℕ) (Vec Item Global)) (xs : List Item) → items_of t (pairs_of m) ≡ xs → n ≡ m → items_of t (pairs_of n) ≡ xs
+pub items_same : (t : List ℕ) (n m : BTreeMap (List ℕ) (List Item)) (xs : List Item) → items_of t (pairs_of m) ≡ xs → n ≡ m → items_of t (pairs_of n) ≡ xs
 items_same t n m xs h e = ap (λ k. items_of t (pairs_of k)) e ∙ h
 
 -- maps of the same entries have the same items of a tenant
-pub items_unchanged : (t : List ℕ) (n m : BTreeMap (List ℕ) (Vec Item Global)) → n.entries ≡ m.entries → items_of t (pairs_of n) ≡ items_of t (pairs_of m)
+pub items_unchanged : (t : List ℕ) (n m : BTreeMap (List ℕ) (List Item)) → n.entries ≡ m.entries → items_of t (pairs_of n) ≡ items_of t (pairs_of m)
 unfolding pairs_of
 items_unchanged t n m e = ap (λ es. items_of t (pairs_in es)) e
 

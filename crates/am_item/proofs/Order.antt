@@ -1,16 +1,19 @@
--- The orders of label sets and of stamps: total, and equal only at equal values.
-use Rattle.std.proofs.Common.{◌≡◌, List, [], ◌∷◌, refl, sym, ap, ◌∙◌, Ordering}
+-- The orders of keys and of stamps: total, and equal only at equal values.
+use Rattle.std.proofs.Common.{◌≡◌, ℕ, List, [], ◌∷◌, refl, sym, ap, ◌∙◌, subst, Ordering}
 use Rattle.std.specs.Cmp.{IsTotalOrder}
 use Rattle.std.specs.Cmp.Lexicographic.{slice_cmp}
 use Rattle.std.specs.Ordering.{is_eq, nat_cmp, ordering_then}
 use Rattle.std.specs.declared.cmp.Ordering.TheVariants.{Less, Equal, Greater}
 use Rattle.std.proofs.lemmas.Bool.{true≢false}
-use Rattle.std.proofs.lemmas.Cmp.{nat_cmp_total, on_total, then_total}
+use Rattle.std.proofs.lemmas.Cmp.{nat_cmp_total, nat_list_cmp_total, on_total, then_total}
 use Rattle.std.proofs.lemmas.Map.Lookups.{CmpEqualImpliesEq, exact_bytes, exact_unsigned}
 use Rattle.am_labels.specs.declared.Label.{Label}
-use Rattle.am_item.specs.declared.item.Stamp.{Stamp}
-use Rattle.am_labels.specs.Labels.{label_cmp, labels_cmp}
-use Rattle.am_item.specs.Item.{stamp_cmp}
+use Rattle.am_labels.specs.Labels.{label_cmp, labels_cmp, labels_total}
+use Rattle.am_item.specs.EntryKey.{entry_cmp, entry_total}
+use Rattle.am_item.specs.Key.{Key, ConfigurationKey, SilenceKey, AlertKey, SentEntryKey, key_cmp, kind_of}
+use Rattle.am_item.specs.Stamp.{stamp_cmp}
+use Rattle.am_item.specs.declared.entry.EntryKey.{EntryKey}
+use Rattle.am_item.specs.declared.stamp.Stamp.{Stamp}
 
 -- two comparisons, one after the other, are `Equal` only where both are
 then_equal : (a b : Ordering) → ordering_then a b ≡ Equal → (a ≡ Equal) × (b ≡ Equal)
@@ -38,6 +41,108 @@ label_exact a b h =
 pub labels_exact : (a b : List Label) → labels_cmp a b ≡ Equal → a ≡ b
 unfolding labels_cmp
 labels_exact = lists_exact label_cmp label_exact
+
+-- keys of sent entries compare `Equal` only where they are equal
+pub entries_exact : (a b : EntryKey) → entry_cmp a b ≡ Equal → a ≡ b
+entries_exact a b h =
+    let both = then_equal (ordering_then (slice_cmp nat_cmp a.receiver b.receiver) (slice_cmp nat_cmp a.group b.group)) (nat_cmp a.webhook b.webhook) h in
+    let texts = then_equal (slice_cmp nat_cmp a.receiver b.receiver) (slice_cmp nat_cmp a.group b.group) both.0 in
+    ap (λ r. let k : EntryKey = record { receiver = r; group = a.group; webhook = a.webhook } in k) (exact_bytes a.receiver b.receiver texts.0)
+    ∙ ap (λ g. let k : EntryKey = record { receiver = b.receiver; group = g; webhook = a.webhook } in k) (exact_bytes a.group b.group texts.1)
+    ∙ ap (λ w. let k : EntryKey = record { receiver = b.receiver; group = b.group; webhook = w } in k) (exact_unsigned a.webhook b.webhook both.1)
+
+-- ---- keys
+
+-- the identifier, the label set and the name of a sent entry that a key has, each empty at other kinds
+id_in : Key → List ℕ
+id_in ConfigurationKey = []
+id_in (SilenceKey id) = id
+id_in (AlertKey labels) = []
+id_in (SentEntryKey entry) = []
+
+labels_in : Key → List Label
+labels_in ConfigurationKey = []
+labels_in (SilenceKey id) = []
+labels_in (AlertKey labels) = labels
+labels_in (SentEntryKey entry) = []
+
+no_entry : EntryKey
+no_entry = record { receiver = []; group = []; webhook = 0 }
+
+entry_in : Key → EntryKey
+entry_in ConfigurationKey = no_entry
+entry_in (SilenceKey id) = no_entry
+entry_in (AlertKey labels) = no_entry
+entry_in (SentEntryKey entry) = entry
+
+-- keys by kind, then by each of these
+by_parts : Key → Key → Ordering
+by_parts a b =
+    ordering_then (nat_cmp (kind_of a) (kind_of b))
+    (ordering_then (slice_cmp nat_cmp (id_in a) (id_in b)) (ordering_then (labels_cmp (labels_in a) (labels_in b)) (entry_cmp (entry_in a) (entry_in b))))
+
+by_parts_total : IsTotalOrder by_parts
+unfolding by_parts
+by_parts_total = then_total (on_total kind_of nat_cmp_total) (then_total (on_total id_in nat_list_cmp_total) (then_total (on_total labels_in labels_total) (on_total entry_in entry_total)))
+
+-- nothing more decides
+then_nothing : (o : Ordering) → o ≡ ordering_then o Equal
+then_nothing Less = refl
+then_nothing Equal = refl
+then_nothing Greater = refl
+
+-- that is the order of keys
+parted : (a b : Key) → by_parts a b ≡ key_cmp a b
+unfolding by_parts key_cmp labels_cmp id_in labels_in entry_in no_entry
+parted ConfigurationKey ConfigurationKey = refl
+parted ConfigurationKey (SilenceKey b) = refl
+parted ConfigurationKey (AlertKey b) = refl
+parted ConfigurationKey (SentEntryKey b) = refl
+parted (SilenceKey a) ConfigurationKey = refl
+parted (SilenceKey a) (SilenceKey b) = sym (then_nothing (slice_cmp nat_cmp a b))
+parted (SilenceKey a) (AlertKey b) = refl
+parted (SilenceKey a) (SentEntryKey b) = refl
+parted (AlertKey a) ConfigurationKey = refl
+parted (AlertKey a) (SilenceKey b) = refl
+parted (AlertKey a) (AlertKey b) = sym (then_nothing (slice_cmp label_cmp a b))
+parted (AlertKey a) (SentEntryKey b) = refl
+parted (SentEntryKey a) ConfigurationKey = refl
+parted (SentEntryKey a) (SilenceKey b) = refl
+parted (SentEntryKey a) (AlertKey b) = refl
+parted (SentEntryKey a) (SentEntryKey b) = refl
+
+-- a key of a lower kind is lower
+pub lower_kind : (a b : Key) → nat_cmp (kind_of a) (kind_of b) ≡ Less → key_cmp a b ≡ Less
+unfolding by_parts
+lower_kind a b h =
+    let rest = ordering_then (slice_cmp nat_cmp (id_in a) (id_in b)) (ordering_then (labels_cmp (labels_in a) (labels_in b)) (entry_cmp (entry_in a) (entry_in b))) in
+    sym (parted a b) ∙ ap (λ o. ordering_then o rest) h
+
+-- the order of keys is total
+pub keys_total : IsTotalOrder key_cmp
+keys_total = subst IsTotalOrder (λ i a b. parted a b i) by_parts_total
+
+-- keys compare `Equal` only where they are equal
+pub keys_exact : (a b : Key) → key_cmp a b ≡ Equal → a ≡ b
+unfolding key_cmp
+keys_exact ConfigurationKey ConfigurationKey h = refl
+keys_exact ConfigurationKey (SilenceKey b) h = absurd (true≢false (sym (ap is_eq h)))
+keys_exact ConfigurationKey (AlertKey b) h = absurd (true≢false (sym (ap is_eq h)))
+keys_exact ConfigurationKey (SentEntryKey b) h = absurd (true≢false (sym (ap is_eq h)))
+keys_exact (SilenceKey a) ConfigurationKey h = absurd (true≢false (sym (ap is_eq h)))
+keys_exact (SilenceKey a) (SilenceKey b) h = ap SilenceKey (exact_bytes a b h)
+keys_exact (SilenceKey a) (AlertKey b) h = absurd (true≢false (sym (ap is_eq h)))
+keys_exact (SilenceKey a) (SentEntryKey b) h = absurd (true≢false (sym (ap is_eq h)))
+keys_exact (AlertKey a) ConfigurationKey h = absurd (true≢false (sym (ap is_eq h)))
+keys_exact (AlertKey a) (SilenceKey b) h = absurd (true≢false (sym (ap is_eq h)))
+keys_exact (AlertKey a) (AlertKey b) h = ap AlertKey (labels_exact a b h)
+keys_exact (AlertKey a) (SentEntryKey b) h = absurd (true≢false (sym (ap is_eq h)))
+keys_exact (SentEntryKey a) ConfigurationKey h = absurd (true≢false (sym (ap is_eq h)))
+keys_exact (SentEntryKey a) (SilenceKey b) h = absurd (true≢false (sym (ap is_eq h)))
+keys_exact (SentEntryKey a) (AlertKey b) h = absurd (true≢false (sym (ap is_eq h)))
+keys_exact (SentEntryKey a) (SentEntryKey b) h = ap SentEntryKey (entries_exact a b h)
+
+-- ---- stamps
 
 -- the order of stamps is total
 pub stamps_total : IsTotalOrder stamp_cmp

@@ -1,6 +1,5 @@
 -- A book as pairs of a tenant and an item.
-use Rattle.std.specs.Prelude.{List, ℕ, [], ◌∷◌, ◌++◌, Vec, if◌then◌else◌}
-use Rattle.std.specs.declared.alloc.Global.{Global}
+use Rattle.std.specs.Prelude.{List, ℕ, [], ◌∷◌, ◌++◌, if◌then◌else◌}
 use Rattle.std.specs.BTreeMap.{BTreeMap, IsOrdered, values}
 use Rattle.std.specs.Cmp.Lexicographic.{slice_cmp}
 use Rattle.std.specs.List.{All}
@@ -19,16 +18,16 @@ abbrev pub with_tenant : List ℕ → List Item → List (List ℕ × Item)
 with_tenant t [] = []
 with_tenant t (x ∷ xs) = (t, x) ∷ with_tenant t xs
 
--- the lists of several tenants, as pairs
-abbrev pub pairs_in : List (List ℕ × Vec Item Global) → List (List ℕ × Item)
+-- what is held of several tenants, as pairs
+abbrev pub pairs_in : List (List ℕ × List Item) → List (List ℕ × Item)
 pairs_in [] = []
-pairs_in ((t, held) ∷ lists) = with_tenant t held.items ++ pairs_in lists
+pairs_in ((t, held) ∷ tenants) = with_tenant t held ++ pairs_in tenants
 
--- a book's lists as pairs
-unfoldable pub pairs_of : BTreeMap (List ℕ) (Vec Item Global) → List (List ℕ × Item)
-pairs_of lists = pairs_in lists.entries
+-- what a book holds of its tenants, as pairs
+unfoldable pub pairs_of : BTreeMap (List ℕ) (List Item) → List (List ℕ × Item)
+pairs_of tenants = pairs_in tenants.entries
 
--- the lists of a book: one for each tenant, with keys that rise
-pub record AreHeld (lists : BTreeMap (List ℕ) (Vec Item Global)) : Type 0 where
-  pub ordered : IsOrdered (slice_cmp nat_cmp) lists
-  pub rising : All (λ held. IsRising held.items) (values lists)
+-- what is held of the tenants of a book: items in order of key, once for each tenant
+pub record AreHeld (tenants : BTreeMap (List ℕ) (List Item)) : Type 0 where
+  pub ordered : IsOrdered (slice_cmp nat_cmp) tenants
+  pub rising : All IsRising (values tenants)

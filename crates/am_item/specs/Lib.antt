@@ -1,5 +1,10 @@
-pub mod Item
+pub mod Stamp
+pub mod EntryKey
+pub mod Details
+pub mod Key
 pub mod Best
-pub mod Place
+pub mod Newest
+pub mod Held
+pub mod Kinds
 pub mod Book
 pub mod Counts

@@ -7,6 +7,9 @@ use std::alloc::{AllocError, Global};
 use std::collections::BTreeMap;
 use std::marker::Model;
 
+/// The greatest count that a stamp may have.
+pub const GREATEST_COUNT: u64 = 1 << 62;
+
 /// How many stamp counts each tenant has used.
 #[derive(Debug, Drop)]
 pub struct Counts {
@@ -38,8 +41,8 @@ impl Counts {
         self.used.get(tenant).copied().unwrap_or(0)
     }
 
-    /// Sets how many counts a tenant has used. Other tenants' counts stay. An error, which is want
-    /// of memory, leaves all counts as they were.
+    /// Sets how many counts a tenant has used. Other tenants' counts stay. An error, which is out of
+    /// memory, leaves all counts as they were.
     pub fn set(&mut self, _alloc: Global, tenant: &TenantName, count: u64) -> Result<(), AllocError>
         ensures counted { OnOk result ((t : List ℕ) → count_of t self.new ≡ (if same t tenant.now then count else count_of t self.old)) }
         ensures err { OnErr result ((t : List ℕ) → count_of t self.new ≡ count_of t self.old) }

@@ -1,10 +1,22 @@
 //! What the best of a list of items is, and how items join it: laws, which no program needs to call.
 ghost use Rattle.std.specs.Prelude.{◌≡◌, ◌∷◌, ◌++◌, List, Some, [], false};
 ghost use Rattle.am_item.specs.declared.item.Item.{Item};
-ghost use Rattle.am_item.specs.Best.{IsBestOf, IsRising, StampsTellApart, best, item_at, joined, merged};
-ghost use Rattle.am_item.specs.Item.{exceeds, key_of};
+ghost use Rattle.am_item.specs.Best.{IsBestOf, IsRising, StampsTellApart, all_joined, best, item_at, joined, merged};
+ghost use Rattle.am_item.specs.Key.{Key, exceeds, key_cmp, key_of};
+ghost use Rattle.am_item.specs.Stamp.{stamp_cmp};
+ghost use Rattle.am_item.specs.declared.stamp.Stamp.{Stamp};
+ghost use Rattle.std.specs.Cmp.{IsTotalOrder};
+ghost use Rattle.std.specs.declared.cmp.Ordering.TheVariants.{Equal};
 
-/// The best of a list has for each key the item that none of that key exceeds, in the order of label sets.
+/// The orders of keys and of stamps are total, and tell apart what differs.
+pub fn orders()
+    ensures keys { IsTotalOrder key_cmp }
+    ensures one_key { (a b : Key) → key_cmp a b ≡ Equal → a ≡ b }
+    ensures stamps { IsTotalOrder stamp_cmp }
+    ensures one_stamp { (a b : Stamp) → stamp_cmp a b ≡ Equal → a ≡ b }
+{}
+
+/// The best of a list has for each key the item that none of that key exceeds, in the order of keys.
 /// Where stamps tell the items of a key apart, no other list is that.
 pub fn best_of_a_list()
     ensures best { (xs : List Item) → IsBestOf xs (best xs) }
@@ -26,6 +38,7 @@ pub fn joining_one_item()
 pub fn joining_lists()
     ensures both { (xs ys : List Item) → best (xs ++ ys) ≡ merged (best xs) (best ys) }
     ensures one_by_one { (held xs : List Item) (y : Item) → merged held (xs ++ y ∷ []) ≡ joined (merged held xs) y }
+    ensures one_after_the_other { (held xs : List Item) → IsRising held → all_joined held xs ≡ merged held xs }
     ensures commutes { (xs ys : List Item) → StampsTellApart (xs ++ ys) → merged xs ys ≡ merged ys xs }
     ensures associates { (xs ys zs : List Item) → merged (merged xs ys) zs ≡ merged xs (merged ys zs) }
     ensures again { (xs ys : List Item) → merged (merged xs ys) ys ≡ merged xs ys }

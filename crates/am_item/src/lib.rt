@@ -1,11 +1,23 @@
-//! Alerts as stored items, each with a stamp, and the best of a list of items.
+//! What is stored of the tenants: items of four kinds, each with a key and a stamp, and the best of a list of them.
 #![tactic(auto)]
 
 mod book;
 mod counts;
+mod entry;
+mod fault;
+mod held;
 mod item;
+mod label_sets;
 pub mod laws;
+mod silence;
+mod stamp;
 
 pub use book::Book;
-pub use counts::Counts;
-pub use item::{Alert, Item, Stamp};
+pub use counts::{Counts, GREATEST_COUNT};
+pub use entry::{EntryDetails, EntryKey, SentEntry};
+pub use fault::Fault;
+pub use held::Held;
+pub use item::{Alert, AlertDetails, Item, Thing};
+pub use label_sets::LabelSets;
+pub use silence::{Silence, SilenceDetails, SilenceId};
+pub use stamp::{Stamp, Stamped};

@@ -2,6 +2,5 @@ pub mod Hashes
 pub mod Ordered
 pub mod InOrder
 pub mod Values
-pub mod FirstFault
+pub mod Refusing
 pub mod Rules
-pub mod Same

@@ -53,3 +53,7 @@ has_name name labels = list_any (λ label. bytes_eq name label.name) labels
 abbrev pub repeats : List Label → Bool
 repeats [] = false
 repeats (label ∷ labels) = has_name label.name labels || repeats labels
+
+-- all names are label names
+abbrev pub are_label_names : List Label → Bool
+are_label_names labels = list_all (λ label. is_label_name label.name) labels

@@ -1,11 +1,11 @@
-ghost use Rattle.std.specs.Prelude.{◌≡◌, ◌≢◌, ◌==◌, ℕ, List, length, Some, None, IfOk, MatchResult};
+ghost use Rattle.std.specs.Prelude.{◌≡◌, ◌==◌, ℕ, List, length, IfOk, IsErrOf, IsTrue};
 ghost use Rattle.std.specs.Cmp.{partial_equiv_from_equiv, eq_by_cmp_equiv};
 ghost use Rattle.std.specs.Ordering.{eq_by_cmp};
-ghost use Rattle.am_labels.specs.declared.LabelFault.TheVariants.{OutOfMemory};
 ghost use Rattle.am_labels.specs.Labels.{labels_cmp, labels_total};
 
 use crate::pairs::{copy_labels, read_pairs, value_in};
-use crate::{Label, LabelFault};
+use crate::{Label, LabelRefusal};
+use am_text::Failure;
 use std::alloc::{AllocError, Global};
 use std::marker::Model;
 
@@ -29,17 +29,21 @@ impl Model for Annotations {
 }
 
 impl Annotations {
-    ghost use Rattle.am_labels.specs.Faults.{Refuses, label_fault};
+    ghost use Rattle.am_text.specs.Outcome.{Gives};
+    ghost use Rattle.am_labels.specs.Labels.{are_label_names};
     ghost use Rattle.am_labels.specs.Sets.{IsAnnotations, annotations, value_of};
 
     /// The annotations of these pairs of names and values, in any order.
     ///
-    /// Refused with [`LabelFault::BadName`] where any name is no label name (`[a-zA-Z_][a-zA-Z0-9_]*`), else
-    /// with [`LabelFault::Repeated`] where a name is given twice, else with [`LabelFault::OutOfMemory`] where
-    /// memory runs out. The pairs are dropped then.
-    pub fn from_pairs(alloc: Global, pairs: Vec<Label>) -> Result<Annotations, LabelFault>
-        ensures set { MatchResult result (λ set. annotations pairs.items ≡ Some set) (λ fault. fault ≢ OutOfMemory → annotations pairs.items ≡ None) }
-        ensures fault { MatchResult result (λ _. label_fault pairs.items ≡ None) (λ fault. Refuses fault pairs.items) }
+    /// Refused with [`LabelRefusal::BadName`] where any name is no label name (`[a-zA-Z_][a-zA-Z0-9_]*`), else
+    /// with [`LabelRefusal::Repeated`] where a name is given twice, and with no refusal where memory
+    /// runs out. The pairs are dropped then.
+    pub fn from_pairs(
+        alloc: Global,
+        pairs: Vec<Label>,
+    ) -> Result<Annotations, Failure<LabelRefusal>>
+        ensures set { Gives (λ set. set) result (annotations pairs.items) }
+        ensures memory { IsErrOf result Failure.OutOfMemory → IsTrue (are_label_names pairs.items) }
         ensures values { IfOk result (λ set. (name : List ℕ) → value_of name set ≡ value_of name pairs.items) }
     {
         let labels = read_pairs(alloc, pairs)?;

@@ -19,7 +19,7 @@ const FACTOR_64: u64 = 1099511628211;
 pub fn place(tenant: &TenantName) -> u32
     ensures { result ≡ place_of tenant.now }
 {
-    fnv32(tenant.as_str().as_bytes())
+    fnv32(tenant.as_bytes())
 }
 
 /// A fingerprint as 16 lower hexadecimal digits.

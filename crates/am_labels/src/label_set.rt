@@ -1,12 +1,12 @@
-ghost use Rattle.std.specs.Prelude.{◌≡◌, ◌≢◌, ◌==◌, ℕ, List, length, Some, None, IfOk, MatchResult, refl};
+ghost use Rattle.std.specs.Prelude.{◌≡◌, ◌==◌, ℕ, List, length, Some, IfOk, IsErrOf, IsTrue, refl};
 ghost use Rattle.std.specs.Cmp.{partial_equiv_from_equiv, eq_by_cmp_equiv, po};
 ghost use Rattle.std.specs.Ordering.{eq_by_cmp};
-ghost use Rattle.am_labels.specs.declared.LabelFault.TheVariants.{OutOfMemory};
 ghost use Rattle.am_labels.specs.Labels.{labels_cmp, labels_total};
 
 use crate::hash::fingerprint_of;
 use crate::pairs::{copy_labels, read_pairs, value_in};
-use crate::{Label, LabelFault};
+use crate::{Label, LabelRefusal};
+use am_text::Failure;
 use std::alloc::{AllocError, Global};
 use std::cmp::Ordering;
 use std::marker::Model;
@@ -33,19 +33,20 @@ impl Model for LabelSet {
 }
 
 impl LabelSet {
-    ghost use Rattle.am_labels.specs.Faults.{Refuses, label_fault};
+    ghost use Rattle.am_text.specs.Outcome.{Gives};
+    ghost use Rattle.am_labels.specs.Labels.{are_label_names};
     ghost use Rattle.am_labels.specs.Sets.{IsLabelSet, label_set, value_of};
     ghost use Rattle.am_labels.specs.Hashes as hashes;
 
     /// The label set of these pairs of names and values, in any order. A pair with an empty value gives no
     /// label.
     ///
-    /// Refused with [`LabelFault::BadName`] where any name is no label name (`[a-zA-Z_][a-zA-Z0-9_]*`), else
-    /// with [`LabelFault::Repeated`] where a name is given twice, both also where the value is empty, else
-    /// with [`LabelFault::OutOfMemory`] where memory runs out. The pairs are dropped then.
-    pub fn from_pairs(alloc: Global, pairs: Vec<Label>) -> Result<LabelSet, LabelFault>
-        ensures set { MatchResult result (λ set. label_set pairs.items ≡ Some set) (λ fault. fault ≢ OutOfMemory → label_set pairs.items ≡ None) }
-        ensures fault { MatchResult result (λ _. label_fault pairs.items ≡ None) (λ fault. Refuses fault pairs.items) }
+    /// Refused with [`LabelRefusal::BadName`] where any name is no label name (`[a-zA-Z_][a-zA-Z0-9_]*`), else
+    /// with [`LabelRefusal::Repeated`] where a name is given twice, both also where the value is empty, and with
+    /// no refusal where memory runs out. The pairs are dropped then.
+    pub fn from_pairs(alloc: Global, pairs: Vec<Label>) -> Result<LabelSet, Failure<LabelRefusal>>
+        ensures set { Gives (λ set. set) result (label_set pairs.items) }
+        ensures memory { IsErrOf result Failure.OutOfMemory → IsTrue (are_label_names pairs.items) }
         ensures values { IfOk result (λ set. (name : List ℕ) → value_of name set ≡ value_of name pairs.items) }
     {
         let mut labels = read_pairs(alloc, pairs)?;
@@ -146,7 +147,7 @@ mod tests {
     use std::test::Fail;
 
     // The label set of these names and values.
-    fn set(rt: &HostRuntime, pairs: &[(&str, &str)]) -> Result<LabelSet, LabelFault> {
+    fn set(rt: &HostRuntime, pairs: &[(&str, &str)]) -> Result<LabelSet, Failure<LabelRefusal>> {
         let mut labels = Vec::new(rt.alloc());
         for (name, value) in pairs {
             labels.push(Label {
@@ -170,10 +171,10 @@ mod tests {
 
     #[test]
     fn faults(rt: HostRuntime) {
-        let bad_name = Err(LabelFault::BadName);
+        let bad_name = Err(Failure::Refused(LabelRefusal::BadName));
         assert!(rt; set(&rt, &[("a", "1"), ("a", "2"), ("0", "")]).map(|_| ()) == bad_name);
         assert!(rt; set(&rt, &[("", "1")]).map(|_| ()) == bad_name);
-        let repeated = Err(LabelFault::Repeated);
+        let repeated = Err(Failure::Refused(LabelRefusal::Repeated));
         assert!(rt; set(&rt, &[("a", ""), ("b", ""), ("a", "")]).map(|_| ()) == repeated);
     }
 

@@ -7,15 +7,15 @@ mod label_set;
 mod names;
 mod pairs;
 
-ghost use Rattle.std.specs.Prelude.{◌≡◌, IfOk};
-ghost use Rattle.am_labels.specs.declared.LabelFault.TheVariants.{OutOfMemory};
+ghost use Rattle.std.specs.Prelude.{◌≡◌, IfOk, Some};
+ghost use Rattle.am_labels.specs.Sets.{code_of};
 
 use am_text::Text;
 pub use annotations::Annotations;
 pub use hash::{place, print_fingerprint};
 pub use label_set::LabelSet;
 pub use names::is_label_name;
-use std::alloc::{AllocError, AllocFailed, Global};
+use std::alloc::{AllocError, Global};
 use std::error::Error;
 use std::fmt;
 
@@ -42,44 +42,33 @@ impl Label {
 
 /// Why pairs of names and values make no label set and no annotations.
 #[derive(Clone, Copy, Debug, PartialEq, Eq)]
-pub enum LabelFault {
+pub enum LabelRefusal {
     /// A name is no label name.
     BadName,
     /// A name is given twice.
     Repeated,
-    /// Memory ran out.
-    OutOfMemory,
 }
 
-impl fmt::Display for LabelFault {
-    ghost use Rattle.std.specs.Prelude.{Some};
-    ghost use Rattle.am_labels.specs.Codes.{text_of};
+impl LabelRefusal {
+    /// The code of the refusal, `L1` or `L2`.
+    pub fn code(self) -> &'static str
+        ensures { result.now ≡ code_of self }
+    {
+        match self {
+            LabelRefusal::BadName => "L1",
+            LabelRefusal::Repeated => "L2",
+        }
+    }
+}
 
-    ghost output = { λ fault. Some (text_of fault) };
+impl fmt::Display for LabelRefusal {
+    ghost use Rattle.std.specs.Prelude.{Some};
+
+    ghost output = { λ refusal. Some (code_of refusal) };
 
     fn fmt<W: fmt::Write>(&self, f: &mut fmt::Formatter<W>) -> fmt::Result {
-        f.pad(match self {
-            LabelFault::BadName => "L1",
-            LabelFault::Repeated => "L2",
-            LabelFault::OutOfMemory => "out of memory",
-        })
+        f.pad(self.code())
     }
 }
 
-impl Error for LabelFault {}
-
-impl From<AllocError> for LabelFault {
-    ghost from_gives = { λ _ fault. fault ≡ OutOfMemory };
-
-    fn from(_error: AllocError) -> LabelFault {
-        LabelFault::OutOfMemory
-    }
-}
-
-impl<T: Drop> From<AllocFailed<T>> for LabelFault {
-    ghost from_gives = { λ _ fault. fault ≡ OutOfMemory };
-
-    fn from(_error: AllocFailed<T>) -> LabelFault {
-        LabelFault::OutOfMemory
-    }
-}
+impl Error for LabelRefusal {}

@@ -1,29 +1,34 @@
-ghost use Rattle.std.specs.Prelude.{◌≡◌, ◌↔◌, IsTrue, IfOk, OnOk, MatchResult, None, bytes_eq, find};
-ghost use Rattle.std.specs.List.{list_all};
+ghost use Rattle.std.specs.Prelude.{◌≡◌, ◌↔◌, IsTrue, IfOk, IsErrOf, OnOk, bytes_eq, find};
 ghost use Rattle.std.specs.List.Sorted.{IsPermutation, IsSorted, IsStrictlySortedBy};
 ghost use Rattle.std.specs.Option.{option_copied};
-ghost use Rattle.am_labels.specs.Labels.{is_label_name, label_cmp, name_cmp};
-ghost use Rattle.am_labels.specs.Faults.{Refuses, label_fault};
-ghost use Rattle.am_labels.specs.Sets.{IsAnnotations, in_order, value_of};
+ghost use Rattle.am_text.specs.Outcome.{Gives};
+ghost use Rattle.am_labels.specs.Labels.{are_label_names, label_cmp, name_cmp};
+ghost use Rattle.am_labels.specs.Sets.{IsAnnotations, annotations, value_of};
 
 use crate::names::is_label_name;
-use crate::{Label, LabelFault};
+use crate::{Label, LabelRefusal};
+use am_text::Failure;
 use std::alloc::{AllocError, Global};
 
-// The pairs in order of name, where each name is a label name and none is given twice.
-pub fn read_pairs(alloc: Global, mut pairs: Vec<Label>) -> Result<Vec<Label>, LabelFault>
-    ensures order { IfOk result (λ labels. labels.items ≡ in_order pairs.items) }
+// The pairs in order of name, where each name is a label name and none is given twice. Pairs that come in
+// order are left as they are, and take no memory.
+pub fn read_pairs(alloc: Global, mut pairs: Vec<Label>) -> Result<Vec<Label>, Failure<LabelRefusal>>
+    ensures pairs { Gives (λ labels. labels.items) result (annotations pairs.items) }
     ensures rules { IfOk result (λ labels. IsAnnotations labels.items) }
-    ensures fault { MatchResult result (λ _. label_fault pairs.items ≡ None) (λ fault. Refuses fault pairs.items) }
+    ensures memory { IsErrOf result Failure.OutOfMemory → IsTrue (are_label_names pairs.items) }
 {
     if !are_label_names(&pairs) {
-        return Err(LabelFault::BadName);
+        return Err(Failure::Refused(LabelRefusal::BadName));
+    }
+    if names_rise(&pairs) {
+        return Ok(pairs);
     }
     sort(alloc, &mut pairs)?;
-    if !names_rise(&pairs) {
-        return Err(LabelFault::Repeated);
+    if names_rise(&pairs) {
+        Ok(pairs)
+    } else {
+        Err(Failure::Refused(LabelRefusal::Repeated))
     }
-    Ok(pairs)
 }
 
 // Sorts the labels.
@@ -37,7 +42,7 @@ fn sort(alloc: Global, labels: &mut Vec<Label>) -> Result<(), AllocError>
 
 // Whether each name is a label name.
 fn are_label_names(labels: &[Label]) -> bool
-    ensures { result ≡ list_all (λ label. is_label_name label.name) labels.now }
+    ensures { result ≡ are_label_names labels.now }
 {
     labels
         .iter()

@@ -5,7 +5,7 @@ use Rattle.std.specs.Prelude.{if◌then◌else◌}
 use Rattle.std.proofs.lemmas.Bool.{cases_Bool, eqb-true}
 use Rattle.std.proofs.lemmas.Bool.Decides.{nat_tests}
 use Rattle.std.proofs.lemmas.List.Sums.{sum_by-append}
-use Rattle.am_limit.specs.Allowance.{Count, HasCounted, IsForward, asked, asked_all, count_in, fresh, has_room, may_take, minute_of, taken_after, used_in}
+use Rattle.am_limit.specs.Limits.{Count, HasCounted, IsForward, after_asking, after_asking_all, count_in, fresh, has_room, may_take, minute_of, taken_after, used_in}
 
 -- one more moment
 one_more : (minute moment : ℕ) (xs : List ℕ) → count_in minute (xs ++ moment ∷ []) ≡ count_in minute xs + cond (minute_of moment == minute) 1 0
@@ -49,9 +49,9 @@ counted_by : (b : Bool) (a : Count) (taken : List ℕ) (moment : ℕ) → HasCou
 counted_by true a taken moment h le minute later = given_counted a taken moment minute h le later
 counted_by false a taken moment h le minute later = h minute later
 
-pub asked_counted : (a : Count) (taken : List ℕ) (moment : ℕ) → HasCounted a taken → a.minute ≤ minute_of moment → HasCounted (asked a moment) (taken_after a.limit taken moment)
+pub asked_counted : (a : Count) (taken : List ℕ) (moment : ℕ) → HasCounted a taken → a.minute ≤ minute_of moment → HasCounted (after_asking a moment) (taken_after a.limit taken moment)
 asked_counted a taken moment h le =
-    subst (λ (b : Bool). HasCounted (asked a moment) (if b then taken ++ moment ∷ [] else taken)) (room_agrees a taken moment h le)
+    subst (λ (b : Bool). HasCounted (after_asking a moment) (if b then taken ++ moment ∷ [] else taken)) (room_agrees a taken moment h le)
     (counted_by (has_room a moment) a taken moment h le)
 
 -- it has counted how often it was asked, up to its limit
@@ -92,16 +92,16 @@ minute_by false a moment le = le
 
 -- the answer after all these moments
 room_after : (a : Count) (before moments : List ℕ) (from moment : ℕ) → HasAsked a before → a.minute ≤ minute_of from → IsForward from (moments ++ moment ∷ [])
-    → has_room (asked_all a moments) moment ≡ nat_lt (count_in (minute_of moment) (before ++ moments)) a.limit
+    → has_room (after_asking_all a moments) moment ≡ nat_lt (count_in (minute_of moment) (before ++ moments)) a.limit
 room_after a before [] from moment h le forward =
     let used = h (minute_of moment) (omega (arith, forward.0)) in
     rw (used, append-nil before) (grind (arith, nat_tests))
 room_after a before (next ∷ later) from moment h le forward =
     let within : a.minute ≤ minute_of next = omega (arith, forward.0) in
     let room = has_room a next in
-    let rest = room_after (asked a next) (before ++ next ∷ []) later next moment (more_by room a before next refl h within) (minute_by room a next within) forward.1 in
+    let rest = room_after (after_asking a next) (before ++ next ∷ []) later next moment (more_by room a before next refl h within) (minute_by room a next within) forward.1 in
     rest ∙ rw (limit_by room a next, append_assoc before (next ∷ []) later) refl
 
-pub each_minute : (limit : ℕ) (moments : List ℕ) (moment : ℕ) → IsForward 0 (moments ++ moment ∷ []) → has_room (asked_all (fresh limit) moments) moment ≡ nat_lt (count_in (minute_of moment) moments) limit
+pub each_minute : (limit : ℕ) (moments : List ℕ) (moment : ℕ) → IsForward 0 (moments ++ moment ∷ []) → has_room (after_asking_all (fresh limit) moments) moment ≡ nat_lt (count_in (minute_of moment) moments) limit
 each_minute limit moments moment forward =
     room_after (fresh limit) [] moments 0 moment (λ minute h. fresh_counted limit minute h ∙ omega arith) (omega arith) forward

@@ -1,5 +1,5 @@
 ghost use Rattle.std.specs.Prelude.{◌≡◌};
-ghost use Rattle.am_limit.specs.Allowance.{fresh, has_room, limited, asked};
+ghost use Rattle.am_limit.specs.Limits.{fresh, has_room, with_limit, after_asking};
 
 use am_text::Moment;
 use std::marker::Model;
@@ -20,7 +20,7 @@ pub struct Allowance {
 }
 
 impl Model for Allowance {
-    ghost use Rattle.am_limit.specs.Allowance.{Count};
+    ghost use Rattle.am_limit.specs.Limits.{Count};
 
     ghost Value = { Count };
 
@@ -44,7 +44,7 @@ impl Allowance {
     /// Sets how many notices a minute has. What was used of the present minute stays used: a greater limit
     /// leaves the rest of it, a smaller one than what was used leaves none until the next minute.
     pub fn set_limit(&mut self, limit: u64)
-        ensures { self.new ≡ limited self.old limit }
+        ensures { self.new ≡ with_limit self.old limit }
     {
         self.limit = limit;
     }
@@ -53,7 +53,7 @@ impl Allowance {
     /// minute has none left, so always where the limit is 0. No memory is taken.
     pub fn take(&mut self, moment: Moment) -> bool
         ensures answer { result ≡ has_room self.old moment }
-        ensures counted { self.new ≡ asked self.old moment }
+        ensures held { self.new ≡ after_asking self.old moment }
     {
         let minute = moment.milliseconds() / MINUTE;
         let used = if minute == self.minute { self.used } else { 0 };

@@ -1,4 +1,4 @@
 pub mod Ascii
-pub mod Fault
+pub mod Refusal
 pub mod Same
 pub mod Tables

@@ -9,16 +9,11 @@ ghost use Rattle.std.specs.List.{list_all};
 ghost use Rattle.std.specs.Ordering.{nat_cmp};
 ghost use Rattle.std.specs.Cmp.{partial_equiv_from_equiv};
 ghost use Rattle.std.specs.Cmp.Lexicographic.{slice_cmp, nat_list_eq_equiv, nat_list_cmp_total, texts_po, texts_ties};
-ghost use Rattle.std.specs.Cmp.Rules.{hashing};
 ghost use Rattle.std.specs.Str.{bytes_eq};
-ghost use Rattle.std.specs.Hash as fed;
-ghost use Rattle.std.proofs.Common.{rules};
-ghost use Rattle.am_tenant.specs.Padded.{padded};
-ghost use Rattle.am_tenant.specs.Names.{is_name_byte, is_reserved, is_tenant_name, longest_name, name_fault, same};
+ghost use Rattle.am_tenant.specs.Names.{code_of, is_name_byte, is_reserved, is_tenant_name, longest_name, name_refusal, with_zeros};
 
 use std::cmp::Ordering;
 use std::error::Error;
-use std::hash::{Hash, Hasher};
 use std::marker::Model;
 use std::{fmt, str};
 
@@ -26,8 +21,8 @@ use std::{fmt, str};
 pub const LONGEST: usize = 150;
 
 /// Why some bytes are no tenant name.
-#[derive(Clone, Copy, Debug, PartialEq, Eq, Hash)]
-pub enum NameFault {
+#[derive(Clone, Copy, Debug, PartialEq, Eq)]
+pub enum NameRefusal {
     /// There is no byte.
     Empty,
     /// There are more than 150 bytes.
@@ -38,34 +33,29 @@ pub enum NameFault {
     Reserved,
 }
 
-impl NameFault {
-    ghost use Rattle.am_tenant.specs.Codes.{code_of};
-
-    /// The fault's number, `N1` to `N4`.
+impl NameRefusal {
+    /// The code of the refusal, `N1` to `N4`.
     pub fn code(self) -> &'static str
         ensures { result.now ≡ code_of self }
     {
         match self {
-            NameFault::Empty => "N1",
-            NameFault::TooLong => "N2",
-            NameFault::BadByte => "N3",
-            NameFault::Reserved => "N4",
+            NameRefusal::Empty => "N1",
+            NameRefusal::TooLong => "N2",
+            NameRefusal::BadByte => "N3",
+            NameRefusal::Reserved => "N4",
         }
     }
 }
 
-impl fmt::Display for NameFault {
-    ghost use Rattle.std.specs.Prelude.{Some};
-    ghost use Rattle.am_tenant.specs.Codes.{code_of};
-
-    ghost output = { λ fault. Some (code_of fault) };
+impl fmt::Display for NameRefusal {
+    ghost output = { λ refusal. Some (code_of refusal) };
 
     fn fmt<W: fmt::Write>(&self, f: &mut fmt::Formatter<W>) -> fmt::Result {
         f.pad(self.code())
     }
 }
 
-impl Error for NameFault {}
+impl Error for NameRefusal {}
 
 /// A tenant name: its bytes, then zeros up to the greatest length.
 #[derive(Clone, Copy)]
@@ -76,28 +66,27 @@ pub struct TenantName {
 
 impl Model for TenantName {
     ghost use Rattle.std.specs.Prelude.{◌≡◌, ℕ, List, IsTrue, length, take};
-    ghost use Rattle.am_tenant.specs.Names.{is_tenant_name};
-    ghost use Rattle.am_tenant.specs.Padded.{padded};
+    ghost use Rattle.am_tenant.specs.Names.{is_tenant_name, with_zeros};
 
     ghost Value = { List ℕ };
 
     ghost view = { λ name. take name.len name.bytes };
 
-    ghost invariant = { λ name. (name.len ≡ length (take name.len name.bytes)) × (name.bytes ≡ padded (take name.len name.bytes)) × IsTrue (is_tenant_name (take name.len name.bytes)) };
+    ghost invariant = { λ name. (name.len ≡ length (take name.len name.bytes)) × (name.bytes ≡ with_zeros (take name.len name.bytes)) × IsTrue (is_tenant_name (take name.len name.bytes)) };
 
-    ghost inverse = { λ name. record { bytes = padded name; len = length name } };
+    ghost inverse = { λ name. record { bytes = with_zeros name; len = length name } };
 }
 
 impl TenantName {
-    /// The tenant name that these bytes are, or the first of the faults that they have, in the order of
-    /// [`NameFault`].
-    pub fn read(bytes: &[u8]) -> Result<TenantName, NameFault>
+    /// The tenant name that these bytes are, or the first refusal that they meet, in the order of
+    /// [`NameRefusal`].
+    pub fn read(bytes: &[u8]) -> Result<TenantName, NameRefusal>
         ensures ok { IsOk result ↔ IsTrue (is_tenant_name bytes.now) }
         ensures name { IfOk result (λ name. name ≡ bytes.now) }
-        ensures fault { MatchResult result (λ _. name_fault bytes.now ≡ None) (λ fault. name_fault bytes.now ≡ Some fault) }
+        ensures refusal { MatchResult result (λ _. name_refusal bytes.now ≡ None) (λ refusal. name_refusal bytes.now ≡ Some refusal) }
     {
-        match fault_of(bytes) {
-            Some(fault) => Err(fault),
+        match refusal_of(bytes) {
+            Some(refusal) => Err(refusal),
             None => Ok(TenantName {
                 bytes: pad(bytes),
                 len: bytes.len() as u8,
@@ -110,18 +99,18 @@ impl TenantName {
         ensures text { result.now ≡ self.now }
         ensures name { IsTrue (is_tenant_name self.now) }
     {
-        match str::from_utf8(&self.bytes[..self.len as usize]) {
+        match str::from_utf8(self.as_bytes()) {
             Ok(text) => text,
             Err(_) => unreachable!(),
         }
     }
 
-    /// Whether the two names are the same bytes.
-    #[tactic(auto, unfolding(crate::specs::Names::same))]
-    pub fn is(&self, other: &TenantName) -> bool
-        ensures { result ≡ same self.now other.now }
+    /// The bytes of the name.
+    pub fn as_bytes(&self) -> &[u8]
+        ensures bytes { result.now ≡ self.now }
+        ensures name { IsTrue (is_tenant_name self.now) }
     {
-        self == other
+        &self.bytes[..self.len as usize]
     }
 }
 
@@ -131,7 +120,7 @@ impl PartialEq for TenantName {
     ghost laws = { partial_equiv_from_equiv nat_list_eq_equiv };
 
     fn eq(&self, other: &TenantName) -> bool {
-        self.as_str() == other.as_str()
+        self.as_bytes() == other.as_bytes()
     }
 }
 
@@ -160,17 +149,7 @@ impl Ord for TenantName {
     ghost matches_eq = { λ a b. texts_ties a b };
 
     fn cmp(&self, other: &TenantName) -> Ordering {
-        self.as_str().cmp(other.as_str())
-    }
-}
-
-impl Hash for TenantName {
-    ghost hash_input = { λ name. fed.str name };
-
-    ghost respects_eq = { Prim.search (hashing, rules) };
-
-    fn hash<H: Hasher>(&self, state: &mut H) {
-        self.as_str().hash(state);
+        self.as_bytes().cmp(other.as_bytes())
     }
 }
 
@@ -180,19 +159,19 @@ impl fmt::Debug for TenantName {
     }
 }
 
-// The first fault of a name.
-#[tactic(auto, unfolding(crate::specs::Names::name_fault))]
-fn fault_of(name: &[u8]) -> Option<NameFault>
-    ensures { result ≡ name_fault name.now }
+// The first refusal that a name meets.
+#[tactic(auto, unfolding(crate::specs::Names::name_refusal))]
+fn refusal_of(name: &[u8]) -> Option<NameRefusal>
+    ensures { result ≡ name_refusal name.now }
 {
     if name.is_empty() {
-        Some(NameFault::Empty)
+        Some(NameRefusal::Empty)
     } else if name.len() > LONGEST {
-        Some(NameFault::TooLong)
+        Some(NameRefusal::TooLong)
     } else if !are_name_bytes(name) {
-        Some(NameFault::BadByte)
+        Some(NameRefusal::BadByte)
     } else if is_reserved(name) {
-        Some(NameFault::Reserved)
+        Some(NameRefusal::Reserved)
     } else {
         None
     }
@@ -224,22 +203,22 @@ fn is_reserved(name: &[u8]) -> bool
 // The bytes, then zeros.
 fn pad(bytes: &[u8]) -> [u8; LONGEST]
     requires { length bytes.now ≤ longest_name }
-    ensures { result ≡ padded bytes.now }
+    ensures { result ≡ with_zeros bytes.now }
 {
-    let mut padded = [0; LONGEST];
-    padded[..bytes.len()].copy_from_slice(bytes);
-    padded
+    let mut array = [0; LONGEST];
+    array[..bytes.len()].copy_from_slice(bytes);
+    array
 }
 
 #[cfg(test)]
 mod tests {
     use super::*;
 
-    // The number of the fault that the bytes have, or nothing.
+    // The code of the refusal that the bytes meet, or nothing.
     fn code(bytes: &[u8]) -> &'static str {
         match TenantName::read(bytes) {
             Ok(_) => "",
-            Err(fault) => fault.code(),
+            Err(refusal) => refusal.code(),
         }
     }
 
@@ -274,7 +253,7 @@ mod tests {
             TenantName::read(b"ab"),
             TenantName::read(b"b"),
         ) {
-            assert!(rt; a < ab && ab < b && a.is(&a) && !a.is(&ab));
+            assert!(rt; a < ab && ab < b && a == a && a != ab);
             assert_eq!(rt; ab.as_str(), "ab");
         }
     }

@@ -4,7 +4,7 @@ use Rattle.std.proofs.lemmas.Bool.{cases_lt, lt-ltb, le-ltb}
 use Rattle.jiff_core.specs.Calendar.{days_in_year, days_in_month, days_of_months, day_count, days_from_civil, IsCivilDate}
 use Rattle.jiff_core.proofs.SignedLemmas.{signed_arith}
 use Rattle.jiff_core.proofs.CalendarLemmas.{days_in_year_bounds, day_count-next_year, day_count-later_year, day_count-end, day_count-epoch, day_count-day_of_year, days_of_months-zero, days_of_months_more, days_of_months_all, days_from_civil-day_count}
-use Rattle.am_text.specs.Calendar.{count_years, count_months, year_of, month_of}
+use Rattle.am_text.specs.Printing.{count_years, count_months, year_of, month_of}
 
 -- r is the year of the day that comes so many days after the first of the year y, and the days before it in that year
 record IsYearOf (y days : ℕ) (r : ℕ × ℕ) : Type 0 where

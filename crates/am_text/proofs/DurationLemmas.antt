@@ -10,8 +10,7 @@ use Rattle.std.specs.List.{list_all}
 use Rattle.std.specs.Str.Parse.{digits_value}
 use Rattle.am_text.specs.declared.duration.TimeUnit.{TimeUnit}
 use Rattle.am_text.specs.declared.duration.TimeUnit.TheVariants.{Year}
-use Rattle.am_text.specs.Capped.{capped}
-use Rattle.am_text.specs.Duration.{part_at, parts_at}
+use Rattle.am_text.specs.Duration.{at_most_64_bits, part_at, parts_at}
 
 -- the value of a digit
 digit_is : (c : ℕ) → is_ascii_digit c ≡ true → digit_value c ≡ c - 48
@@ -19,8 +18,8 @@ digit_is c h = grind (arith, nat_tests)
 
 -- one digit more
 pub number_more : (digits : List ℕ) (i n : ℕ) → list_all is_ascii_digit digits ≡ true → i < length digits
-    → n ≡ capped (digits_value 10 (take i digits))
-    → capped (capped (n * 10) + (get_or digits i 0 - 48)) ≡ capped (digits_value 10 (take (i + 1) digits))
+    → n ≡ at_most_64_bits (digits_value 10 (take i digits))
+    → at_most_64_bits (at_most_64_bits (n * 10) + (get_or digits i 0 - 48)) ≡ at_most_64_bits (digits_value 10 (take (i + 1) digits))
 number_more digits i n all h e =
     let digit = digit_is (get_or digits i 0) (AllPass-from_list_all is_ascii_digit digits all i 0 h) in
     omega (arith, digit, digits_value_more 10 digits i h)
@@ -44,6 +43,6 @@ module _ (units : List TimeUnit) (i : ℕ) (text rest : List ℕ) (h : i < lengt
   pub rest_more : (parts_at (drop (i + 1) units) rest).1 ≡ (parts_at (drop i units) text).1
   rest_more = rw (parts_more units i text h, after) refl
 
-  pub sum_more : (sum milliseconds : ℕ) → milliseconds ≡ capped (part_at (get_or units i Year) text).0
-      → capped (capped (sum + milliseconds) + (parts_at (drop (i + 1) units) rest).0) ≡ capped (sum + (parts_at (drop i units) text).0)
+  pub sum_more : (sum milliseconds : ℕ) → milliseconds ≡ at_most_64_bits (part_at (get_or units i Year) text).0
+      → at_most_64_bits (at_most_64_bits (sum + milliseconds) + (parts_at (drop (i + 1) units) rest).0) ≡ at_most_64_bits (sum + (parts_at (drop i units) text).0)
   sum_more sum milliseconds e = rw (parts_more units i text h, after, e) (omega arith)

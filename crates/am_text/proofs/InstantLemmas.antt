@@ -7,8 +7,7 @@ use Rattle.jiff_core.specs.Calendar.{days_from_civil}
 use Rattle.jiff_core.proofs.SignedLemmas.{signed_arith}
 use Rattle.jiff_core.proofs.CalendarLemmas.{days_from_civil-day_count}
 use Rattle.jiff_core.proofs.MarchLemmas.{day_count-early}
-use Rattle.am_text.specs.Moment.{greatest_moment}
-use Rattle.am_text.specs.Instant.{absent_instant, moment_at}
+use Rattle.am_text.specs.Moment.{greatest_moment, absent_instant, moment_at}
 
 -- the day number of 0001-01-01
 first_day : days_from_civil (pos 1) 1 1 ≡ negsuc 719_161

@@ -4,7 +4,9 @@ pub mod CountLemmas
 pub mod DurationLemmas
 pub mod InstantLemmas
 pub mod OrderLemmas
+pub mod OutcomeLemmas
 pub mod PrintingLemmas
 pub mod RoundTrip
 pub mod SpellingLemmas
 pub mod TakenLemmas
+pub mod TreeLemmas

@@ -12,8 +12,7 @@ use Rattle.jiff_core.proofs.DateLemmas.{epoch_day_injective}
 use Rattle.jiff_core.proofs.DateTimeLemmas.{civil_nanos-parts, time_nanos_bound}
 use Rattle.jiff_fmt.specs.Text.{datetime_text, places}
 use Rattle.am_text.specs.Moment.{greatest_moment}
-use Rattle.am_text.specs.Calendar.{year_of, month_of}
-use Rattle.am_text.specs.Printing.{utc_date_time, moment_text}
+use Rattle.am_text.specs.Printing.{year_of, month_of, utc_date_time, moment_text}
 use Rattle.am_text.proofs.CountLemmas.{date_found}
 
 -- 1970-01-01T00:00:00 shows no nanoseconds
@@ -63,9 +62,9 @@ places_are n =
     rw (a, b, c) refl
 
 -- the text is that of the moment
-pub printed : (dt : DateTime) (n : ℕ) → n ≤ greatest_moment → civil_nanos dt ≡ pos n *ℤ pos 1_000_000 → datetime_text false 84 (Some 3) dt ++ 90 ∷ [] ≡ moment_text n
+pub datetime_text-moment_text : (dt : DateTime) (n : ℕ) → n ≤ greatest_moment → civil_nanos dt ≡ pos n *ℤ pos 1_000_000 → datetime_text false 84 (Some 3) dt ++ 90 ∷ [] ≡ moment_text n
 unfolding moment_text utc_date_time
-printed dt n h e =
+datetime_text-moment_text dt n h e =
     let clock = clock_is dt n e in
     let date = date_is dt.date (n / 86_400_000) (omega arith) clock.0 in
     let time = time_is dt.time n clock.1 in

@@ -4,8 +4,7 @@ use Rattle.std.proofs.lemmas.Bool.Decides.{nat_tests}
 use Rattle.std.specs.Char.{is_ascii_digit}
 use Rattle.std.specs.List.{list_all}
 use Rattle.jiff_core.proofs.SignedLemmas.{signed_arith}
-use Rattle.am_text.specs.Moment.{greatest_moment, day_length}
-use Rattle.am_text.specs.Instant.{moment_at}
+use Rattle.am_text.specs.Moment.{greatest_moment, day_length, moment_at}
 use Rattle.am_text.specs.DateTime.{DateTime, IsDateTime, IsUtc, IsUtcText, Spells, instant}
 use Rattle.am_text.specs.Reading.{instant_of, moment_of}
 use Rattle.am_text.specs.Printing.{utc_date_time, moment_text}
@@ -62,9 +61,9 @@ pub moment_of-spelled : (text : List ℕ) (d : DateTime) → Spells text d → m
 unfolding moment_of
 moment_of-spelled text d spells = rw (spells.1, instant_again d spells.0) refl
 
--- what follows for a result that is the moment of the text, or the fault where it has none
-module _ {E : Type 0} (fault : E) (text : List ℕ) (r : Result (Option ℕ) E) (exact : r ≡ ok_or (moment_of text) fault) where
-  pub spelled_gives : (d : DateTime) → Spells text d → r ≡ ok_or (moment_at (instant d)) fault
+-- what follows for a result that is the moment of the text, or the refusal where it has none
+module _ {E : Type 0} (refusal : E) (text : List ℕ) (r : Result (Option ℕ) E) (exact : r ≡ ok_or (moment_of text) refusal) where
+  pub spelled_gives : (d : DateTime) → Spells text d → r ≡ ok_or (moment_at (instant d)) refusal
   spelled_gives d spells = exact ∙ rw (moment_of-spelled text d spells) refl
 
   pub printed_gives : (n : ℕ) → n ≤ greatest_moment → text ≡ moment_text n → r ≡ Ok (Some n)

@@ -11,7 +11,7 @@ use Rattle.std.specs.Str.{bytes_eq}
 use Rattle.std.specs.Str.Parse.{AllDigits, IsNumeral, digits_value}
 use Rattle.am_text.specs.declared.duration.TimeUnit.{TimeUnit}
 use Rattle.am_text.specs.declared.duration.TimeUnit.TheVariants.{Year, Week, Day, Hour, Minute, Second, Millisecond}
-use Rattle.am_text.specs.declared.fault.TextFault.TheVariants.{NotADuration}
+use Rattle.am_text.specs.declared.refusal.TextRefusal.TheVariants.{NotADuration}
 use Rattle.am_text.specs.Duration.{AreInOrder, IsPart, Part, SpellsParts, digits_at, duration, has_part, letter_count, letters_at, letters_of, milliseconds_in, milliseconds_of, part_at, part_text, parts_at, parts_text, units, within_range}
 use Rattle.am_text.proofs.AgainLemmas.{digits_counted}
 use Rattle.am_text.proofs.TakenLemmas.{all_taken}

@@ -1,12 +1,12 @@
--- Durations: whole numbers of units, from years down to milliseconds.
-use Rattle.std.specs.Prelude.{◌≡◌, ◌<◌, ◌⊎◌, ℕ, ◌+◌, ◌*◌, ◌&&◌, ◌==◌, nat_lt, nat_le, not, Bool, List, [], ◌∷◌, ◌++◌, length, take, drop, All, codes, bytes_eq, Result, Ok, Err, if◌then◌else◌}
+-- Durations: whole numbers of units, from years down to milliseconds; and why a text is refused as one or as a moment.
+use Rattle.std.specs.Prelude.{◌≡◌, ◌<◌, ◌⊎◌, ℕ, ◌+◌, ◌*◌, ◌&&◌, ◌==◌, min, nat_lt, nat_le, not, Bool, List, [], ◌∷◌, ◌++◌, length, take, drop, All, codes, bytes_eq, Result, Ok, Err, if◌then◌else◌}
 use Rattle.std.specs.List.{prefix_len}
 use Rattle.std.specs.Char.{is_ascii_digit}
 use Rattle.std.specs.Str.Parse.{IsNumeral, digits_value}
 use Rattle.am_text.specs.declared.duration.TimeUnit.{TimeUnit}
 use Rattle.am_text.specs.declared.duration.TimeUnit.TheVariants.{Year, Week, Day, Hour, Minute, Second, Millisecond}
-use Rattle.am_text.specs.declared.fault.TextFault.{TextFault}
-use Rattle.am_text.specs.declared.fault.TextFault.TheVariants.{NotADuration, OutOfRange}
+use Rattle.am_text.specs.declared.refusal.TextRefusal.{TextRefusal}
+use Rattle.am_text.specs.declared.refusal.TextRefusal.TheVariants.{NotAMoment, NotADuration, OutOfRange}
 
 -- the units, in the order in which they may stand
 abbrev pub units : List TimeUnit
@@ -74,7 +74,7 @@ pub record SpellsParts (text : List ℕ) (parts : List Part) : Type 0 where
   pub spelled : text ≡ parts_text parts
 
 -- so many milliseconds, or that they are too many
-abbrev pub within_range : ℕ → Result ℕ TextFault
+abbrev pub within_range : ℕ → Result ℕ TextRefusal
 within_range n = if nat_le n longest_duration then Ok n else Err OutOfRange
 
 -- how many bytes stand before the first digit
@@ -109,11 +109,21 @@ parts_at (unit ∷ later) text =
     (part.0 + (parts_at later part.1).0, (parts_at later part.1).1)
 
 -- the milliseconds of parts that are the whole text
-abbrev pub whole : ℕ × List ℕ → Result ℕ TextFault
+abbrev pub whole : ℕ × List ℕ → Result ℕ TextRefusal
 whole parts = if length parts.1 == 0 then within_range parts.0 else Err NotADuration
 
 -- the milliseconds of a duration, or why the text is none
-abbrev pub duration : List ℕ → Result ℕ TextFault
+abbrev pub duration : List ℕ → Result ℕ TextRefusal
 duration text =
     if bytes_eq text (codes "0") then Ok 0
     else (if length text == 0 then Err NotADuration else whole (parts_at units text))
+
+-- the number, or the greatest of 64 bits where it is greater
+abbrev pub at_most_64_bits : ℕ → ℕ
+at_most_64_bits n = min n 18_446_744_073_709_551_615
+
+-- the code that a refusal carries
+abbrev pub code_of : TextRefusal → List ℕ
+code_of NotAMoment = codes "Tx1"
+code_of NotADuration = codes "Tx2"
+code_of OutOfRange = codes "Tx3"

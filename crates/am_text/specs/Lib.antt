@@ -1,9 +1,7 @@
-pub mod Calendar
-pub mod Capped
 pub mod DateTime
 pub mod Duration
-pub mod Faults
-pub mod Instant
 pub mod Moment
+pub mod Outcome
 pub mod Printing
 pub mod Reading
+pub mod Trees

@@ -3,8 +3,7 @@ use Rattle.std.specs.Prelude.{ℕ, ◌+◌, ◌-◌, ◌*◌, ◌&&◌, ◌||◌
 use Rattle.std.specs.List.{prefix_len}
 use Rattle.std.specs.Char.{is_ascii_digit}
 use Rattle.jiff_core.specs.Calendar.{days_from_civil, days_in_month}
-use Rattle.am_text.specs.Instant.{moment_at}
-use Rattle.am_text.specs.Moment.{day_length}
+use Rattle.am_text.specs.Moment.{moment_at, day_length}
 use Rattle.am_text.specs.DateTime.{fraction_milliseconds}
 
 infixl 10 ◌>>=◌

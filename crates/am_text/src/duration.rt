@@ -3,11 +3,10 @@ ghost use Rattle.std.specs.Prelude.{◌≡◌, ◌≤◌, IsTrue, length};
 ghost use Rattle.std.specs.Char.{is_ascii_digit};
 ghost use Rattle.std.specs.List.{list_all};
 ghost use Rattle.std.specs.Str.Parse.{digits_value};
-ghost use Rattle.am_text.specs.Capped.{capped};
-ghost use Rattle.am_text.specs.Duration.{duration, letter_count, letters_of, milliseconds_of, part_at, parts_at};
+ghost use Rattle.am_text.specs.Duration.{at_most_64_bits, duration, letter_count, letters_of, milliseconds_of, part_at, parts_at};
 
-use crate::fault::TextFault;
 use crate::reading::{count_digits, digit};
+use crate::refusal::TextRefusal;
 
 /// 100 years of 365 days.
 const LONGEST_DURATION: u64 = 3_153_600_000_000;
@@ -70,21 +69,21 @@ impl TimeUnit {
 /// # Errors
 ///
 /// `NotADuration` for a text of another form, and `OutOfRange` for a duration above 100 years.
-pub fn read_duration(text: &str) -> Result<u64, TextFault>
+pub fn read_duration(text: &str) -> Result<u64, TextRefusal>
     ensures { result ≡ duration text.now }
 {
     if text == "0" {
         return Ok(0);
     }
     if text.is_empty() {
-        return Err(TextFault::NotADuration);
+        return Err(TextRefusal::NotADuration);
     }
     let (milliseconds, rest) = read_parts(&UNITS, text.as_bytes());
     if !rest.is_empty() {
-        return Err(TextFault::NotADuration);
+        return Err(TextRefusal::NotADuration);
     }
     if milliseconds > LONGEST_DURATION {
-        return Err(TextFault::OutOfRange);
+        return Err(TextRefusal::OutOfRange);
     }
     Ok(milliseconds)
 }
@@ -92,7 +91,7 @@ pub fn read_duration(text: &str) -> Result<u64, TextFault>
 // The numbers at the front, at most one of each unit in their order: their milliseconds, or `u64::MAX`
 // where that is too small, and what follows them.
 fn read_parts<'a>(units: &[TimeUnit], text: &'a [u8]) -> (u64, &'a [u8])
-    ensures value { result.0 ≡ capped (parts_at units.now text.now).0 }
+    ensures value { result.0 ≡ at_most_64_bits (parts_at units.now text.now).0 }
     ensures rest { result.1.now ≡ (parts_at units.now text.now).1 }
 {
     let mut sum: u64 = 0;
@@ -108,7 +107,7 @@ fn read_parts<'a>(units: &[TimeUnit], text: &'a [u8]) -> (u64, &'a [u8])
 // A number of this unit, if one stands at the front.
 #[tactic(auto, unfolding(crate::specs::Duration::part_at))]
 fn read_part(unit: TimeUnit, text: &[u8]) -> (u64, &[u8])
-    ensures value { result.0 ≡ capped (part_at unit text.now).0 }
+    ensures value { result.0 ≡ at_most_64_bits (part_at unit text.now).0 }
     ensures rest { result.1.now ≡ (part_at unit text.now).1 }
 {
     let (digits, after) = text.split_at(count_digits(text));
@@ -133,7 +132,7 @@ fn count_letters(text: &[u8]) -> usize
 
 fn read_number(digits: &[u8]) -> u64
     requires { IsTrue (list_all is_ascii_digit digits.now) }
-    ensures { result ≡ capped (digits_value 10 digits.now) }
+    ensures { result ≡ at_most_64_bits (digits_value 10 digits.now) }
 {
     let mut number: u64 = 0;
     for byte in digits {

@@ -2,12 +2,11 @@
 ghost use Rattle.std.specs.Prelude.{◌≡◌, ◌≤◌, ◌⊎◌, ℕ, List, Option, Some, Ok, Err, codes};
 ghost use Rattle.am_text.specs.DateTime.{DateTime, Spells, instant};
 ghost use Rattle.am_text.specs.Duration.{Part, SpellsParts, duration, milliseconds_in, within_range};
-ghost use Rattle.am_text.specs.Instant.{moment_at};
-ghost use Rattle.am_text.specs.Moment.{greatest_moment};
+ghost use Rattle.am_text.specs.Moment.{moment_at, greatest_moment};
 ghost use Rattle.am_text.specs.Printing.{moment_text};
 ghost use Rattle.am_text.specs.Reading.{moment_of};
 
-use crate::fault::TextFault;
+use crate::refusal::TextRefusal;
 
 /// The moment of a text is the one at the instant of the date-time that the text spells, by
 /// RFC 3339 section 5.6. A text that spells none has no moment, and a printed moment is that of its text.
@@ -23,6 +22,6 @@ pub fn duration_of_a_text()
     ensures spelled { (text : List ℕ) (parts : List Part) → SpellsParts text parts
         → duration text ≡ within_range (milliseconds_in parts) }
     ensures zero { duration (codes "0") ≡ Ok 0 }
-    ensures only { (text : List ℕ) → (duration text ≡ Err TextFault.NotADuration)
+    ensures only { (text : List ℕ) → (duration text ≡ Err TextRefusal.NotADuration)
         ⊎ ((text ≡ codes "0") ⊎ ((parts : List Part) × SpellsParts text parts)) }
 {}

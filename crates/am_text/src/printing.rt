@@ -12,6 +12,9 @@ use jiff::civil::{DateTime, Time, date};
 use jiff::fmt::temporal::DateTimePrinter;
 use std::alloc::{AllocError, Global};
 
+/// How many bytes `2025-06-15T15:06:40.000Z` has.
+const MOMENT_LENGTH: usize = 24;
+
 /// The text of a moment in UTC by RFC 3339 section 5.6, with three digits of a fraction and `Z`, as
 /// `2025-06-15T15:06:40.000Z`.
 pub fn print_moment(alloc: Global, moment: Moment) -> Result<Text, AllocError>
@@ -20,7 +23,8 @@ pub fn print_moment(alloc: Global, moment: Moment) -> Result<Text, AllocError>
 {
     let printer = DateTimePrinter::new().precision(Some(3));
     let printed = printer.datetime_text(utc_clock(moment).to_plain());
-    let mut string = String::from_str(alloc, printed.as_str())?;
+    let mut string = String::with_capacity(alloc, MOMENT_LENGTH)?;
+    string.push_str(printed.as_str())?;
     string.push('Z')?;
     Ok(Text::from_string(string))
 }

@@ -4,13 +4,12 @@ ghost use Rattle.std.specs.List.{prefix_len};
 ghost use Rattle.std.specs.Char.{is_ascii_digit};
 ghost use Rattle.jiff_core.specs.Calendar.{IsEpochDay, IsWithin};
 ghost use Rattle.am_text.specs.DateTime.{DateTime, Spells, instant, fraction_milliseconds};
-ghost use Rattle.am_text.specs.Instant.{moment_at};
-ghost use Rattle.am_text.specs.Moment.{greatest_moment, day_length};
+ghost use Rattle.am_text.specs.Moment.{moment_at, greatest_moment, day_length};
 ghost use Rattle.am_text.specs.Printing.{moment_text};
 ghost use Rattle.am_text.specs.Reading as spec;
 
-use crate::fault::TextFault;
 use crate::moment::Moment;
+use crate::refusal::TextRefusal;
 use jiff::civil::Date;
 
 const DAY_LENGTH: i64 = 86_400_000;
@@ -24,11 +23,11 @@ const ABSENT: i64 = -62_135_596_800_000;
 /// `T` and `Z` may be small, a fraction has one to nine digits, seconds go to 59 and the hours of an
 /// offset to 23. Instants before 1970 and after 9999 are refused. No memory is taken.
 #[tactic(auto, unfolding(crate::specs::Reading::moment_of))]
-pub fn read_moment(text: &str) -> Result<Option<Moment>, TextFault>
-    ensures value { result ≡ ok_or (spec.moment_of text.now) TextFault.NotAMoment }
+pub fn read_moment(text: &str) -> Result<Option<Moment>, TextRefusal>
+    ensures value { result ≡ ok_or (spec.moment_of text.now) TextRefusal.NotAMoment }
     // A date-time gives the moment at its instant, and nothing else gives one.
     ensures spelled { (d : DateTime) → Spells text.now d
-        → result ≡ ok_or (moment_at (instant d)) TextFault.NotAMoment }
+        → result ≡ ok_or (moment_at (instant d)) TextRefusal.NotAMoment }
     ensures only { OnOk result ((d : DateTime) × Spells text.now d) }
     // What is printed of a moment gives it back.
     ensures printed { (n : ℕ) → n ≤ greatest_moment → text.now ≡ moment_text n
@@ -36,22 +35,22 @@ pub fn read_moment(text: &str) -> Result<Option<Moment>, TextFault>
 {
     match read_instant(text.as_bytes()) {
         Some(instant) => moment_at(instant),
-        None => Err(TextFault::NotAMoment),
+        None => Err(TextRefusal::NotAMoment),
     }
 }
 
-fn moment_at(milliseconds: i64) -> Result<Option<Moment>, TextFault>
-    ensures { result ≡ ok_or (moment_at milliseconds) TextFault.NotAMoment }
+fn moment_at(milliseconds: i64) -> Result<Option<Moment>, TextRefusal>
+    ensures { result ≡ ok_or (moment_at milliseconds) TextRefusal.NotAMoment }
 {
     if milliseconds == ABSENT {
         return Ok(None);
     }
     let Ok(milliseconds) = u64::try_from(milliseconds) else {
-        return Err(TextFault::NotAMoment);
+        return Err(TextRefusal::NotAMoment);
     };
     match Moment::from_milliseconds(milliseconds) {
         Some(moment) => Ok(Some(moment)),
-        None => Err(TextFault::NotAMoment),
+        None => Err(TextRefusal::NotAMoment),
     }
 }
 

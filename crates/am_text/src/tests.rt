@@ -1,4 +1,7 @@
-use crate::{Moment, Octets, Text, TextFault, print_moment, read_duration, read_moment};
+use crate::{
+    Failure, Listed, Moment, Node, Octets, Text, TextRefusal, count_within, map_refusal,
+    print_moment, read_duration, read_moment, refuse_as,
+};
 use std::test::Fail;
 
 fn milliseconds(text: &str) -> Option<u64> {
@@ -74,7 +77,7 @@ fn refuses_other_texts(rt: HostRuntime) {
         "2025-01-00T00:00:00Z",
     ];
     for text in texts {
-        assert_eq!(rt; read_moment(text), Err(TextFault::NotAMoment), "{text}");
+        assert_eq!(rt; read_moment(text), Err(TextRefusal::NotAMoment), "{text}");
     }
 }
 
@@ -121,7 +124,11 @@ fn refuses_other_durations(rt: HostRuntime) {
         "1h0",
     ];
     for text in forms {
-        assert_eq!(rt; read_duration(text), Err(TextFault::NotADuration), "{text}");
+        assert_eq!(rt;
+            read_duration(text),
+            Err(TextRefusal::NotADuration),
+            "{text}"
+        );
     }
     for text in [
         "101y",
@@ -129,7 +136,7 @@ fn refuses_other_durations(rt: HostRuntime) {
         "18446744073709551616ms",
         "99999999999999999999y",
     ] {
-        assert_eq!(rt; read_duration(text), Err(TextFault::OutOfRange), "{text}");
+        assert_eq!(rt; read_duration(text), Err(TextRefusal::OutOfRange), "{text}");
     }
 }
 
@@ -145,14 +152,14 @@ fn adds_to_moments(rt: HostRuntime) -> Result<(), Fail> {
 }
 
 #[test]
-fn tells_faults(rt: HostRuntime) -> Result<(), Fail> {
-    let faults = [
-        (TextFault::NotAMoment, "Tx1"),
-        (TextFault::NotADuration, "Tx2"),
-        (TextFault::OutOfRange, "Tx3"),
+fn tells_refusals(rt: HostRuntime) -> Result<(), Fail> {
+    let refusals = [
+        (TextRefusal::NotAMoment, "Tx1"),
+        (TextRefusal::NotADuration, "Tx2"),
+        (TextRefusal::OutOfRange, "Tx3"),
     ];
-    for (fault, want) in faults {
-        let told = format!(in rt.alloc(); "{fault}")?;
+    for (refusal, want) in refusals {
+        let told = format!(in rt.alloc(); "{refusal}")?;
         assert_eq!(rt; told.as_str(), want);
     }
     Ok(())
@@ -172,5 +179,43 @@ fn copies_and_compares(rt: HostRuntime) -> Result<(), Fail> {
     assert_eq!(rt; octets.len(), 2);
     assert!(rt; Octets::read(rt.alloc(), b"\xff")? < octets);
     assert!(rt; !Octets::from_vec(copy.into_vec()).is_empty());
+    Ok(())
+}
+
+#[test]
+fn refuses_for_another_reason(rt: HostRuntime) -> Result<(), Fail> {
+    let failures: [(Failure<TextRefusal>, &str, Failure<u8>); 2] = [
+        (
+            Failure::Refused(TextRefusal::NotAMoment),
+            "Tx1",
+            Failure::Refused(7),
+        ),
+        (Failure::OutOfMemory, "out of memory", Failure::OutOfMemory),
+    ];
+    for (failure, want, other) in failures {
+        let told = format!(in rt.alloc(); "{failure}")?;
+        assert_eq!(rt; told.as_str(), want);
+        let failed: Result<(), Failure<TextRefusal>> = Err(failure);
+        assert!(rt; refuse_as(failed, 7u8) == Err(other));
+        assert!(rt; map_refusal(failed, |_| 7u8) == Err(other));
+    }
+    Ok(())
+}
+
+#[test]
+fn holds_trees_in_lists(rt: HostRuntime) -> Result<(), Fail> {
+    let mut nodes = Vec::new(rt.alloc());
+    for item in ["root", "first", "second"] {
+        nodes.push(Node { item, within: 0 })?;
+    }
+    if !nodes.is_empty() {
+        count_within(&mut nodes, 0);
+    }
+    let nodes = Listed::from_vec(nodes);
+    let want = [("root", 2), ("first", 0), ("second", 0)];
+    for (node, (item, within)) in nodes.as_slice().iter().zip(want) {
+        assert_eq!(rt; node.item, item);
+        assert_eq!(rt; node.within, within);
+    }
     Ok(())
 }

@@ -37,7 +37,7 @@ impl WebhookUrl {
     /// The URL that a text is, by its bytes, or none.
     ///
     /// # Errors
-    /// Want of memory alone.
+    /// Out of memory alone.
     #[tactic(auto, unfolding(crate::specs::Urls::url_of))]
     pub fn read(alloc: Global, text: &str) -> Result<Option<WebhookUrl>, AllocError>
         ensures { IfOk result (λ url. url ≡ url_of text.now) }

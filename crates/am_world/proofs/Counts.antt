@@ -3,28 +3,26 @@ use Rattle.std.proofs.Common.{◌≡◌, ℕ, ◌+◌, ◌<◌, ◌≤◌, ◌&&
 use Rattle.std.proofs.lemmas.Bool.Decides.{nat_tests}
 use Rattle.am_alert.specs.Made.{counts_fit, greatest_count, items_from, made, last_of_each}
 use Rattle.am_alert.specs.Posted.{posted}
-use Rattle.am_alert.specs.declared.fault.PostedFault.{PostedFault}
-use Rattle.am_alert.specs.declared.maker.ItemsFault.{ItemsFault}
-use Rattle.am_alert.specs.declared.maker.ItemsFault.TheVariants.{CountsExhausted, OutOfMemory}
+use Rattle.am_alert.specs.declared.refusal.PostedRefusal.{PostedRefusal}
 use Rattle.am_alert.specs.declared.maker.Maker.{Maker}
 use Rattle.am_http.specs.declared.request.Method.{Method}
-use Rattle.am_http.specs.declared.request.Method.TheVariants.{Get, Post}
+use Rattle.am_http.specs.declared.request.Method.TheVariants.{Get, Post, Delete}
+use Rattle.am_http.specs.declared.request.Endpoint.{Endpoint}
+use Rattle.am_http.specs.declared.request.Endpoint.TheVariants.{Alerts, AlertGroups, Silences, Silence, Receivers, Configuration}
 use Rattle.am_http.specs.declared.request.Request.{Request}
 use Rattle.am_item.specs.declared.item.Alert.{Alert}
 use Rattle.am_item.specs.declared.item.Item.{Item}
-use Rattle.am_world.specs.Decision.{Decision, Decides, decided, decided_by, resolve_timeout, stored_or_refused}
-use Rattle.am_world.specs.Faults.{Counted, fault_of}
-use Rattle.am_world.specs.Local.{Local, decision_at, fits_at}
-use Rattle.am_world.specs.declared.instance.Fault.{Fault}
-use Rattle.am_world.specs.declared.instance.Fault.TheVariants as faults
+use Rattle.am_world.specs.Decision.{Decision, Decides, alerts_decided, decided, decided_by, resolve_timeout, stored_or_refused}
+use Rattle.am_world.specs.Reaction.{Counted, Here, Local, decision_at, maker}
+use Rattle.am_item.specs.declared.fault.Fault.{Fault}
+use Rattle.am_item.specs.declared.fault.Fault.TheVariants as faults
 
--- a fault that comes of the decision's says the same of the counts
-pub counted_after : {A : Type 0} (cause : ItemsFault) (result : Result A Fault) (decision : Decision) → IsErrAnd result (λ fault. fault ≡ fault_of cause) →
-    Decides (Err cause) decision → Counted result (counts_fit decision.items)
-counted_after CountsExhausted (Ok x) decision is known = absurd is
-counted_after OutOfMemory (Ok x) decision is known = absurd is
-counted_after CountsExhausted (Err fault) decision is known = rw is known
-counted_after OutOfMemory (Err fault) decision is known = rw is tt
+-- a fault of the decision says of the counts what the decision does
+pub counted_after : {A : Type 0} (fault : Fault) (result : Result A Fault) (decision : Decision) → IsErrAnd result (λ e. e ≡ fault) →
+    Decides (Err fault) decision → Counted result (counts_fit decision.items)
+counted_after fault (Ok x) decision is known = absurd is
+counted_after faults.CountsExhausted (Err e) decision is known = rw is known
+counted_after faults.OutOfMemory (Err e) decision is known = rw is tt
 
 -- a fault that is handed on
 pub counted_same : {A : Type 0} (fault : Fault) (result : Result A Fault) (fit : Bool) → IsErrAnd result (λ e. e ≡ fault) →
@@ -61,21 +59,31 @@ room_from held moment maker (alert ∷ alerts) fit some =
     let all = room_more maker.used (length later) bound (room_from held moment next alerts (right_true _ (counts_fit later) fit)) in
     omega arith
 
-room_outcome : (held : List Item) (moment : ℕ) (maker : Maker) (outcome : Result (List Alert) PostedFault) →
+room_outcome : (held : List Item) (moment : ℕ) (maker : Maker) (outcome : Result (List Alert) PostedRefusal) →
     counts_fit (stored_or_refused held moment maker outcome).items ≡ true → 0 < length (stored_or_refused held moment maker outcome).items →
     maker.used + length (stored_or_refused held moment maker outcome).items ≤ greatest_count
 unfolding made
 room_outcome held moment maker (Ok alerts) fit some = room_from held moment maker (last_of_each alerts) fit some
-room_outcome held moment maker (Err fault) fit some = absurd (omega arith)
+room_outcome held moment maker (Err reason) fit some = absurd (omega arith)
 
-room_by : (method : Method) (body : List ℕ) (held : List Item) (moment : ℕ) (maker : Maker) → counts_fit (decided_by method body held moment maker).items ≡ true →
-    0 < length (decided_by method body held moment maker).items → maker.used + length (decided_by method body held moment maker).items ≤ greatest_count
-room_by Get body held moment maker fit some = absurd (omega arith)
-room_by Post body held moment maker fit some = room_outcome held moment maker (posted moment resolve_timeout body) fit some
+room_alerts : (method : Method) (body : List ℕ) (held : List Item) (moment : ℕ) (maker : Maker) → counts_fit (alerts_decided method body held moment maker).items ≡ true →
+    0 < length (alerts_decided method body held moment maker).items → maker.used + length (alerts_decided method body held moment maker).items ≤ greatest_count
+room_alerts Get body held moment maker fit some = absurd (omega arith)
+room_alerts Post body held moment maker fit some = room_outcome held moment maker (posted moment resolve_timeout body) fit some
+room_alerts Delete body held moment maker fit some = absurd (omega arith)
+
+room_by : (endpoint : Endpoint) (method : Method) (body : List ℕ) (held : List Item) (moment : ℕ) (maker : Maker) →
+    counts_fit (decided_by endpoint method body held moment maker).items ≡ true →
+    0 < length (decided_by endpoint method body held moment maker).items → maker.used + length (decided_by endpoint method body held moment maker).items ≤ greatest_count
+room_by Alerts method body held moment maker fit some = room_alerts method body held moment maker fit some
+room_by AlertGroups method body held moment maker fit some = absurd (omega arith)
+room_by Silences method body held moment maker fit some = absurd (omega arith)
+room_by (Silence id) method body held moment maker fit some = absurd (omega arith)
+room_by Receivers method body held moment maker fit some = absurd (omega arith)
+room_by Configuration method body held moment maker fit some = absurd (omega arith)
 
 -- the counts of a decision that fit have room
-pub room_at : (i incarnation moment : ℕ) (request : Request) (local : Local) → fits_at i incarnation moment request local ≡ true →
-    0 < length (decision_at i incarnation moment request local).items → local.used + length (decision_at i incarnation moment request local).items ≤ greatest_count
-unfolding fits_at decision_at decided
-room_at i incarnation moment request local fit some =
-    room_by request.method request.body local.held moment (record { instance = i; incarnation = incarnation; used = local.used }) fit some
+pub room_at : (here : Here) (request : Request) (local : Local) → counts_fit (decision_at here request local).items ≡ true →
+    0 < length (decision_at here request local).items → local.ledger.stamps + length (decision_at here request local).items ≤ greatest_count
+unfolding decision_at decided
+room_at here request local fit some = room_by request.endpoint request.method request.body local.held here.moment (maker here local.ledger) fit some

@@ -1,176 +1,175 @@
 -- each kind of event but bytes keeps the simulation
-use Rattle.std.proofs.Common.{◌≡◌, ◌∙◌, ℕ, ◌≤◌, ◌||◌, nat_lt, Bool, true, false, List, [], None, Some, refl, sym, arith, max, if◌then◌else◌, nat_eq}
+use Rattle.std.proofs.Common.{◌≡◌, ◌∙◌, inl, inr, ℕ, ◌||◌, ◌==◌, nat_eq, nat_lt, Bool, true, false, List, [], ◌∷◌, ◌++◌, Option, None, Some, IsSome, is_some, map, ◌&&◌, refl, sym, ap, arith, max, ◌≤◌, if◌then◌else◌}
 use Rattle.std.proofs.lemmas.List.{append-nil}
+use Rattle.std.proofs.lemmas.Bool.{cases_Bool}
 use Rattle.std.proofs.lemmas.Bool.Decides.{nat_tests}
-use Rattle.am_http.specs.Connections.{bytes_of}
 use Rattle.am_world.specs.declared.event.Event.{Event}
 use Rattle.am_world.specs.declared.event.Event.TheVariants.{Open, Bytes, Tick}
-use Rattle.am_world.specs.Local.{blank}
-use Rattle.am_world.specs.Moments.{last_moment, clock_after}
+use Rattle.am_world.specs.declared.event.Refused.{Refused}
+use Rattle.am_world.specs.declared.event.Refused.TheVariants.{MomentRefused}
+use Rattle.am_world.specs.declared.instance.Instance.{Instance}
 use Rattle.am_world.specs.declared.world.World.{World}
+use Rattle.am_world.specs.Moments.{clock_after, last_moment}
 use Rattle.am_world.specs.Outputs.{front_told}
-use Rattle.am_world.specs.Places.{local_in, local_at, up_at, incarnation_at, bytes_at}
-use Rattle.am_world.specs.PrivateCluster.{PrivateCluster, serves, after, after_all, told, told_all, fits, fits_all}
-use Rattle.am_world.specs.Simulation.{Follows, Stands, Kept, Stopped, bytes_read}
-use Rattle.am_world.specs.View.{Reading, Table, look, watch, adds}
+use Rattle.am_world.specs.Places.{IsReadOnce, SameElsewhere, bytes_at, incarnation_at, local_at, roster_of, up_at}
+use Rattle.am_world.specs.PrivateCluster.{Course, PrivateCluster, Ticked, after_all, course, fits_all, told_all, unchanged}
+use Rattle.am_world.specs.Reaction.{output_of}
+use Rattle.am_world.specs.Roster.{IsSameRoster, Roster, roster_after}
+use Rattle.am_world.specs.Simulation.{Follows, IsAsAlone, Kept, Premises, Stands, bytes_read, fault_count, put_out}
+use Rattle.am_world.specs.View.{Reading, Seen, AskedAs, FrontAnswered, Watch, adds, look, watch}
+use Rattle.am_world.proofs.Faults.{incarnations_stay}
+
+pub same_again : (r : Roster) → IsSameRoster r r
+same_again r = record { up = λ i. refl; incarnation = λ i. refl }
+
+pub roster_then : (a b c : Roster) → IsSameRoster a b → IsSameRoster b c → IsSameRoster a c
+roster_then a b c first next = record { up = λ i. first.up i ∙ next.up i; incarnation = λ i. first.incarnation i ∙ next.incarnation i }
 
 -- the new world has of instances, tenants and the clock what the old one has
 pub record SameParts (w w' : World) : Type 0 where
   pub clock : w'.clock ≡ w.clock
-  pub up : w'.instance.up ≡ w.instance.up
-  pub incarnation : w'.instance.incarnation ≡ w.instance.incarnation
-  pub local : (t : List ℕ) → local_in t w'.instance ≡ local_in t w.instance
+  pub roster : IsSameRoster (roster_of w'.instances) (roster_of w.instances)
+  pub local : (t : List ℕ) (i : ℕ) → local_at t i w'.instances ≡ local_at t i w.instances
 
 pub same_itself : (w : World) → SameParts w w
-same_itself w = record { clock = refl; up = refl; incarnation = refl; local = λ t. refl }
-
-pub up_same : (w w' : World) → w'.instance.up ≡ w.instance.up → (i : ℕ) → up_at i w' ≡ up_at i w
-unfolding up_at
-up_same w w' e i = rw e refl
-
-pub incarnation_same : (w w' : World) → w'.instance.incarnation ≡ w.instance.incarnation → (i : ℕ) → incarnation_at i w' ≡ incarnation_at i w
-unfolding incarnation_at
-incarnation_same w w' e i = rw e refl
-
-pub local_same : (t : List ℕ) (w w' : World) → local_in t w'.instance ≡ local_in t w.instance → (i : ℕ) → local_at t i w' ≡ local_at t i w
-unfolding local_at
-local_same t w w' e i = rw e refl
-
--- a stopped instance reads nothing and has nothing, wherever one asks
-pub unread_at : (w : World) → ((c : ℕ) → bytes_of c w.instance.front ≡ None) → (c i : ℕ) → bytes_at c i w ≡ None
-unfolding bytes_at
-unread_at w e c i = elim (serves i) as (λ b. (if b then bytes_of c w.instance.front else None) ≡ None) [ true ↦ e c | false ↦ refl ]
-
-pub lost_at : (w : World) → ((t : List ℕ) → local_in t w.instance ≡ blank) → (t : List ℕ) (i : ℕ) → local_at t i w ≡ blank
-unfolding local_at
-lost_at w e t i = elim (serves i) as (λ b. (if b then local_in t w.instance else blank) ≡ blank) [ true ↦ e t | false ↦ refl ]
-
--- a stopped instance is down wherever one asks
-pub down_at : (w : World) → w.instance.up ≡ false → (i : ℕ) → up_at i w ≡ false
-unfolding up_at
-down_at w e i = elim (serves i) as (λ b. (if b then w.instance.up else false) ≡ false) [ true ↦ e | false ↦ refl ]
-
--- .. for a tenant of whom nothing changed
-pub stands_kept : (t : List ℕ) (w w' : World) (p : PrivateCluster) → w'.clock ≡ w.clock → w'.instance.up ≡ w.instance.up →
-    w'.instance.incarnation ≡ w.instance.incarnation → local_in t w'.instance ≡ local_in t w.instance → Stands t w p → Stands t w' p
-stands_kept t w w' p clock up incarnation local s = record {
-  clock = clock ∙ s.clock;
-  up = λ i. up_same w w' up i ∙ s.up i;
-  incarnation = λ i. incarnation_same w w' incarnation i ∙ s.incarnation i;
-  local = λ i. local_same t w w' local i ∙ s.local i;
-}
+same_itself w = record { clock = refl; roster = same_again (roster_of w.instances); local = λ t i. refl }
 
 pub stands_same : (t : List ℕ) (w w' : World) (p : PrivateCluster) → SameParts w w' → Stands t w p → Stands t w' p
-stands_same t w w' p e s = stands_kept t w w' p e.clock e.up e.incarnation (e.local t) s
+stands_same t w w' p e s = record {
+  tenant = s.tenant;
+  clock = e.clock ∙ s.clock;
+  roster = roster_then _ _ _ e.roster s.roster;
+  local = λ i. e.local t i ∙ s.local i;
+}
 
--- an instance that is up serves
-pub serves_up : (v : Table) (w : World) (i : ℕ) → Follows v w → up_at i w ≡ true → serves i ≡ true
-serves_up v w i f up = sym (f.up i) ∙ up
+-- a connection that the table tells of is read by one instance
+one_of : (i j k : ℕ) (bytes : List ℕ) → IsSome (if i == k then Some bytes else None) → IsSome (if j == k then Some bytes else None) → i ≡ j
+one_of i j k bytes one other = elim (cases_Bool (nat_eq i k)) [
+  | inl h ↦ elim (cases_Bool (nat_eq j k)) [ inl l ↦ grind (arith, nat_tests) | inr l ↦ let never = rw l at other in absurd cc ]
+  | inr h ↦ let never = rw h at one in absurd cc
+]
 
-pub is_first : (i : ℕ) → serves i ≡ true → i ≡ 1
-is_first i e = grind (arith, nat_tests)
+once_read : (s : Option Seen) (i j : ℕ) → IsSome (bytes_read i s) → IsSome (bytes_read j s) → i ≡ j
+once_read None i j one other = absurd cc
+once_read (Some (Reading k bytes)) i j one other = one_of i j k bytes one other
+once_read (Some (AskedAs t)) i j one other = absurd cc
+once_read (Some FrontAnswered) i j one other = absurd cc
 
--- the connection that is opened is read, and every other is as before
-open_reading : (b : Bool) (d j : ℕ) (v : Table) (w w' : World) (i : ℕ) → i ≡ 1 →
-    bytes_of d w'.instance.front ≡ (if b then Some [] else bytes_of d w.instance.front) →
-    bytes_at d j w ≡ bytes_read j (look d v) →
-    (if serves j then bytes_of d w'.instance.front else None) ≡ bytes_read j (if b then Some (Reading i []) else look d v)
-unfolding bytes_at
-open_reading true d j v w w' i first front before = rw (front, first) refl
-open_reading false d j v w w' i first front before = rw front before
+pub read_once : (v : Watch) (w : World) (c : ℕ) → Follows v w → IsReadOnce c w.instances
+read_once v w c f i j one other = once_read (look c v.table) i j (rw (f.reading c i) at one) (rw (f.reading c j) at other)
 
-follows_open : (v : Table) (w w' : World) (c i : ℕ) → up_at i w ≡ true →
-    ((d : ℕ) → bytes_of d w'.instance.front ≡ (if nat_eq d c then Some [] else bytes_of d w.instance.front)) →
-    w'.instance.up ≡ w.instance.up → Follows v w → Follows (watch v (Open c i)) w'
-unfolding watch bytes_at
-follows_open v w w' c i up front same f = rw (serves_up v w i f up) (record {
-  reading = λ d j. open_reading (nat_eq d c) d j v w w' i (is_first i (serves_up v w i f up)) (front d) (f.reading d j);
-  up = λ j. up_same w w' same j ∙ f.up j;
+-- the connection that is opened is read at its instance alone, and every other is as before
+open_reading : (b : Bool) (d i j : ℕ) (v : Watch) (o : Option (List ℕ)) (x : Option (List ℕ)) →
+    x ≡ (if b then (if j == i then Some [] else None) else o) → o ≡ bytes_read j (look d v.table) →
+    x ≡ bytes_read j (if b then Some (Reading i []) else look d v.table)
+open_reading true d i j v o x e h = e
+open_reading false d i j v o x e h = e ∙ h
+
+follows_open : (v : Watch) (w w' : World) (c i : ℕ) → up_at i w.instances ≡ true →
+    (IsReadOnce c w.instances → (d j : ℕ) → bytes_at d j w'.instances ≡ (if d == c then (if j == i then Some [] else None) else bytes_at d j w.instances)) →
+    IsSameRoster (roster_of w'.instances) (roster_of w.instances) → Follows v w → Follows (watch v (Open c i)) w'
+unfolding watch
+follows_open v w w' c i up reading same f = rw (sym (f.roster.up i) ∙ up) (record {
+  reading = λ d j. open_reading (nat_eq d c) d i j v _ _ (reading (read_once v w c f) d j) (f.reading d j);
+  roster = roster_then _ _ _ same f.roster;
 })
 
-pub kept_open : (w w' : World) (c i : ℕ) → up_at i w ≡ true →
-    ((d : ℕ) → bytes_of d w'.instance.front ≡ (if nat_eq d c then Some [] else bytes_of d w.instance.front)) →
-    SameParts w w' → w'.outputs.items ≡ w.outputs.items → Kept w (Open c i) w'
+pub kept_open : (w w' : World) (c i : ℕ) → up_at i w.instances ≡ true →
+    (IsReadOnce c w.instances → (d j : ℕ) → bytes_at d j w'.instances ≡ (if d == c then (if j == i then Some [] else None) else bytes_at d j w.instances)) →
+    SameParts w w' → put_out w' ≡ put_out w → fault_count w' ≡ fault_count w → Kept w (Open c i) w'
 unfolding adds front_told
-kept_open w w' c i up front same outputs = record {
-  follows = λ v f. follows_open v w w' c i up front same.up f;
-  stands = λ t v p f s. stands_same t w w' p same s;
+kept_open w w' c i up reading same outputs faults = record {
+  follows = λ v f. follows_open v w w' c i up reading same.roster f;
   outs = [];
-  appended = outputs ∙ sym (append-nil w.outputs.items);
-  told = λ t v p f s u later. refl;
+  appended = outputs ∙ sym (append-nil (put_out w));
+  tenants = λ t v p given. record { stands = stands_same t w w' p same given.stands; told = λ u later. refl; fits = refl };
   front = λ v f u later. refl;
-  whole = λ v f u later. refl;
-  fits = λ t v p f s. refl;
-  silent = λ d. refl;
-  down = λ d. let never = sym (d.up i) ∙ up in cc;
-  up = up_same w w' same.up;
-  incarnation = incarnation_same w w' same.incarnation;
+  owned = λ v f u later. refl;
+  roster = same.roster;
   clock = same.clock;
+  faults = faults;
 }
 
--- an event that adds nothing to any view, and is no change to the table of any that the world follows
-pub kept_nothing : (w : World) (e : Event) → ((v : Table) → Follows v w → watch v e ≡ v) →
-    ((t : List ℕ) (v : Table) (p : PrivateCluster) → Follows v w → Stands t w p → (after_all p (adds t v e) ≡ p) × (told_all p (adds t v e) ≡ []) × (fits_all p (adds t v e) ≡ true)) →
-    ((v : Table) → Follows v w → front_told v e ≡ []) → w.clock ≡ clock_after e w.clock → Kept w e w
-kept_nothing w e unchanged nothing unsaid clock = record {
+-- an event that adds nothing to any view, and is no change to what is known of any world
+pub kept_nothing : (w : World) (e : Event) → ((v : Watch) → Follows v w → watch v e ≡ v) →
+    ((t : List ℕ) (v : Watch) (p : PrivateCluster) → Premises t v p w e →
+    (after_all p (adds t v e) ≡ p) × (told_all p (adds t v e) ≡ []) × (fits_all p (adds t v e) ≡ true)) →
+    ((v : Watch) → Follows v w → front_told v e ≡ []) → IsSameRoster (roster_of w.instances) (roster_after e (roster_of w.instances)) →
+    w.clock ≡ clock_after e w.clock → Kept w e w
+kept_nothing w e unchanged nothing unsaid roster clock = record {
   follows = λ v f. rw (unchanged v f) f;
-  stands = λ t v p f s. rw ((nothing t v p f s).0) s;
   outs = [];
-  appended = sym (append-nil w.outputs.items);
-  told = λ t v p f s u later. sym ((nothing t v p f s).1);
+  appended = sym (append-nil (put_out w));
+  tenants = λ t v p given. record {
+    stands = rw ((nothing t v p given).0) given.stands;
+    told = λ u later. sym ((nothing t v p given).1);
+    fits = (nothing t v p given).2;
+  };
   front = λ v f u later. sym (unsaid v f);
-  whole = λ v f u later. refl;
-  fits = λ t v p f s. (nothing t v p f s).2;
-  silent = λ d. refl;
-  down = λ d. d;
-  up = λ i. refl;
-  incarnation = λ i. refl;
+  owned = λ v f u later. refl;
+  roster = roster;
   clock = clock;
+  faults = refl;
 }
 
-pub kept_not_up : (w : World) (c i : ℕ) → up_at i w ≡ false → Kept w (Open c i) w
+pub kept_not_up : (w : World) (c i : ℕ) → up_at i w.instances ≡ false → Kept w (Open c i) w
 unfolding watch adds front_told
-kept_not_up w c i down = kept_nothing w (Open c i) (λ v f. rw (sym (f.up i) ∙ down) refl) (λ t v p f s. (refl, refl, refl)) (λ v f. refl) refl
+kept_not_up w c i down = kept_nothing w (Open c i) (λ v f. rw (sym (f.roster.up i) ∙ down) refl) (λ t v p given. (refl, refl, refl)) (λ v f. refl)
+    (same_again (roster_of w.instances)) refl
 
 pub kept_late_bytes : (w : World) (c m : ℕ) (piece : List ℕ) → nat_lt last_moment m ≡ true → Kept w (Bytes c m piece) w
 unfolding watch adds front_told
-kept_late_bytes w c m piece late = kept_nothing w (Bytes c m piece) (λ v f. rw late refl) (λ t v p f s. rw late (refl, refl, refl)) (λ v f. rw late refl) refl
+kept_late_bytes w c m piece late = kept_nothing w (Bytes c m piece) (λ v f. rw late refl) (λ t v p given. rw late (refl, refl, refl)) (λ v f. rw late refl)
+    (same_again (roster_of w.instances)) refl
+
+-- what a tick is to a private cluster
+tick_course : (b : Bool) (p : PrivateCluster) (m : ℕ) → (nat_lt last_moment m || nat_lt m p.clock) ≡ b →
+    course p (Ticked m) ≡ (if b then unchanged p else unchanged (record p { clock = m }))
+unfolding course
+tick_course true p m e =
+    ap (λ b. if is_some (let o : Option Refused = if b then Some MomentRefused else None in o) then unchanged p else unchanged (record p { clock = m })) e
+tick_course false p m e =
+    ap (λ b. if is_some (let o : Option Refused = if b then Some MomentRefused else None in o) then unchanged p else unchanged (record p { clock = m })) e
 
 -- a tick that is refused changes no private cluster either
 pub kept_refused_tick : (w : World) (m : ℕ) → (nat_lt last_moment m || nat_lt m w.clock) ≡ true → Kept w (Tick m) w
-unfolding watch adds after told fits front_told
-kept_refused_tick w m refused = kept_nothing w (Tick m) (λ v f. refl) (λ t v p f s. (rw (← s.clock, refused) refl, refl, refl)) (λ v f. refl) (rw refused refl)
-
--- a fault after steps that kept clock, outputs, faults and incarnation is one from before them
-pub stopped_after : (w mid w' : World) → mid.faults ≡ w.faults → mid.outputs.items ≡ w.outputs.items → mid.clock ≡ w.clock →
-    mid.instance.incarnation ≡ w.instance.incarnation → Stopped mid w' → Stopped w w'
-stopped_after w mid w' faults outputs clock incarnation f = record {
-  counted = rw (← faults) f.counted;
-  down = f.down;
-  incarnation = λ i. f.incarnation i ∙ incarnation_same w mid incarnation i;
-  outputs = f.outputs ∙ outputs;
-  clock = f.clock ∙ clock;
-}
+unfolding watch adds front_told
+kept_refused_tick w m refused = kept_nothing w (Tick m) (λ v f. refl)
+    (λ t v p given.
+    let same : course p (Ticked m) ≡ unchanged p = tick_course true p m (rw (← given.stands.clock) refused) in
+    (ap (λ (q : Course). q.cluster) same, ap (λ (q : Course). map (output_of p.tenant) q.said ++ []) same, ap (λ (q : Course). q.fits && true) same))
+    (λ v f. refl) (same_again (roster_of w.instances)) (rw refused refl)
 
 -- the later of two moments
 pub max_later : (m clock : ℕ) → clock ≤ m → max m clock ≡ m
 max_later m clock h = omega arith
 
-pub kept_tick : (w w' : World) (m : ℕ) → (nat_lt last_moment m || nat_lt m w.clock) ≡ false → w'.clock ≡ m → w'.instance ≡ w.instance →
-    w'.outputs.items ≡ w.outputs.items → Kept w (Tick m) w'
-unfolding watch adds after told fits front_told bytes_at up_at incarnation_at local_at
-kept_tick w w' m allowed clock instance outputs = record {
-  follows = λ v f. record { reading = rw instance f.reading; up = rw instance f.up };
-  stands = λ t v p f s. rw (← s.clock, allowed) (record { clock = clock; up = rw instance s.up; incarnation = rw instance s.incarnation; local = rw instance s.local });
+pub kept_tick : (w w' : World) (m : ℕ) → (nat_lt last_moment m || nat_lt m w.clock) ≡ false → w'.clock ≡ m → w'.instances ≡ w.instances →
+    put_out w' ≡ put_out w → fault_count w' ≡ fault_count w → Kept w (Tick m) w'
+unfolding watch adds front_told
+kept_tick w w' m allowed clock instances outputs faults = record {
+  follows = λ v f. record { reading = rw instances f.reading; roster = rw instances f.roster };
   outs = [];
-  appended = outputs ∙ sym (append-nil w.outputs.items);
-  told = λ t v p f s u later. refl;
+  appended = outputs ∙ sym (append-nil (put_out w));
+  tenants = λ t v p given.
+      let ticked : course p (Ticked m) ≡ unchanged (record p { clock = m }) = tick_course false p m (rw (← given.stands.clock) allowed) in
+      record {
+        stands = rw (ap (λ (q : Course). q.cluster) ticked)
+            (record { tenant = given.stands.tenant; clock = clock; roster = rw instances given.stands.roster; local = rw instances given.stands.local });
+        told = λ u later. sym (ap (λ (q : Course). map (output_of p.tenant) q.said ++ []) ticked);
+        fits = ap (λ (q : Course). q.fits && true) ticked;
+      };
   front = λ v f u later. refl;
-  whole = λ v f u later. refl;
-  fits = λ t v p f s. refl;
-  silent = λ d. refl;
-  down = λ d. record { up = rw instance d.up; unread = rw instance d.unread; lost = rw instance d.lost };
-  up = λ i. rw instance refl;
-  incarnation = λ i. rw instance refl;
+  owned = λ v f u later. refl;
+  roster = rw instances (same_again (roster_of w.instances));
   clock = rw allowed clock;
+  faults = faults;
 }
+
+pub itself : (n : ℕ) → nat_eq n n ≡ true
+itself n = grind (arith, nat_tests)
+
+-- an instance that stops after a step that kept the roster has its incarnation, as all others have
+pub incarnation_all : (i : ℕ) (xs ys zs : List Instance) → IsSameRoster (roster_of ys) (roster_of xs) → incarnation_at i zs ≡ incarnation_at i ys →
+    SameElsewhere i ys zs → (j : ℕ) → incarnation_at j zs ≡ incarnation_at j xs
+incarnation_all i xs ys zs roster here others j = incarnations_stay i ys zs here others j ∙ roster.incarnation j

@@ -1,145 +1,165 @@
 -- bytes keep the simulation, whatever their verdict
-use Rattle.std.proofs.Common.{◌≡◌, inl, inr, ◌∙◌, ℕ, nat_lt, Bool, true, false, is_some, List, [], ◌∷◌, ◌++◌, Option, None, Some, refl, sym, ap, arith, if◌then◌else◌, nat_eq}
+use Rattle.std.proofs.Common.{◌≡◌, inl, inr, ◌∙◌, ℕ, ◌==◌, ◌&&◌, nat_lt, Bool, true, false, is_some, List, [], ◌∷◌, ◌++◌, Option, None, Some, refl, sym, ap, arith, if◌then◌else◌, nat_eq, filter}
 use Rattle.std.proofs.lemmas.List.{append-nil, append_assoc}
 use Rattle.std.proofs.lemmas.Bool.{cases_Bool}
 use Rattle.std.proofs.lemmas.Bool.Decides.{nat_tests}
+use Rattle.std.specs.List.{list_all}
 use Rattle.am_item.proofs.BestLaws.{best-push}
-use Rattle.am_http.specs.Connections.{bytes_of, left_open}
+use Rattle.am_http.specs.Connections.{left_open}
 use Rattle.am_http.specs.Verdict.{verdict}
 use Rattle.am_http.specs.declared.request.Fed.{Fed}
 use Rattle.am_http.specs.declared.request.Fed.TheVariants as fed
 use Rattle.am_http.specs.declared.request.Request.{Request}
 use Rattle.am_item.specs.declared.item.Item.{Item}
-use Rattle.am_item.specs.Best.{best}
 use Rattle.am_tenant.specs.Names.{same}
 use Rattle.am_tenant.proofs.Same.{same_tells}
 use Rattle.am_world.specs.declared.event.Event.TheVariants.{Bytes}
+use Rattle.am_world.specs.declared.event.Output.{Output}
 use Rattle.am_world.specs.declared.event.Output.TheVariants.{Reply}
-use Rattle.am_world.specs.Moments.{effective, last_moment}
+use Rattle.am_world.specs.declared.instance.Instance.{Instance}
 use Rattle.am_world.specs.declared.world.World.{World}
-use Rattle.am_world.specs.Happening.{Asked}
-use Rattle.am_world.specs.Local.{Local, blank, all_joined, joined_by, decision_at, reply_at, fits_at, local_after, reply_by, fits_by, local_by}
-use Rattle.am_world.specs.Outputs.{is_of_front, is_of_somebody, front_outputs, front_told, refused_by, refused_on, belongs, outputs_of}
-use Rattle.am_world.specs.Places.{local_in, local_at, incarnation_at, bytes_at}
-use Rattle.std.specs.List.{list_all}
-use Rattle.am_world.specs.PrivateCluster.{Accepted, PrivateInstance, PrivateCluster, serves, items_in, accepted_at, local_of, own_after, after, after_all, told, told_all, fits, fits_all}
-use Rattle.am_world.specs.Simulation.{Follows, Stands, Kept, Later, bytes_read}
-use Rattle.am_world.specs.Taking.{Takes, outs_by}
-use Rattle.am_world.specs.View.{Seen, Reading, AskedAs, TurnedAway, Table, look, watch, adds, noted, asked_by, asked_on, seen_as}
-use Rattle.am_world.proofs.Kept.{up_same, incarnation_same, stands_kept, kept_nothing}
-
-nat_eq_itself : (n : ℕ) → nat_eq n n ≡ true
-nat_eq_itself n = grind (arith, nat_tests)
+use Rattle.am_world.specs.Moments.{effective, last_moment}
+use Rattle.am_world.specs.Outputs.{answered_by, answered_on, are_owned, front_outputs, front_told, is_front, is_tenant, outputs_of, owner}
+use Rattle.am_world.specs.Places.{SameElsewhere, bytes_at, bytes_where, here_in, incarnation_at, incarnation_where, instance_at, local_at, local_where, roster_of, up_at, up_where}
+use Rattle.am_world.specs.PrivateCluster.{Accepted, Asked, Course, PrivateCluster, PrivateInstance, accepted_at, after, after_all, course, fits_all, here_at, items_in, local_of, own_after, told, told_all}
+use Rattle.am_item.specs.Best.{all_joined, best}
+use Rattle.am_world.specs.Reaction.{Brought, Here, Local, Reaction, asked, brought, local_after, outputs_said}
+use Rattle.am_world.specs.Roster.{IsSameRoster, put_at}
+use Rattle.am_world.specs.Simulation.{Follows, IsAsAlone, Kept, Later, Premises, Stands, bytes_read, fault_count, put_out}
+use Rattle.am_world.specs.Taking.{Takes, taken_at}
+use Rattle.am_world.specs.View.{AskedAs, FrontAnswered, Reading, Seen, Table, Watch, adds, asked_by, asked_on, look, noted, seen_as, watch}
+use Rattle.am_world.proofs.Kept.{SameParts, itself, kept_nothing, roster_then, same_again, stands_same}
 
 -- ---- what is read
 
--- what the first instance reads is read there in each table that the world follows
-read_by_first : (i : ℕ) (before bytes : List ℕ) → Some bytes ≡ (if nat_eq 1 i then Some before else None) → Some (Reading i before) ≡ Some (Reading 1 bytes)
-read_by_first i before bytes e = elim (cases_Bool (nat_eq 1 i)) [
-  | inl h ↦ let first : i ≡ 1 = grind (arith, nat_tests) in let same_bytes = rw h at e in cc
+-- what an instance reads is read there in each table that the world follows
+read_there : (n i : ℕ) (before bytes : List ℕ) → Some bytes ≡ (if nat_eq n i then Some before else None) → Some (Reading i before) ≡ Some (Reading n bytes)
+read_there n i before bytes e = elim (cases_Bool (nat_eq n i)) [
+  | inl h ↦ let number : i ≡ n = grind (arith, nat_tests) in let same_bytes = rw h at e in cc
   | inr h ↦ let never = rw h at e in cc
 ]
 
-reading_first : (s : Option Seen) (bytes : List ℕ) → Some bytes ≡ bytes_read 1 s → s ≡ Some (Reading 1 bytes)
-reading_first None bytes e = cc
-reading_first (Some (Reading i before)) bytes e = read_by_first i before bytes e
-reading_first (Some (AskedAs tenant)) bytes e = cc
-reading_first (Some TurnedAway) bytes e = cc
+reading_there : (n : ℕ) (s : Option Seen) (bytes : List ℕ) → Some bytes ≡ bytes_read n s → s ≡ Some (Reading n bytes)
+reading_there n None bytes e = cc
+reading_there n (Some (Reading i before)) bytes e = read_there n i before bytes e
+reading_there n (Some (AskedAs tenant)) bytes e = cc
+reading_there n (Some FrontAnswered) bytes e = cc
 
-pub seen_reading : (v : Table) (w : World) (c : ℕ) (before : List ℕ) → Follows v w → bytes_of c w.instance.front ≡ Some before → look c v ≡ Some (Reading 1 before)
-unfolding bytes_at
-seen_reading v w c before f here = reading_first (look c v) before (sym here ∙ f.reading c 1)
+seen_reading : (v : Watch) (w : World) (n c : ℕ) (before : List ℕ) → Follows v w → bytes_at c n w.instances ≡ Some before → look c v.table ≡ Some (Reading n before)
+seen_reading v w n c before f here = reading_there n (look c v.table) before (sym here ∙ f.reading c n)
 
 -- a connection that no instance reads takes no piece
 read_itself : (i : ℕ) (before : List ℕ) → (if nat_eq i i then Some before else None) ≡ None → ⊥
-read_itself i before e = let never = rw (nat_eq_itself i) at e in cc
+read_itself i before e = let never = rw (itself i) at e in cc
 
 noted_unread : (s : Option Seen) (c : ℕ) (piece : List ℕ) (v : Table) → ((i : ℕ) → bytes_read i s ≡ None) → noted c piece s v ≡ v
 noted_unread None c piece v unread = refl
 noted_unread (Some (Reading i before)) c piece v unread = absurd (read_itself i before (unread i))
 noted_unread (Some (AskedAs tenant)) c piece v unread = refl
-noted_unread (Some TurnedAway) c piece v unread = refl
+noted_unread (Some FrontAnswered) c piece v unread = refl
 
 asked_unread : (s : Option Seen) (t : List ℕ) (c m : ℕ) (piece : List ℕ) → ((i : ℕ) → bytes_read i s ≡ None) → asked_on t c m piece s ≡ []
 asked_unread None t c m piece unread = refl
 asked_unread (Some (Reading i before)) t c m piece unread = absurd (read_itself i before (unread i))
 asked_unread (Some (AskedAs tenant)) t c m piece unread = refl
-asked_unread (Some TurnedAway) t c m piece unread = refl
+asked_unread (Some FrontAnswered) t c m piece unread = refl
 
-unread_anywhere : (v : Table) (w : World) (c : ℕ) → Follows v w → bytes_of c w.instance.front ≡ None → (i : ℕ) → bytes_read i (look c v) ≡ None
-unfolding bytes_at
-unread_anywhere v w c f unread i = sym (f.reading c i) ∙ elim (serves i) as (λ b. (if b then bytes_of c w.instance.front else None) ≡ None) [ true ↦ unread | false ↦ refl ]
+answered_unread : (s : Option Seen) (c : ℕ) (piece : List ℕ) → ((i : ℕ) → bytes_read i s ≡ None) → answered_on c piece s ≡ []
+answered_unread None c piece unread = refl
+answered_unread (Some (Reading i before)) c piece unread = absurd (read_itself i before (unread i))
+answered_unread (Some (AskedAs tenant)) c piece unread = refl
+answered_unread (Some FrontAnswered) c piece unread = refl
 
-pub none_where : (o : Option (List ℕ)) → false ≡ is_some o → o ≡ None
-none_where None e = refl
-none_where (Some x) e = cc
-
-pub some_where : (o : Option (List ℕ)) → true ≡ is_some o → (before : List ℕ) × (o ≡ Some before)
-some_where None e = cc
-some_where (Some x) e = (x, refl)
+unread_anywhere : (v : Watch) (w : World) (c : ℕ) → Follows v w → ((i : ℕ) → bytes_at c i w.instances ≡ None) → (i : ℕ) → bytes_read i (look c v.table) ≡ None
+unread_anywhere v w c f unread i = sym (f.reading c i) ∙ unread i
 
 -- ---- bytes that are refused
 
-refused_watch : (v : Table) (w : World) (c m : ℕ) (piece : List ℕ) → bytes_of c w.instance.front ≡ None → Follows v w → watch v (Bytes c m piece) ≡ v
+table_unread : (v : Watch) (w : World) (c m : ℕ) (piece : List ℕ) → ((i : ℕ) → bytes_at c i w.instances ≡ None) → Follows v w →
+    (if nat_lt last_moment m then v.table else noted c piece (look c v.table) v.table) ≡ v.table
+table_unread v w c m piece unread f = elim (nat_lt last_moment m) as (λ b. (if b then v.table else noted c piece (look c v.table) v.table) ≡ v.table) [
+  | true ↦ refl
+  | false ↦ noted_unread (look c v.table) c piece v.table (unread_anywhere v w c f unread)
+]
+
+watch_unread : (v : Watch) (w : World) (c m : ℕ) (piece : List ℕ) → ((i : ℕ) → bytes_at c i w.instances ≡ None) → Follows v w → watch v (Bytes c m piece) ≡ v
 unfolding watch
-refused_watch v w c m piece unread f = elim (nat_lt last_moment m) as (λ b. (if b then v else noted c piece (look c v) v) ≡ v) [
-  | true ↦ refl
-  | false ↦ noted_unread (look c v) c piece v (unread_anywhere v w c f unread)
-]
+watch_unread v w c m piece unread f = ap (λ table. (let u : Watch = record { table = table; roster = v.roster } in u)) (table_unread v w c m piece unread f)
 
-refused_adds : (t : List ℕ) (v : Table) (w : World) (c m : ℕ) (piece : List ℕ) → bytes_of c w.instance.front ≡ None → Follows v w → adds t v (Bytes c m piece) ≡ []
+adds_unread : (t : List ℕ) (v : Watch) (w : World) (c m : ℕ) (piece : List ℕ) → ((i : ℕ) → bytes_at c i w.instances ≡ None) → Follows v w → adds t v (Bytes c m piece) ≡ []
 unfolding adds
-refused_adds t v w c m piece unread f = elim (nat_lt last_moment m) as (λ b. (if b then [] else asked_on t c m piece (look c v)) ≡ []) [
+adds_unread t v w c m piece unread f = elim (nat_lt last_moment m) as (λ b. (if b then [] else asked_on t c m piece (look c v.table)) ≡ []) [
   | true ↦ refl
-  | false ↦ asked_unread (look c v) t c m piece (unread_anywhere v w c f unread)
+  | false ↦ asked_unread (look c v.table) t c m piece (unread_anywhere v w c f unread)
 ]
 
-refused_unread : (s : Option Seen) (c : ℕ) (piece : List ℕ) → ((i : ℕ) → bytes_read i s ≡ None) → refused_on c piece s ≡ []
-refused_unread None c piece unread = refl
-refused_unread (Some (Reading i before)) c piece unread = absurd (read_itself i before (unread i))
-refused_unread (Some (AskedAs tenant)) c piece unread = refl
-refused_unread (Some TurnedAway) c piece unread = refl
-
-refused_front : (v : Table) (w : World) (c m : ℕ) (piece : List ℕ) → bytes_of c w.instance.front ≡ None → Follows v w → front_told v (Bytes c m piece) ≡ []
+front_unread : (v : Watch) (w : World) (c m : ℕ) (piece : List ℕ) → ((i : ℕ) → bytes_at c i w.instances ≡ None) → Follows v w → front_told v (Bytes c m piece) ≡ []
 unfolding front_told
-refused_front v w c m piece unread f = elim (nat_lt last_moment m) as (λ b. (if b then [] else refused_on c piece (look c v)) ≡ []) [
+front_unread v w c m piece unread f = elim (nat_lt last_moment m) as (λ b. (if b then [] else answered_on c piece (look c v.table)) ≡ []) [
   | true ↦ refl
-  | false ↦ refused_unread (look c v) c piece (unread_anywhere v w c f unread)
+  | false ↦ answered_unread (look c v.table) c piece (unread_anywhere v w c f unread)
 ]
 
-pub kept_unread_bytes : (w : World) (c m : ℕ) (piece : List ℕ) → bytes_of c w.instance.front ≡ None → Kept w (Bytes c m piece) w
+pub kept_unread_bytes : (w : World) (c m : ℕ) (piece : List ℕ) → ((i : ℕ) → bytes_at c i w.instances ≡ None) → Kept w (Bytes c m piece) w
 kept_unread_bytes w c m piece unread = kept_nothing w (Bytes c m piece)
-    (λ v f. refused_watch v w c m piece unread f)
-    (λ t v p f s. rw (refused_adds t v w c m piece unread f) (refl, refl, refl))
-    (λ v f. refused_front v w c m piece unread f)
+    (λ v f. watch_unread v w c m piece unread f)
+    (λ t v p given. rw (adds_unread t v w c m piece unread given.follows) (refl, refl, refl))
+    (λ v f. front_unread v w c m piece unread f)
+    (same_again (roster_of w.instances))
     refl
 
 -- ---- bytes that are taken
 
 -- the table and the view, by the verdict
-sees : (v : Table) (w : World) (c m : ℕ) (before piece : List ℕ) → nat_lt last_moment m ≡ false → bytes_of c w.instance.front ≡ Some before → Follows v w →
-    watch v (Bytes c m piece) ≡ (c, seen_as 1 (before ++ piece) (verdict (before ++ piece))) ∷ v
+sees : (v : Watch) (w : World) (n c m : ℕ) (before piece : List ℕ) → nat_lt last_moment m ≡ false → bytes_at c n w.instances ≡ Some before → Follows v w →
+    watch v (Bytes c m piece) ≡ record { table = (c, seen_as n (before ++ piece) (verdict (before ++ piece))) ∷ v.table; roster = v.roster }
 unfolding watch
-sees v w c m before piece allowed here f = rw (allowed, seen_reading v w c before f here) refl
+sees v w n c m before piece allowed here f = rw (allowed, seen_reading v w n c before f here) refl
 
-gives : (t : List ℕ) (v : Table) (w : World) (c m : ℕ) (before piece : List ℕ) → nat_lt last_moment m ≡ false → bytes_of c w.instance.front ≡ Some before → Follows v w →
-    adds t v (Bytes c m piece) ≡ asked_by t c 1 m (verdict (before ++ piece))
+gives : (t : List ℕ) (v : Watch) (w : World) (n c m : ℕ) (before piece : List ℕ) → nat_lt last_moment m ≡ false → bytes_at c n w.instances ≡ Some before → Follows v w →
+    adds t v (Bytes c m piece) ≡ asked_by t c n m (verdict (before ++ piece))
 unfolding adds
-gives t v w c m before piece allowed here f = rw (allowed, seen_reading v w c before f here) refl
+gives t v w n c m before piece allowed here f = rw (allowed, seen_reading v w n c before f here) refl
 
-says : (v : Table) (w : World) (c m : ℕ) (before piece : List ℕ) → nat_lt last_moment m ≡ false → bytes_of c w.instance.front ≡ Some before → Follows v w →
-    front_told v (Bytes c m piece) ≡ refused_by c (verdict (before ++ piece))
+says : (v : Watch) (w : World) (n c m : ℕ) (before piece : List ℕ) → nat_lt last_moment m ≡ false → bytes_at c n w.instances ≡ Some before → Follows v w →
+    front_told v (Bytes c m piece) ≡ answered_by c (verdict (before ++ piece))
 unfolding front_told
-says v w c m before piece allowed here f = rw (allowed, seen_reading v w c before f here) refl
+says v w n c m before piece allowed here f = rw (allowed, seen_reading v w n c before f here) refl
 
--- a decided connection is read no more, and every other is as before
-bytes_reading : (b : Bool) (told : Fed) (bytes : List ℕ) (j : ℕ) (x y : Option (List ℕ)) (s : Option Seen) →
-    x ≡ (if b then left_open told bytes else y) → (if serves j then y else None) ≡ bytes_read j s →
-    (if serves j then x else None) ≡ bytes_read j (if b then Some (seen_as 1 bytes told) else s)
-bytes_reading true fed.Waits bytes j x y s e h = rw e refl
-bytes_reading true (fed.Refused fault) bytes j x y s e h = rw e (elim (serves j) as (λ b. (if b then None else None) ≡ (let o : Option (List ℕ) = None in o)) [ true ↦ refl | false ↦ refl ])
-bytes_reading true (fed.Request request) bytes j x y s e h = rw e (elim (serves j) as (λ b. (if b then None else None) ≡ (let o : Option (List ℕ) = None in o)) [ true ↦ refl | false ↦ refl ])
-bytes_reading false told bytes j x y s e h = rw e h
+-- a decided connection is read no more
+left_reading : (told : Fed) (n : ℕ) (bytes : List ℕ) → left_open told bytes ≡ bytes_read n (Some (seen_as n bytes told))
+left_reading fed.Waits n bytes = rw (itself n) refl
+left_reading (fed.Refused reason) n bytes = refl
+left_reading fed.Ready n bytes = refl
+left_reading (fed.Request request) n bytes = refl
+
+-- .. nor elsewhere
+left_elsewhere : (told : Fed) (n j : ℕ) (bytes : List ℕ) → nat_eq j n ≡ false → None ≡ bytes_read j (Some (seen_as n bytes told))
+left_elsewhere fed.Waits n j bytes other = rw other refl
+left_elsewhere (fed.Refused reason) n j bytes other = refl
+left_elsewhere fed.Ready n j bytes other = refl
+left_elsewhere (fed.Request request) n j bytes other = refl
+
+same_bytes : (d j : ℕ) (xs ys : List Instance) → instance_at j ys ≡ instance_at j xs → bytes_at d j ys ≡ bytes_at d j xs
+unfolding bytes_at
+same_bytes d j xs ys e = ap (bytes_where d) e
+
+-- the table of the connections after the piece
+reading_after : (told : Fed) (n c : ℕ) (v : Watch) (before bytes : List ℕ) (xs ys : List Instance) →
+    ((d i : ℕ) → bytes_at d i xs ≡ bytes_read i (look d v.table)) → look c v.table ≡ Some (Reading n before) →
+    ((d : ℕ) → bytes_at d n ys ≡ (if d == c then left_open told bytes else bytes_at d n xs)) → SameElsewhere n xs ys →
+    (d j : ℕ) → bytes_at d j ys ≡ bytes_read j (look d ((c, seen_as n bytes told) ∷ v.table))
+reading_after told n c v before bytes xs ys reading seen here others d j = elim (cases_Bool (nat_eq j n)) [
+  | inl h ↦
+      let number : j ≡ n = grind (arith, nat_tests) in
+      rw number (here d ∙ elim (cases_Bool (nat_eq d c)) [ inl k ↦ rw k (left_reading told n bytes) | inr k ↦ rw k (reading d n) ])
+  | inr h ↦ same_bytes d j xs ys (others j h) ∙ reading d j ∙ elim (cases_Bool (nat_eq d c)) [
+    | inl k ↦
+        let name : d ≡ c = grind (arith, nat_tests) in
+        rw k (ap (λ e. bytes_read j (look e v.table)) name ∙ rw (seen, h) (left_elsewhere told n j bytes h))
+    | inr k ↦ rw k refl
+  ]
+]
 
 -- ---- the private instance
 
@@ -156,140 +176,232 @@ best-all_joined xs [] = ap best (append-nil xs)
 best-all_joined xs (y ∷ ys) =
     ap best (sym (append_assoc xs (y ∷ []) ys)) ∙ best-all_joined (xs ++ y ∷ []) ys ∙ ap (λ held. all_joined held ys) (best-push xs y)
 
-local_of-own_after : (i incarnation m : ℕ) (r : Request) (own : PrivateInstance) →
-    local_of (own_after i incarnation m r own) ≡ local_after i incarnation m r (local_of own)
-unfolding local_after joined_by
-local_of-own_after i incarnation m r own =
-    let items = (decision_at i incarnation m r (local_of own)).items in
-    rw (items-append own.accepted (accepted_at m items), items-accepted_at m items, best-all_joined (items_in own.accepted) items) refl
+-- what an instance has after a reaction is what the private one has
+pub local_of-own_after : (m : ℕ) (reaction : Reaction) (own : PrivateInstance) → local_of (own_after m reaction own) ≡ local_after reaction (local_of own)
+unfolding local_after
+local_of-own_after m reaction own =
+    rw (
+      items-append own.accepted (accepted_at m reaction.accepts),
+      items-accepted_at m reaction.accepts,
+      best-all_joined (items_in own.accepted) reaction.accepts,
+    ) refl
 
 -- ---- what stands afterwards
 
--- the tenant that asked: its instance has what the private one has
-asked_local : (b : Bool) (x y z : Local) (own own' : PrivateInstance) → y ≡ local_of own' →
-    (if b then x else z) ≡ local_of own → (if b then y else z) ≡ local_of (if b then own' else own)
-asked_local true x y z own own' e h = e
-asked_local false x y z own own' e h = h
+-- of the tenant, the world at every place has what these local parts say
+pub record Reacts (t : List ℕ) (n : ℕ) (w w' : World) (reaction : Reaction) : Type 0 where
+  pub here : local_at t n w'.instances ≡ local_after reaction (local_at t n w.instances)
+  pub others : (j : ℕ) → nat_eq j n ≡ false → local_at t j w'.instances ≡ local_at t j w.instances
+  pub clock : w'.clock ≡ w.clock
+  pub roster : IsSameRoster (roster_of w'.instances) (roster_of w.instances)
 
-stands_asked : (t : List ℕ) (w w' : World) (p : PrivateCluster) (c m : ℕ) (r : Request) → w'.clock ≡ w.clock → w'.instance.up ≡ w.instance.up →
-    w'.instance.incarnation ≡ w.instance.incarnation →
-    local_in t w'.instance ≡ local_after 1 w.instance.incarnation (effective m w.clock) r (local_in t w.instance) →
-    Stands t w p → Stands t w' (after p (Asked c 1 m r))
-unfolding after local_at incarnation_at
-stands_asked t w w' p c m r clock up incarnation local s =
-    let here : local_in t w.instance ≡ local_of (p.at 1) = s.local 1 in
-    let life : w.instance.incarnation ≡ p.incarnation 1 = s.incarnation 1 in
-    let after_here : local_in t w'.instance ≡ local_of (own_after 1 (p.incarnation 1) (effective m p.clock) r (p.at 1)) =
-    local ∙ rw (here, life, s.clock) (sym (local_of-own_after 1 (p.incarnation 1) (effective m p.clock) r (p.at 1))) in
-    record {
-      clock = clock ∙ s.clock;
-      up = λ i. up_same w w' up i ∙ s.up i;
-      incarnation = λ i. incarnation_same w w' incarnation i ∙ s.incarnation i;
-      local = λ i. asked_local (serves i) (local_in t w.instance) (local_in t w'.instance) blank (p.at i) _ after_here (s.local i);
-    }
+stands_reacts : (t : List ℕ) (n m : ℕ) (w w' : World) (p : PrivateCluster) (reaction : Reaction) → Reacts t n w w' reaction → Stands t w p →
+    Stands t w' (record p { at = put_at p.at n (own_after m reaction (p.at n)) })
+stands_reacts t n m w w' p reaction r s = record {
+  tenant = s.tenant;
+  clock = r.clock ∙ s.clock;
+  roster = roster_then _ _ _ r.roster s.roster;
+  local = λ j. elim (cases_Bool (nat_eq j n)) [
+    | inl h ↦
+        let number : j ≡ n = grind (arith, nat_tests) in
+        rw h (ap (λ k. local_at t k w'.instances) number ∙ r.here ∙ ap (local_after reaction) (s.local n) ∙ sym (local_of-own_after m reaction (p.at n)))
+    | inr h ↦ rw h (r.others j h ∙ s.local j)
+  ];
+}
 
-stands_bytes : (told : Fed) (t : List ℕ) (w w' : World) (p : PrivateCluster) (c m : ℕ) → w'.clock ≡ w.clock → w'.instance.up ≡ w.instance.up →
-    w'.instance.incarnation ≡ w.instance.incarnation →
-    local_in t w'.instance ≡ local_by told t 1 w.instance.incarnation (effective m w.clock) (local_in t w.instance) →
-    Stands t w p → Stands t w' (after_all p (asked_by t c 1 m told))
-stands_bytes fed.Waits t w w' p c m clock up incarnation local s = stands_kept t w w' p clock up incarnation local s
-stands_bytes (fed.Refused fault) t w w' p c m clock up incarnation local s = stands_kept t w w' p clock up incarnation local s
-stands_bytes (fed.Request r) t w w' p c m clock up incarnation local s =
-    elim (same t r.tenant) as (λ b. local_in t w'.instance ≡ (if b then local_after 1 w.instance.incarnation (effective m w.clock) r (local_in t w.instance) else local_in t w.instance) →
-    Stands t w' (after_all p (if b then Asked c 1 m r ∷ [] else []))) [
-      | true ↦ λ e. stands_asked t w w' p c m r clock up incarnation e s
-      | false ↦ λ e. stands_kept t w w' p clock up incarnation e s
-    ] local
+-- the private cluster's reaction is that of what the world has
+here_same : (t : List ℕ) (n m : ℕ) (w : World) (p : PrivateCluster) → Stands t w p → here_at p (effective m p.clock) n ≡ here_in (effective m w.clock) n w.instances
+here_same t n m w p s = rw (← s.clock) (ap (λ k. (let h : Here = record { instance = n; incarnation = k; moment = effective m w.clock } in h)) (sym (s.roster.incarnation n)))
 
--- ---- what is told
+-- a request of the tenant, on the world and on its cluster
+asked_course : (t : List ℕ) (n c m : ℕ) (r : Request) (w : World) (p : PrivateCluster) → Stands t w p →
+    course p (Asked c n m r) ≡
+    (let reaction : Reaction = asked (here_in (effective m w.clock) n w.instances) c r (local_at t n w.instances) in
+    record { cluster = record p { at = put_at p.at n (own_after (effective m p.clock) reaction (p.at n)) }; said = reaction.said; fits = reaction.fits })
+unfolding course
+asked_course t n c m r w p s = rw (← here_same t n m w p s, s.local n) refl
 
-look_here : (c : ℕ) (s : Seen) (v : Table) → look c ((c, s) ∷ v) ≡ Some s
-look_here c s v = rw (nat_eq_itself c) refl
+-- a tenant of whom nothing changed
+stands_kept : (t : List ℕ) (w w' : World) (p : PrivateCluster) → w'.clock ≡ w.clock → IsSameRoster (roster_of w'.instances) (roster_of w.instances) →
+    ((j : ℕ) → local_at t j w'.instances ≡ local_at t j w.instances) → Stands t w p → Stands t w' p
+stands_kept t w w' p clock roster local s = record {
+  tenant = s.tenant;
+  clock = clock ∙ s.clock;
+  roster = roster_then _ _ _ roster s.roster;
+  local = λ j. local j ∙ s.local j;
+}
 
-told_asked : (t : List ℕ) (w : World) (p : PrivateCluster) (c m : ℕ) (r : Request) (u : Table) → Stands t w p → look c u ≡ Some (AskedAs r.tenant) →
-    outputs_of t u (Reply c (reply_at 1 w.instance.incarnation (effective m w.clock) r (local_in r.tenant w.instance)) ∷ []) ≡
-    told_all p (if same t r.tenant then Asked c 1 m r ∷ [] else [])
-unfolding belongs told local_at incarnation_at
-told_asked t w p c m r u s owner =
-    let here : local_in t w.instance ≡ local_of (p.at 1) = s.local 1 in
-    let life : w.instance.incarnation ≡ p.incarnation 1 = s.incarnation 1 in
-    rw owner (elim (same_tells t r.tenant) [
-      | inl e ↦ rw (e.0, ← e.1, here, life, s.clock) refl
-      | inr e ↦ rw (e.0) refl
-    ])
+local_everywhere : (t : List ℕ) (n : ℕ) (xs ys : List Instance) → local_at t n ys ≡ local_at t n xs → SameElsewhere n xs ys → (j : ℕ) → local_at t j ys ≡ local_at t j xs
+unfolding local_at
+local_everywhere t n xs ys here others j = elim (cases_Bool (nat_eq j n)) [
+  | inl h ↦ let number : j ≡ n = grind (arith, nat_tests) in ap (λ k. local_at t k ys) number ∙ here ∙ ap (λ k. local_at t k xs) (sym number)
+  | inr h ↦ ap (local_where t) (others j h)
+]
 
-told_bytes : (told : Fed) (t : List ℕ) (w : World) (p : PrivateCluster) (c m : ℕ) (bytes : List ℕ) (v u : Table) → Stands t w p →
-    Later ((c, seen_as 1 bytes told) ∷ v) u →
-    outputs_of t u (outs_by c (reply_by told 1 w.instance.incarnation (effective m w.clock) (λ s. local_in s w.instance))) ≡ told_all p (asked_by t c 1 m told)
-unfolding belongs
-told_bytes fed.Waits t w p c m bytes v u s later = refl
-told_bytes (fed.Refused fault) t w p c m bytes v u s later = rw (later.away c (look_here c TurnedAway v)) refl
-told_bytes (fed.Request r) t w p c m bytes v u s later = told_asked t w p c m r u s (later.asked c r.tenant (look_here c (AskedAs r.tenant) v))
+look_here : (c : ℕ) (s : Seen) (table : Table) → look c ((c, s) ∷ table) ≡ Some s
+look_here c s table = rw (itself c) refl
 
--- ---- counts
+-- an output on a connection belongs to who asked or answered on it
+not_of_tenant : (t : List ℕ) (u : Watch) (c : ℕ) (bytes : List ℕ) → look c u.table ≡ Some FrontAnswered → outputs_of t u (Reply c bytes ∷ []) ≡ []
+unfolding owner
+not_of_tenant t u c bytes seen = rw seen refl
 
-fits_asked : (t : List ℕ) (w : World) (p : PrivateCluster) (c m : ℕ) (r : Request) → Stands t w p →
-    fits_at 1 w.instance.incarnation (effective m w.clock) r (local_in r.tenant w.instance) ≡ true →
-    fits_all p (if same t r.tenant then Asked c 1 m r ∷ [] else []) ≡ true
-unfolding fits local_at incarnation_at
-fits_asked t w p c m r s fit =
-    let here : local_in t w.instance ≡ local_of (p.at 1) = s.local 1 in
-    let life : w.instance.incarnation ≡ p.incarnation 1 = s.incarnation 1 in
-    elim (same_tells t r.tenant) [
-      | inl e ↦
-          let asked : local_in r.tenant w.instance ≡ local_in t w.instance = ap (λ u. local_in u w.instance) (sym e.1) in
-          let fit_here = rw (asked, here, life, s.clock) at fit in
-          rw (e.0, fit_here) refl
+of_tenant : (t s : List ℕ) (u : Watch) (c : ℕ) (bytes : List ℕ) → look c u.table ≡ Some (AskedAs s) →
+    outputs_of t u (Reply c bytes ∷ []) ≡ (if same t s then Reply c bytes ∷ [] else [])
+unfolding owner
+of_tenant t s u c bytes seen = rw seen (elim (same t s) [ true ↦ refl | false ↦ refl ])
+
+-- what a piece brings to the world, and what its table says afterwards
+abbrev pub brings : Fed → ℕ → ℕ → ℕ → World → Brought
+brings told n c m w = brought told (here_in (effective m w.clock) n w.instances) c (λ s. local_at s n w.instances)
+
+abbrev pub then_seen : Fed → ℕ → ℕ → List ℕ → Watch → Watch
+then_seen told n c bytes v = record { table = (c, seen_as n bytes told) ∷ v.table; roster = v.roster }
+
+-- the tenant that asked
+asked_alone : (t : List ℕ) (n c m : ℕ) (r : Request) (bytes : List ℕ) (v : Watch) (w w' : World) (p : PrivateCluster) → t ≡ r.tenant → Stands t w p →
+    local_at t n w'.instances ≡ local_after (asked (here_in (effective m w.clock) n w.instances) c r (local_at t n w.instances)) (local_at t n w.instances) →
+    SameElsewhere n w.instances w'.instances → w'.clock ≡ w.clock → IsSameRoster (roster_of w'.instances) (roster_of w.instances) →
+    Stands t w' (after p (Asked c n m r))
+unfolding local_at
+asked_alone t n c m r bytes v w w' p own s here others clock roster =
+    let reaction : Reaction = asked (here_in (effective m w.clock) n w.instances) c r (local_at t n w.instances) in
+    let reacts : Reacts t n w w' reaction = record { here = here; others = λ j h. ap (local_where t) (others j h); clock = clock; roster = roster } in
+    rw (ap (λ (q : Course). q.cluster) (asked_course t n c m r w p s)) (stands_reacts t n (effective m p.clock) w w' p reaction reacts s)
+
+stands_bytes : (told : Fed) (t : List ℕ) (n c m : ℕ) (bytes : List ℕ) (v : Watch) (w w' : World) (p : PrivateCluster) → Stands t w p →
+    ((s : List ℕ) → local_at s n w'.instances ≡ (brings told n c m w).local s) → SameElsewhere n w.instances w'.instances →
+    w'.clock ≡ w.clock → IsSameRoster (roster_of w'.instances) (roster_of w.instances) → Stands t w' (after_all p (asked_by t c n m told))
+stands_bytes fed.Waits t n c m bytes v w w' p s local others clock roster =
+    stands_kept t w w' p clock roster (local_everywhere t n w.instances w'.instances (local t) others) s
+stands_bytes (fed.Refused reason) t n c m bytes v w w' p s local others clock roster =
+    stands_kept t w w' p clock roster (local_everywhere t n w.instances w'.instances (local t) others) s
+stands_bytes fed.Ready t n c m bytes v w w' p s local others clock roster =
+    stands_kept t w w' p clock roster (local_everywhere t n w.instances w'.instances (local t) others) s
+stands_bytes (fed.Request r) t n c m bytes v w w' p s local others clock roster = elim (same_tells t r.tenant) [
+  | inl e ↦
+      let here = rw (e.0) at (local t)
+      ∙ ap (λ k. local_after (asked (here_in (effective m w.clock) n w.instances) c r (local_at k n w.instances)) (local_at t n w.instances)) (sym e.1) in
+      rw (e.0) (asked_alone t n c m r bytes v w w' p e.1 s here others clock roster)
+  | inr e ↦
+      let here = rw (e.0) at (local t) in
+      rw (e.0) (stands_kept t w w' p clock roster (local_everywhere t n w.instances w'.instances here others) s)
+]
+
+told_asked : (t : List ℕ) (n c m : ℕ) (r : Request) (w : World) (p : PrivateCluster) → t ≡ r.tenant → Stands t w p →
+    outputs_said r.tenant (asked (here_in (effective m w.clock) n w.instances) c r (local_at r.tenant n w.instances)) ≡ told p (Asked c n m r)
+told_asked t n c m r w p own s =
+    let mine : p.tenant ≡ r.tenant = s.tenant ∙ own in
+    rw (ap (λ (q : Course). q.said) (asked_course t n c m r w p s), ← own, s.tenant) refl
+
+-- a reply goes to the connection
+replies_only : (t : List ℕ) (here : Here) (c : ℕ) (r : Request) (local : Local) → (bytes : List ℕ) × (outputs_said t (asked here c r local) ≡ Reply c bytes ∷ [])
+unfolding asked
+replies_only t here c r local = (_, refl)
+
+told_bytes : (told : Fed) (t : List ℕ) (n c m : ℕ) (bytes : List ℕ) (v u : Watch) (w : World) (p : PrivateCluster) → Stands t w p →
+    Later (then_seen told n c bytes v) u → outputs_of t u (brings told n c m w).outputs ≡ told_all p (asked_by t c n m told)
+told_bytes fed.Waits t n c m bytes v u w p s later = refl
+told_bytes (fed.Refused reason) t n c m bytes v u w p s later = not_of_tenant t u c _ (later.answered c (look_here c FrontAnswered v.table))
+told_bytes fed.Ready t n c m bytes v u w p s later = not_of_tenant t u c _ (later.answered c (look_here c FrontAnswered v.table))
+told_bytes (fed.Request r) t n c m bytes v u w p s later =
+    let reply = replies_only r.tenant (here_in (effective m w.clock) n w.instances) c r (local_at r.tenant n w.instances) in
+    let seen = later.asked c r.tenant (look_here c (AskedAs r.tenant) v.table) in
+    ap (outputs_of t u) reply.1 ∙ of_tenant t r.tenant u c reply.0 seen ∙ elim (same_tells t r.tenant) [
+      | inl e ↦ rw (e.0) (sym reply.1 ∙ told_asked t n c m r w p e.1 s ∙ sym (append-nil _))
       | inr e ↦ rw (e.0) refl
     ]
 
-fits_bytes : (told : Fed) (t : List ℕ) (w : World) (p : PrivateCluster) (c m : ℕ) → Stands t w p →
-    fits_by told 1 w.instance.incarnation (effective m w.clock) (λ s. local_in s w.instance) ≡ true → fits_all p (asked_by t c 1 m told) ≡ true
-fits_bytes fed.Waits t w p c m s fit = refl
-fits_bytes (fed.Refused fault) t w p c m s fit = refl
-fits_bytes (fed.Request r) t w p c m s fit = fits_asked t w p c m r s fit
+fits_bytes : (told : Fed) (t : List ℕ) (n c m : ℕ) (w : World) (p : PrivateCluster) → Stands t w p → (brings told n c m w).fits ≡ true →
+    fits_all p (asked_by t c n m told) ≡ true
+fits_bytes fed.Waits t n c m w p s fit = refl
+fits_bytes (fed.Refused reason) t n c m w p s fit = refl
+fits_bytes fed.Ready t n c m w p s fit = refl
+fits_bytes (fed.Request r) t n c m w p s fit = elim (same_tells t r.tenant) [
+  | inl e ↦
+      let own = ap (λ k. (asked (here_in (effective m w.clock) n w.instances) c r (local_at k n w.instances)).fits) e.1 ∙ fit in
+      rw (e.0) (ap (λ b. b && true) (ap (λ (q : Course). q.fits) (asked_course t n c m r w p s) ∙ own))
+  | inr e ↦ rw (e.0) refl
+]
 
 -- what the front says, and that nobody else says anything
-front_bytes : (told : Fed) (c i incarnation moment : ℕ) (locals : List ℕ → Local) (bytes : List ℕ) (v u : Table) → Later ((c, seen_as 1 bytes told) ∷ v) u →
-    front_outputs u (outs_by c (reply_by told i incarnation moment locals)) ≡ refused_by c told
-unfolding is_of_front
-front_bytes fed.Waits c i incarnation moment locals bytes v u later = refl
-front_bytes (fed.Refused fault) c i incarnation moment locals bytes v u later = rw (later.away c (look_here c TurnedAway v)) refl
-front_bytes (fed.Request r) c i incarnation moment locals bytes v u later = rw (later.asked c r.tenant (look_here c (AskedAs r.tenant) v)) refl
+of_front : (u : Watch) (c : ℕ) (bytes : List ℕ) → look c u.table ≡ Some FrontAnswered → front_outputs u (Reply c bytes ∷ []) ≡ Reply c bytes ∷ []
+unfolding owner
+of_front u c bytes seen = rw seen refl
 
-whole_bytes : (told : Fed) (c i incarnation moment : ℕ) (locals : List ℕ → Local) (bytes : List ℕ) (v u : Table) → Later ((c, seen_as 1 bytes told) ∷ v) u →
-    list_all (is_of_somebody u) (outs_by c (reply_by told i incarnation moment locals)) ≡ true
-unfolding is_of_somebody
-whole_bytes fed.Waits c i incarnation moment locals bytes v u later = refl
-whole_bytes (fed.Refused fault) c i incarnation moment locals bytes v u later = rw (later.away c (look_here c TurnedAway v)) refl
-whole_bytes (fed.Request r) c i incarnation moment locals bytes v u later = rw (later.asked c r.tenant (look_here c (AskedAs r.tenant) v)) refl
+not_of_front : (t : List ℕ) (u : Watch) (c : ℕ) (bytes : List ℕ) → look c u.table ≡ Some (AskedAs t) → front_outputs u (Reply c bytes ∷ []) ≡ []
+unfolding owner
+not_of_front t u c bytes seen = rw seen refl
+
+front_bytes : (told : Fed) (n c m : ℕ) (bytes : List ℕ) (v u : Watch) (w : World) → Later (then_seen told n c bytes v) u →
+    front_outputs u (brings told n c m w).outputs ≡ answered_by c told
+front_bytes fed.Waits n c m bytes v u w later = refl
+front_bytes (fed.Refused reason) n c m bytes v u w later = of_front u c _ (later.answered c (look_here c FrontAnswered v.table))
+front_bytes fed.Ready n c m bytes v u w later = of_front u c _ (later.answered c (look_here c FrontAnswered v.table))
+front_bytes (fed.Request r) n c m bytes v u w later =
+    let reply = replies_only r.tenant (here_in (effective m w.clock) n w.instances) c r (local_at r.tenant n w.instances) in
+    ap (front_outputs u) reply.1 ∙ not_of_front r.tenant u c reply.0 (later.asked c r.tenant (look_here c (AskedAs r.tenant) v.table))
+
+owned_answer : (u : Watch) (c : ℕ) (bytes : List ℕ) → look c u.table ≡ Some FrontAnswered → are_owned u (Reply c bytes ∷ []) ≡ true
+unfolding owner
+owned_answer u c bytes seen = rw seen refl
+
+owned_reply : (t : List ℕ) (u : Watch) (c : ℕ) (bytes : List ℕ) → look c u.table ≡ Some (AskedAs t) → are_owned u (Reply c bytes ∷ []) ≡ true
+unfolding owner
+owned_reply t u c bytes seen = rw seen refl
+
+owned_bytes : (told : Fed) (n c m : ℕ) (bytes : List ℕ) (v u : Watch) (w : World) → Later (then_seen told n c bytes v) u →
+    are_owned u (brings told n c m w).outputs ≡ true
+owned_bytes fed.Waits n c m bytes v u w later = refl
+owned_bytes (fed.Refused reason) n c m bytes v u w later = owned_answer u c _ (later.answered c (look_here c FrontAnswered v.table))
+owned_bytes fed.Ready n c m bytes v u w later = owned_answer u c _ (later.answered c (look_here c FrontAnswered v.table))
+owned_bytes (fed.Request r) n c m bytes v u w later =
+    let reply = replies_only r.tenant (here_in (effective m w.clock) n w.instances) c r (local_at r.tenant n w.instances) in
+    ap (are_owned u) reply.1 ∙ owned_reply r.tenant u c reply.0 (later.asked c r.tenant (look_here c (AskedAs r.tenant) v.table))
 
 -- ---- a piece
 
-pub kept_bytes : (w w' : World) (c m : ℕ) (before piece : List ℕ) → nat_lt last_moment m ≡ false → bytes_of c w.instance.front ≡ Some before →
-    w'.clock ≡ w.clock → Takes w c (before ++ piece) (effective m w.clock) w' → Kept w (Bytes c m piece) w'
-unfolding bytes_at
-kept_bytes w w' c m before piece allowed here clock takes = record {
-  follows = λ v f. rw (sees v w c m before piece allowed here f) (record {
-    reading = λ d j. bytes_reading (nat_eq d c) (verdict (before ++ piece)) (before ++ piece) j _ (bytes_of d w.instance.front) (look d v) (takes.front d) (f.reading d j);
-    up = λ j. up_same w w' takes.up j ∙ f.up j;
-  });
-  stands = λ t v p f s. rw (gives t v w c m before piece allowed here f)
-      (stands_bytes (verdict (before ++ piece)) t w w' p c m clock takes.up takes.incarnation (takes.local t) s);
-  outs = outs_by c (reply_by (verdict (before ++ piece)) 1 w.instance.incarnation (effective m w.clock) (λ t. local_in t w.instance));
-  appended = takes.outputs;
-  told = λ t v p f s u later. rw (gives t v w c m before piece allowed here f)
-      (told_bytes (verdict (before ++ piece)) t w p c m (before ++ piece) v u s (rw (sees v w c m before piece allowed here f) at later));
-  front = λ v f u later. rw (says v w c m before piece allowed here f)
-      (front_bytes (verdict (before ++ piece)) c 1 w.instance.incarnation (effective m w.clock) (λ t. local_in t w.instance) (before ++ piece) v u
-      (rw (sees v w c m before piece allowed here f) at later));
-  whole = λ v f u later.
-      whole_bytes (verdict (before ++ piece)) c 1 w.instance.incarnation (effective m w.clock) (λ t. local_in t w.instance) (before ++ piece) v u
-      (rw (sees v w c m before piece allowed here f) at later);
-  fits = λ t v p f s. rw (gives t v w c m before piece allowed here f) (fits_bytes (verdict (before ++ piece)) t w p c m s takes.fits);
-  silent = λ d. let never = sym here ∙ d.unread c 1 in cc;
-  down = λ d. let never = sym here ∙ d.unread c 1 in cc;
-  up = up_same w w' takes.up;
-  incarnation = incarnation_same w w' takes.incarnation;
-  clock = clock;
+roster_taken : (n c : ℕ) (bytes : List ℕ) (m : ℕ) (xs ys : List Instance) → Takes n c bytes m xs ys → IsSameRoster (roster_of ys) (roster_of xs)
+unfolding up_at incarnation_at
+roster_taken n c bytes m xs ys takes = record {
+  up = λ j. elim (cases_Bool (nat_eq j n)) [
+    | inl h ↦ let number : j ≡ n = grind (arith, nat_tests) in ap (λ k. up_at k ys) number ∙ takes.up ∙ ap (λ k. up_at k xs) (sym number)
+    | inr h ↦ ap up_where (takes.others j h)
+  ];
+  incarnation = λ j. elim (cases_Bool (nat_eq j n)) [
+    | inl h ↦ let number : j ≡ n = grind (arith, nat_tests) in ap (λ k. incarnation_at k ys) number ∙ takes.incarnation ∙ ap (λ k. incarnation_at k xs) (sym number)
+    | inr h ↦ ap incarnation_where (takes.others j h)
+  ];
 }
+
+pub kept_bytes : (w w' : World) (n c m : ℕ) (before piece : List ℕ) → nat_lt last_moment m ≡ false → bytes_at c n w.instances ≡ Some before →
+    Takes n c (before ++ piece) (effective m w.clock) w.instances w'.instances →
+    put_out w' ≡ put_out w ++ (taken_at n c (before ++ piece) (effective m w.clock) w.instances).outputs →
+    (taken_at n c (before ++ piece) (effective m w.clock) w.instances).fits ≡ true → w'.clock ≡ w.clock → fault_count w' ≡ fault_count w →
+    Kept w (Bytes c m piece) w'
+kept_bytes w w' n c m before piece allowed here takes outputs fit clock faults =
+    let bytes = before ++ piece in
+    let told = verdict bytes in
+    let roster = roster_taken n c bytes (effective m w.clock) w.instances w'.instances takes in
+    record {
+      follows = λ v f. rw (sees v w n c m before piece allowed here f) (record {
+        reading = reading_after told n c v before bytes w.instances w'.instances f.reading (seen_reading v w n c before f here) takes.reading takes.others;
+        roster = roster_then _ _ _ roster f.roster;
+      });
+      outs = (taken_at n c bytes (effective m w.clock) w.instances).outputs;
+      appended = outputs;
+      tenants = λ t v p given.
+          let adds_here = gives t v w n c m before piece allowed here given.follows in
+          record {
+            stands = rw adds_here (stands_bytes told t n c m bytes v w w' p given.stands takes.local takes.others clock roster);
+            told = λ u later. rw adds_here
+                (told_bytes told t n c m bytes v u w p given.stands (rw (sees v w n c m before piece allowed here given.follows) at later));
+            fits = rw adds_here (fits_bytes told t n c m w p given.stands fit);
+          };
+      front = λ v f u later. rw (says v w n c m before piece allowed here f)
+          (front_bytes told n c m bytes v u w (rw (sees v w n c m before piece allowed here f) at later));
+      owned = λ v f u later. owned_bytes told n c m bytes v u w (rw (sees v w n c m before piece allowed here f) at later);
+      roster = roster;
+      clock = clock;
+      faults = faults;
+    }

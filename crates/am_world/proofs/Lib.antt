@@ -1,11 +1,11 @@
 mod Counts
-mod Down
-mod Joined
+mod Faults
+mod InstancesLemmas
 mod Kept
 mod KeptBytes
+mod LocalLemmas
 mod Opening
-mod Places
-mod Plain
 mod RefusalSeen
+mod RingLemmas
 mod Run
 pub mod Steps

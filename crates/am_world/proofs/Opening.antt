@@ -1,30 +1,92 @@
--- a world that is opened follows the empty table, and stands for every tenant's cluster as it is opened
-use Rattle.std.proofs.Common.{◌≡◌, ℕ, Bool, true, false, List, [], None, refl, if◌then◌else◌}
+-- instances as they are opened
+use Rattle.std.proofs.Common.{◌≡◌, ◌∙◌, inl, inr, ℕ, ◌==◌, nat_eq, Bool, true, false, List, [], ◌∷◌, ◌++◌, Option, Some, None, find, map, refl, sym, ap, arith, if◌then◌else◌}
+use Rattle.std.proofs.lemmas.Bool.{cases_Bool}
+use Rattle.std.proofs.lemmas.Bool.Decides.{nat_tests}
 use Rattle.am_http.specs.Connections.{bytes_of}
 use Rattle.am_item.specs.Best.{best}
+use Rattle.am_world.specs.declared.instance.Instance.{Instance}
 use Rattle.am_world.specs.declared.world.World.{World}
-use Rattle.am_world.specs.Local.{blank}
-use Rattle.am_world.specs.Places.{local_in, local_at, up_at, incarnation_at, bytes_at}
-use Rattle.am_world.specs.PrivateCluster.{opened, serves}
+use Rattle.am_world.specs.Places.{AreNumbered, bytes_at, bytes_where, incarnation_at, incarnation_where, instance_at, local_at, local_in, local_where, roster_of, up_at, up_where}
+use Rattle.am_world.specs.PrivateCluster.{opened}
+use Rattle.am_world.specs.Reaction.{blank}
+use Rattle.am_world.specs.Roster.{IsSameRoster, opened_roster, serves}
+use Rattle.am_world.specs.Setup.{Origin, is_instance}
 use Rattle.am_world.specs.Simulation.{Follows, Stands}
+use Rattle.am_world.specs.View.{first_watch}
+use Rattle.am_world.proofs.InstancesLemmas.{found_within, missing_number, number_of}
 
-none_read : (b : Bool) (w : World) (c : ℕ) → bytes_of c w.instance.front ≡ None → (if b then bytes_of c w.instance.front else None) ≡ None
-none_read true w c e = e
-none_read false w c e = refl
+-- an instance in its first incarnation that has nothing, and is up where it serves
+pub record IsFresh (first : ℕ) (x : Instance) : Type 0 where
+  pub up : x.up ≡ serves x.number
+  pub incarnation : x.incarnation ≡ first
+  pub unread : (c : ℕ) → bytes_of c x.front ≡ None
+  pub local : (t : List ℕ) → local_in t x ≡ blank
 
-pub follows_opening : (w : World) → ((c : ℕ) → bytes_of c w.instance.front ≡ None) → w.instance.up ≡ true → Follows [] w
-unfolding bytes_at up_at
-follows_opening w unread up = record {
-  reading = λ c i. none_read (serves i) w c (unread c);
-  up = λ i. elim (serves i) as (λ b. (if b then w.instance.up else false) ≡ b) [ true ↦ up | false ↦ refl ];
+abbrev pub AreFresh : ℕ → List Instance → Type 0
+AreFresh first [] = Unit {0}
+AreFresh first (x ∷ xs) = IsFresh first x × AreFresh first xs
+
+pub fresh_push : (first : ℕ) (xs : List Instance) (x : Instance) → AreFresh first xs → IsFresh first x → AreFresh first (xs ++ x ∷ [])
+fresh_push first [] x all new = (new, tt)
+fresh_push first (y ∷ xs) x (one, all) new = (one, fresh_push first xs x all new)
+
+fresh_found : (first : ℕ) (p : Instance → Bool) (xs : List Instance) (x : Instance) → AreFresh first xs → find p xs ≡ Some x → IsFresh first x
+fresh_found first p [] x all found = absurd cc
+fresh_found first p (y ∷ xs) x (one, all) found = elim (cases_Bool (p y)) [
+  | inl h ↦ let e = rw h at found in let same : y ≡ x = cc in rw (← same) one
+  | inr h ↦ fresh_found first p xs x all (rw h at found)
+]
+
+-- the instance of a number, where it exists
+opened_roster_at : (first i : ℕ) (xs : List Instance) (o : Option Instance) → instance_at i xs ≡ o → AreNumbered xs → AreFresh first xs →
+    (up_where o ≡ serves i) × (incarnation_where o ≡ (if is_instance i then first else 0))
+unfolding instance_at
+opened_roster_at first i xs None at e all =
+    let missing : is_instance i ≡ false = missing_number i xs e at in
+    let other : nat_eq i 1 ≡ false = grind (arith, nat_tests) in
+    (sym other, rw missing refl)
+opened_roster_at first i xs (Some x) at e all =
+    let fresh = fresh_found first _ xs x all at in
+    let exists : is_instance i ≡ true = found_within xs i x e at in
+    (fresh.up ∙ ap serves (number_of i xs x at), rw exists fresh.incarnation)
+
+pub roster_opening : (origin : Origin) (first : ℕ) (xs : List Instance) → origin.first ≡ first → AreNumbered xs → AreFresh first xs →
+    IsSameRoster (roster_of xs) (opened_roster origin)
+unfolding up_at incarnation_at
+roster_opening origin first xs same e all = record {
+  up = λ i. (opened_roster_at first i xs (instance_at i xs) refl e all).0;
+  incarnation = λ i. (opened_roster_at first i xs (instance_at i xs) refl e all).1 ∙ ap (λ n. if is_instance i then n else 0) (sym same);
 }
 
-pub stands_opening : (t : List ℕ) (w : World) (incarnation : ℕ) → w.clock ≡ 0 → w.instance.up ≡ true → w.instance.incarnation ≡ incarnation →
-    local_in t w.instance ≡ blank → Stands t w (opened incarnation)
-unfolding local_at up_at incarnation_at best
-stands_opening t w incarnation clock up life local = record {
-  clock = clock;
-  up = λ i. elim (serves i) as (λ b. (if b then w.instance.up else false) ≡ b) [ true ↦ up | false ↦ refl ];
-  incarnation = λ i. elim (serves i) as (λ b. (if b then w.instance.incarnation else 0) ≡ (if b then incarnation else 0)) [ true ↦ life | false ↦ refl ];
-  local = λ i. elim (serves i) as (λ b. (if b then local_in t w.instance else blank) ≡ blank) [ true ↦ local | false ↦ refl ];
-}
+unread_opening_at : (first c i : ℕ) (xs : List Instance) (o : Option Instance) → instance_at i xs ≡ o → AreFresh first xs → bytes_where c o ≡ None
+unfolding instance_at
+unread_opening_at first c i xs None at all = refl
+unread_opening_at first c i xs (Some x) at all = (fresh_found first _ xs x all at).unread c
+
+pub unread_opening : (first c i : ℕ) (xs : List Instance) → AreFresh first xs → bytes_at c i xs ≡ None
+unfolding bytes_at
+unread_opening first c i xs all = unread_opening_at first c i xs (instance_at i xs) refl all
+
+local_opening_at : (first : ℕ) (t : List ℕ) (i : ℕ) (xs : List Instance) (o : Option Instance) → instance_at i xs ≡ o → AreFresh first xs → local_where t o ≡ blank
+unfolding instance_at
+local_opening_at first t i xs None at all = refl
+local_opening_at first t i xs (Some x) at all = (fresh_found first _ xs x all at).local t
+
+pub local_opening : (first : ℕ) (t : List ℕ) (i : ℕ) (xs : List Instance) → AreFresh first xs → local_at t i xs ≡ blank
+unfolding local_at
+local_opening first t i xs all = local_opening_at first t i xs (instance_at i xs) refl all
+
+pub numbers_push : (xs : List Instance) (x : Instance) → map (λ (y : Instance). y.number) (xs ++ x ∷ []) ≡ map (λ (y : Instance). y.number) xs ++ x.number ∷ []
+numbers_push [] x = refl
+numbers_push (y ∷ xs) x = ap (λ ns. y.number ∷ ns) (numbers_push xs x)
+
+-- ---- a world as it is opened
+
+pub follows_opening : (origin : Origin) (w : World) → IsSameRoster (roster_of w.instances) (opened_roster origin) →
+    ((c i : ℕ) → bytes_at c i w.instances ≡ None) → Follows (first_watch origin) w
+follows_opening origin w roster unread = record { reading = λ c i. unread c i; roster = roster }
+
+pub stands_opening : (origin : Origin) (t : List ℕ) (w : World) → w.clock ≡ 0 → IsSameRoster (roster_of w.instances) (opened_roster origin) →
+    ((s : List ℕ) (i : ℕ) → local_at s i w.instances ≡ blank) → Stands t w (opened origin t)
+unfolding best
+stands_opening origin t w clock roster local = record { tenant = refl; clock = clock; roster = roster; local = λ i. local t i }

@@ -1,31 +1,37 @@
--- in a world that a table follows, an event is refused as the table says
-use Rattle.std.proofs.Common.{◌≡◌, ℕ, nat_eq, Bool, true, false, is_some, List, Option, None, Some, refl, sym, ap, arith, if◌then◌else◌}
-use Rattle.std.proofs.lemmas.Bool.Decides.{nat_tests}
-use Rattle.am_http.specs.Connections.{bytes_of}
+-- in a world of which what is known is so, an event is refused as it says
+use Rattle.std.proofs.Common.{◌≡◌, ◌∙◌, ℕ, nat_eq, Bool, true, false, is_some, IsSome, List, Option, None, Some, option_map, refl, sym, ap, find, if◌then◌else◌}
 use Rattle.am_world.specs.declared.event.Event.{Event}
 use Rattle.am_world.specs.declared.event.Event.TheVariants.{Open, Bytes, Tick}
+use Rattle.am_world.specs.declared.instance.Instance.{Instance}
 use Rattle.am_world.specs.declared.world.World.{World}
-use Rattle.am_world.specs.Places.{bytes_at}
-use Rattle.am_world.specs.PrivateCluster.{serves}
-use Rattle.am_world.specs.Refusal.{refusal, is_read, refusal_seen}
+use Rattle.am_world.specs.Places.{AreNumbered, bytes_at, reader_of, reads}
+use Rattle.am_world.specs.Refusal.{is_read, refusal, refusal_seen}
 use Rattle.am_world.specs.Simulation.{Follows, bytes_read}
-use Rattle.am_world.specs.View.{Seen, Reading, AskedAs, TurnedAway, Table, look}
+use Rattle.am_world.specs.View.{AskedAs, FrontAnswered, Reading, Seen, Watch, look}
+use Rattle.am_world.proofs.InstancesLemmas.{nobody_reads, reader_reads}
+use Rattle.am_world.proofs.Kept.{itself}
 
-here_read : (b : Bool) (o : Option (List ℕ)) (bytes : List ℕ) → (if b then o else None) ≡ Some bytes → true ≡ is_some o
-here_read true o bytes e = ap is_some (sym e)
-here_read false o bytes e = cc
+none_read : (s : Option Seen) → ((i : ℕ) → None ≡ bytes_read i s) → is_read s ≡ false
+none_read None unread = refl
+none_read (Some (Reading i bytes)) unread = let never = rw (itself i) at (unread i) in cc
+none_read (Some (AskedAs tenant)) unread = refl
+none_read (Some FrontAnswered) unread = refl
 
-nat_eq_itself : (n : ℕ) → nat_eq n n ≡ true
-nat_eq_itself n = grind (arith, nat_tests)
+some_read : (s : Option Seen) (i : ℕ) → IsSome (bytes_read i s) → is_read s ≡ true
+some_read None i read = absurd cc
+some_read (Some (Reading j bytes)) i read = refl
+some_read (Some (AskedAs tenant)) i read = absurd cc
+some_read (Some FrontAnswered) i read = absurd cc
 
-read_where : (s : Option Seen) (o : Option (List ℕ)) → ((i : ℕ) → (if serves i then o else None) ≡ bytes_read i s) → is_read s ≡ is_some o
-read_where None o here = ap is_some (sym (here 1))
-read_where (Some (Reading i bytes)) o here = here_read (serves i) o bytes (rw (nat_eq_itself i) at (here i))
-read_where (Some (AskedAs tenant)) o here = ap is_some (sym (here 1))
-read_where (Some TurnedAway) o here = ap is_some (sym (here 1))
+read_where : (v : Watch) (w : World) (c : ℕ) (o : Option Instance) → find (reads c) w.instances ≡ o → AreNumbered w.instances → Follows v w →
+    is_some (option_map (λ (x : Instance). x.number) o) ≡ is_read (look c v.table)
+read_where v w c None found numbered f =
+    sym (none_read (look c v.table) (λ i. sym (nobody_reads c w.instances found i) ∙ f.reading c i))
+read_where v w c (Some x) found numbered f =
+    sym (some_read (look c v.table) x.number (rw (f.reading c x.number) at (reader_reads c w.instances x numbered found)))
 
-pub refusal_follows : (v : Table) (w : World) (e : Event) → Follows v w → refusal w e ≡ refusal_seen v w.clock e
-unfolding bytes_at
-refusal_follows v w (Open c i) f = rw (f.up i) refl
-refusal_follows v w (Bytes c moment piece) f = rw (read_where (look c v) (bytes_of c w.instance.front) (λ i. f.reading c i)) refl
-refusal_follows v w (Tick moment) f = refl
+pub refusal_follows : (v : Watch) (w : World) (e : Event) → AreNumbered w.instances → Follows v w → refusal w e ≡ refusal_seen v w.clock e
+unfolding reader_of
+refusal_follows v w (Open c i) numbered f = rw (f.roster.up i) refl
+refusal_follows v w (Bytes c moment piece) numbered f = rw (read_where v w c (find (reads c) w.instances) refl numbered f) refl
+refusal_follows v w (Tick moment) numbered f = refl

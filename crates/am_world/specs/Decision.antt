@@ -1,19 +1,20 @@
 -- What is decided on a request: the items that it brings, and the reply.
-use Rattle.std.specs.Prelude.{◌≡◌, ℕ, List, [], true, false, Option, Some, None, Result, Ok, Err}
+use Rattle.std.specs.Prelude.{◌≡◌, ℕ, List, [], true, false, codes, Result, Ok, Err}
 use Rattle.am_http.specs.Replies.{refusal}
 use Rattle.am_http.specs.declared.request.Method.{Method}
-use Rattle.am_http.specs.declared.request.Method.TheVariants.{Get, Post}
+use Rattle.am_http.specs.declared.request.Method.TheVariants.{Get, Post, Delete}
+use Rattle.am_http.specs.declared.request.Endpoint.{Endpoint}
+use Rattle.am_http.specs.declared.request.Endpoint.TheVariants.{Alerts, AlertGroups, Silences, Silence, Receivers, Configuration}
 use Rattle.am_http.specs.declared.request.Request.{Request}
 use Rattle.am_item.specs.declared.item.Alert.{Alert}
 use Rattle.am_item.specs.declared.item.Item.{Item}
-use Rattle.am_alert.specs.declared.fault.PostedFault.{PostedFault}
-use Rattle.am_alert.specs.declared.maker.ItemsFault.{ItemsFault}
-use Rattle.am_alert.specs.declared.maker.ItemsFault.TheVariants.{CountsExhausted, OutOfMemory}
+use Rattle.am_alert.specs.declared.refusal.PostedRefusal.{PostedRefusal}
+use Rattle.am_item.specs.declared.fault.Fault.{Fault}
+use Rattle.am_item.specs.declared.fault.Fault.TheVariants.{CountsExhausted, OutOfMemory}
 use Rattle.am_alert.specs.declared.maker.Maker.{Maker}
-use Rattle.am_alert.specs.Code.{code_of}
 use Rattle.am_alert.specs.Held.{firing}
 use Rattle.am_alert.specs.Made.{made, counts_fit}
-use Rattle.am_alert.specs.Posted.{posted}
+use Rattle.am_alert.specs.Posted.{code_of, posted}
 use Rattle.am_world.specs.declared.decision.Decided.{Decided}
 use Rattle.am_world.specs.AlertJson.{alerts_text}
 
@@ -35,35 +36,41 @@ listed held moment = record { items = []; status = 200; body = alerts_text (firi
 abbrev pub stored : List Item → ℕ → Maker → List Alert → Decision
 stored held moment maker alerts = record { items = made held moment maker alerts; status = 200; body = [] }
 
--- the body of a refusal shows its code; only want of memory, which refuses no list, has none
-abbrev pub body_of : Option (List ℕ) → List ℕ
-body_of None = []
-body_of (Some code) = refusal code
-
--- a list is refused, and nothing is stored
-abbrev pub refused : PostedFault → Decision
-refused fault = record { items = []; status = 400; body = body_of (code_of fault) }
+-- a refusal shows its code, and nothing is stored
+abbrev pub refused : ℕ → List ℕ → Decision
+refused status code = record { items = []; status = status; body = refusal code }
 
 -- a posted list is stored whole, or refused whole
-abbrev pub stored_or_refused : List Item → ℕ → Maker → Result (List Alert) PostedFault → Decision
+abbrev pub stored_or_refused : List Item → ℕ → Maker → Result (List Alert) PostedRefusal → Decision
 stored_or_refused held moment maker (Ok alerts) = stored held moment maker alerts
-stored_or_refused held moment maker (Err fault) = refused fault
+stored_or_refused held moment maker (Err reason) = refused 400 (code_of reason)
 
--- POST stores the alerts of its body, GET lists those that fire; the query says nothing, nor does the body of a GET
-abbrev pub decided_by : Method → List ℕ → List Item → ℕ → Maker → Decision
-decided_by Get body held moment maker = listed held moment
-decided_by Post body held moment maker = stored_or_refused held moment maker (posted moment resolve_timeout body)
+-- the alerts: GET lists those that fire, POST stores those of its body; the query says nothing, nor does the body of a
+-- GET. (The front lets no other method through.)
+abbrev pub alerts_decided : Method → List ℕ → List Item → ℕ → Maker → Decision
+alerts_decided Get body held moment maker = listed held moment
+alerts_decided Post body held moment maker = stored_or_refused held moment maker (posted moment resolve_timeout body)
+alerts_decided Delete body held moment maker = refused 405 (codes "H6")
+
+-- by what the request speaks of; the front lets no path through that isn't brought
+abbrev pub decided_by : Endpoint → Method → List ℕ → List Item → ℕ → Maker → Decision
+decided_by Alerts method body held moment maker = alerts_decided method body held moment maker
+decided_by AlertGroups method body held moment maker = refused 404 (codes "H5")
+decided_by Silences method body held moment maker = refused 404 (codes "H5")
+decided_by (Silence id) method body held moment maker = refused 404 (codes "H5")
+decided_by Receivers method body held moment maker = refused 404 (codes "H5")
+decided_by Configuration method body held moment maker = refused 404 (codes "H5")
 
 -- the decision on a request, from the items held of its tenant, the moment, and who makes items
 unfoldable pub decided : Request → List Item → ℕ → Maker → Decision
-decided request held moment maker = decided_by request.method request.body held moment maker
+decided request held moment maker = decided_by request.endpoint request.method request.body held moment maker
 
 -- what a decision says, without where it lies in memory
 abbrev pub decision_of : Decided → Decision
 decision_of d = record { items = d.items.items; status = d.status; body = d.body }
 
--- what was returned is this decision; it fails only where a count would pass the greatest, or for want of memory
-abbrev pub Decides : Result Decided ItemsFault → Decision → Type 0
+-- what was returned is this decision; it fails only where a count would pass the greatest, or where memory runs out
+abbrev pub Decides : Result Decided Fault → Decision → Type 0
 Decides (Ok d) decision = (decision_of d ≡ decision) × (counts_fit decision.items ≡ true)
 Decides (Err CountsExhausted) decision = counts_fit decision.items ≡ false
 Decides (Err OutOfMemory) decision = Unit {0}

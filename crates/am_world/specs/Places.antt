@@ -1,29 +1,98 @@
--- what the world has at the place of an instance; the first instance alone serves
-use Rattle.std.specs.Prelude.{ℕ, Bool, false, List, Option, None, if◌then◌else◌}
+-- what stands at the place of an instance
+use Rattle.std.specs.Prelude.{◌≡◌, ℕ, ◌==◌, Bool, false, is_some, List, [], ◌∷◌, map, find, Option, None, Some, IsSome, option_map}
 use Rattle.am_http.specs.Connections.{bytes_of}
 use Rattle.am_item.specs.Book.{items_of}
 use Rattle.am_item.specs.Counts.{count_of}
+use Rattle.am_item.specs.declared.fault.Fault.{Fault}
 use Rattle.am_world.specs.declared.instance.Instance.{Instance}
-use Rattle.am_world.specs.declared.world.World.{World}
-use Rattle.am_world.specs.Local.{Local, blank}
-use Rattle.am_world.specs.PrivateCluster.{serves}
+use Rattle.am_world.specs.Reaction.{Local, Here, blank}
+use Rattle.am_world.specs.Roster.{Roster}
+
+-- the numbers of all instances
+abbrev pub numbers : List ℕ
+numbers = 1 ∷ 2 ∷ 3 ∷ 4 ∷ 5 ∷ 6 ∷ 7 ∷ 8 ∷ []
+
+-- all eight instances, in order of number
+abbrev pub AreNumbered : List Instance → Type 0
+AreNumbered instances = map (λ (x : Instance). x.number) instances ≡ numbers
+
+-- the instance of a number
+unfoldable pub instance_at : ℕ → List Instance → Option Instance
+instance_at i instances = find (λ (x : Instance). x.number == i) instances
 
 -- all that the instance has of the tenant
 unfoldable pub local_in : List ℕ → Instance → Local
-local_in t instance = record { held = items_of t instance.book; used = count_of t instance.counts }
+local_in t x = record { held = items_of t x.book; ledger = record { stamps = count_of t x.counts } }
 
--- all that the world has of the tenant at the instance
-unfoldable pub local_at : List ℕ → ℕ → World → Local
-local_at t i w = if serves i then local_in t w.instance else blank
+-- what the instance goes by at a moment
+abbrev pub here_of : Instance → ℕ → Here
+here_of x moment = record { instance = x.number; incarnation = x.incarnation; moment = moment }
 
--- whether the instance is up
-unfoldable pub up_at : ℕ → World → Bool
-up_at i w = if serves i then w.instance.up else false
+-- .. at a place
+abbrev pub local_where : List ℕ → Option Instance → Local
+local_where t None = blank
+local_where t (Some x) = local_in t x
 
--- the incarnation of the instance
-unfoldable pub incarnation_at : ℕ → World → ℕ
-incarnation_at i w = if serves i then w.instance.incarnation else 0
+unfoldable pub local_at : List ℕ → ℕ → List Instance → Local
+local_at t i instances = local_where t (instance_at i instances)
 
 -- the bytes so far of a connection that the instance reads
-unfoldable pub bytes_at : ℕ → ℕ → World → Option (List ℕ)
-bytes_at c i w = if serves i then bytes_of c w.instance.front else None
+abbrev pub bytes_where : ℕ → Option Instance → Option (List ℕ)
+bytes_where c None = None
+bytes_where c (Some x) = bytes_of c x.front
+
+unfoldable pub bytes_at : ℕ → ℕ → List Instance → Option (List ℕ)
+bytes_at c i instances = bytes_where c (instance_at i instances)
+
+-- the instance reads the connection
+abbrev pub reads : ℕ → Instance → Bool
+reads c x = is_some (bytes_of c x.front)
+
+-- the number of the instance that reads the connection
+unfoldable pub reader_of : ℕ → List Instance → Option ℕ
+reader_of c instances = option_map (λ (x : Instance). x.number) (find (reads c) instances)
+
+-- who is up, in which incarnation
+abbrev pub up_where : Option Instance → Bool
+up_where None = false
+up_where (Some x) = x.up
+
+abbrev pub incarnation_where : Option Instance → ℕ
+incarnation_where None = 0
+incarnation_where (Some x) = x.incarnation
+
+unfoldable pub up_at : ℕ → List Instance → Bool
+up_at i instances = up_where (instance_at i instances)
+
+unfoldable pub incarnation_at : ℕ → List Instance → ℕ
+incarnation_at i instances = incarnation_where (instance_at i instances)
+
+-- the fault that stopped it
+abbrev pub cause_where : Option Instance → Option Fault
+cause_where None = None
+cause_where (Some x) = x.cause
+
+unfoldable pub cause_at : ℕ → List Instance → Option Fault
+cause_at i instances = cause_where (instance_at i instances)
+
+abbrev pub roster_of : List Instance → Roster
+roster_of instances = record { up = λ i. up_at i instances; incarnation = λ i. incarnation_at i instances }
+
+-- what the instance of a number goes by at a moment
+abbrev pub here_in : ℕ → ℕ → List Instance → Here
+here_in moment i instances = record { instance = i; incarnation = incarnation_at i instances; moment = moment }
+
+-- an instance that is down reads nothing and has nothing
+pub record IsDownAt (i : ℕ) (instances : List Instance) : Type 0 where
+  pub up : up_at i instances ≡ false
+  pub unread : (c : ℕ) → bytes_at c i instances ≡ None
+  pub lost : (t : List ℕ) → local_at t i instances ≡ blank
+
+-- every other instance is as it was
+abbrev pub SameElsewhere : ℕ → List Instance → List Instance → Type 0
+SameElsewhere i before after = (j : ℕ) → (j == i) ≡ false → instance_at j after ≡ instance_at j before
+
+-- at most one instance reads the connection
+abbrev pub IsReadOnce : ℕ → List Instance → Type 0
+IsReadOnce c instances =
+    (i j : ℕ) → IsSome (bytes_at c i instances) → IsSome (bytes_at c j instances) → i ≡ j

@@ -1,101 +1,123 @@
 -- what one tenant would have if nobody else were there: lists and recomputation alone
-use Rattle.std.specs.Prelude.{ℕ, ◌+◌, ◌==◌, Bool, true, ◌&&◌, List, [], ◌∷◌, ◌++◌, length, map, if◌then◌else◌}
+use Rattle.std.specs.Prelude.{ℕ, Bool, true, ◌&&◌, List, [], ◌∷◌, ◌++◌, map, Option, Some, None, is_some, if◌then◌else◌}
 use Rattle.am_http.specs.declared.request.Request.{Request}
 use Rattle.am_item.specs.declared.item.Item.{Item}
 use Rattle.am_item.specs.Best.{best}
 use Rattle.am_world.specs.declared.event.Output.{Output}
-use Rattle.am_world.specs.declared.event.Output.TheVariants.{Reply}
+use Rattle.am_world.specs.declared.event.Refused.{Refused}
+use Rattle.am_world.specs.declared.event.Refused.TheVariants.{MomentRefused}
 use Rattle.am_world.specs.Moments.{effective, is_refused_tick}
-use Rattle.am_world.specs.Happening.{Happening, Asked, Ticked}
-use Rattle.am_world.specs.Local.{Local, decision_at, reply_at, fits_at}
+use Rattle.am_world.specs.Reaction.{Ledger, no_ledger, Local, Here, Said, Reaction, asked, output_of}
+use Rattle.am_world.specs.Roster.{Roster, opened_roster, put_at}
+use Rattle.am_world.specs.Setup.{Origin}
+
+-- one thing that happens to the tenant
+pub data Happening : Type 0 where
+  -- a whole request of the tenant came over the connection to the instance, at an event with this moment of its own
+  Asked : (connection instance moment : ℕ) (request : Request) → Happening
+  -- the clock was told this moment
+  Ticked : (moment : ℕ) → Happening
 
 -- an item, and the moment at which the instance accepted it
 pub record Accepted : Type 0 where
   pub item : Item
   pub moment : ℕ
 
--- one instance of the tenant's own: everything that it ever accepted, in order, and how many stamps it has counted
+-- one instance of the tenant's own: everything that it ever accepted, in order, and what it keeps beside
 pub record PrivateInstance : Type 0 where
   pub accepted : List Accepted
-  pub used : ℕ
+  pub ledger : Ledger
 
--- instances go by their number
+-- whose it is never changes; instances go by their number
 pub record PrivateCluster : Type 0 where
+  pub tenant : List ℕ
   pub clock : ℕ
-  pub up : ℕ → Bool
-  pub incarnation : ℕ → ℕ
+  pub roster : Roster
   pub at : ℕ → PrivateInstance
 
--- the instances that serve: the first alone
-abbrev pub serves : ℕ → Bool
-serves i = i == 1
+-- what happened to the cluster: what it is afterwards, what was said, in order, and whether no count passed the greatest
+pub record Course : Type 0 where
+  pub cluster : PrivateCluster
+  pub said : List Said
+  pub fits : Bool
 
--- the cluster as it is opened with a first incarnation; an instance that isn't opened has the incarnation 0
-abbrev pub opened : ℕ → PrivateCluster
-opened incarnation = record {
+-- the tenant's cluster as it is opened
+abbrev pub opened : Origin → List ℕ → PrivateCluster
+opened origin tenant = record {
+  tenant = tenant;
   clock = 0;
-  up = serves;
-  incarnation = λ i. if serves i then incarnation else 0;
-  at = λ i. record { accepted = []; used = 0 };
+  roster = opened_roster origin;
+  at = λ i. record { accepted = []; ledger = no_ledger };
 }
+
+-- ---- one instance of it
 
 -- the items of a list of what was accepted
 abbrev pub items_in : List Accepted → List Item
 items_in accepted = map (λ (a : Accepted). a.item) accepted
 
--- what the instance holds is the best of all that it accepted
-abbrev pub local_of : PrivateInstance → Local
-local_of own = record { held = best (items_in own.accepted); used = own.used }
-
 -- all these items, accepted at one moment
 abbrev pub accepted_at : ℕ → List Item → List Accepted
 accepted_at moment items = map (λ item. record { item = item; moment = moment }) items
 
--- what the instance has after a request of the tenant
-abbrev pub own_after : (i incarnation moment : ℕ) → Request → PrivateInstance → PrivateInstance
-own_after i incarnation moment request own =
-    let decision = decision_at i incarnation moment request (local_of own) in
-    record { accepted = own.accepted ++ accepted_at moment decision.items; used = own.used + length decision.items }
+-- what the instance can tell: it holds the best of all that it accepted
+abbrev pub local_of : PrivateInstance → Local
+local_of own = record { held = best (items_in own.accepted); ledger = own.ledger }
 
--- the function with another value at one place
-abbrev pub put_at : {A : Type 0} → (ℕ → A) → ℕ → A → ℕ → A
-put_at f i x j = if j == i then x else f j
+-- what the instance has after a reaction at this moment
+abbrev pub own_after : ℕ → Reaction → PrivateInstance → PrivateInstance
+own_after moment reaction own =
+    record { accepted = own.accepted ++ accepted_at moment reaction.accepts; ledger = reaction.ledger }
 
--- the cluster after something happened; a moment that goes back or lies past the last one changes nothing
-unfoldable pub after : PrivateCluster → Happening → PrivateCluster
-after p (Asked connection i moment request) = record {
-  clock = p.clock;
-  up = p.up;
-  incarnation = p.incarnation;
-  at = put_at p.at i (own_after i (p.incarnation i) (effective moment p.clock) request (p.at i));
-}
-after p (Ticked moment) =
-    if is_refused_tick moment p.clock then p
-    else record { clock = moment; up = p.up; incarnation = p.incarnation; at = p.at }
+-- what the instance goes by at this moment
+abbrev pub here_at : PrivateCluster → (moment i : ℕ) → Here
+here_at p moment i = record { instance = i; incarnation = p.roster.incarnation i; moment = moment }
 
--- what the cluster puts out then
-unfoldable pub told : PrivateCluster → Happening → List Output
-told p (Asked connection i moment request) =
-    Reply connection (reply_at i (p.incarnation i) (effective moment p.clock) request (local_of (p.at i))) ∷ []
-told p (Ticked moment) = []
+abbrev pub unchanged : PrivateCluster → Course
+unchanged p = record { cluster = p; said = []; fits = true }
 
--- no count of the stamps that this makes passes the greatest
-unfoldable pub fits : PrivateCluster → Happening → Bool
-fits p (Asked connection i moment request) =
-    fits_at i (p.incarnation i) (effective moment p.clock) request (local_of (p.at i))
-fits p (Ticked moment) = true
+-- the instance reacts at this moment
+abbrev pub react : (Here → Local → Reaction) → (moment i : ℕ) → PrivateCluster → Course
+react reaction moment i p =
+    let r : Reaction = reaction (here_at p moment i) (local_of (p.at i)) in
+    record { cluster = record p { at = put_at p.at i (own_after moment r (p.at i)) }; said = r.said; fits = r.fits }
+
+-- ---- one thing happens
+
+-- why it is refused
+abbrev pub refusal_of : PrivateCluster → Happening → Option Refused
+refusal_of p (Asked connection i moment request) = None
+refusal_of p (Ticked moment) = if is_refused_tick moment p.clock then Some MomentRefused else None
+
+-- what happens where it isn't refused
+abbrev pub handled : PrivateCluster → Happening → Course
+handled p (Asked connection i moment request) =
+    react (λ here local. asked here connection request local) (effective moment p.clock) i p
+handled p (Ticked moment) = unchanged (record p { clock = moment })
+
+-- what is refused changes nothing
+unfoldable pub course : PrivateCluster → Happening → Course
+course p h = if is_some (refusal_of p h) then unchanged p else handled p h
+
+-- the cluster afterwards, what it puts out, and that no count passed the greatest
+abbrev pub after : PrivateCluster → Happening → PrivateCluster
+after p h = (course p h).cluster
+
+abbrev pub told : PrivateCluster → Happening → List Output
+told p h = map (output_of p.tenant) (course p h).said
+
+abbrev pub fits : PrivateCluster → Happening → Bool
+fits p h = (course p h).fits
 
 -- one thing after the other
 abbrev pub after_all : PrivateCluster → List Happening → PrivateCluster
 after_all p [] = p
 after_all p (h ∷ hs) = after_all (after p h) hs
 
--- what it puts out in all
 abbrev pub told_all : PrivateCluster → List Happening → List Output
 told_all p [] = []
 told_all p (h ∷ hs) = told p h ++ told_all (after p h) hs
 
--- .. and none passes it all along
 abbrev pub fits_all : PrivateCluster → List Happening → Bool
 fits_all p [] = true
 fits_all p (h ∷ hs) = fits p h && fits_all (after p h) hs

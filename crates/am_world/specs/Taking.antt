@@ -1,26 +1,21 @@
--- what a piece does to the world, by the verdict on all bytes of its connection
-use Rattle.std.specs.Prelude.{ℕ, ◌≡◌, ◌==◌, true, List, [], ◌∷◌, ◌++◌, Option, None, Some, if◌then◌else◌}
-use Rattle.am_http.specs.Connections.{bytes_of, left_open}
+-- what a piece does to the instances, by the verdict on all bytes of its connection
+use Rattle.std.specs.Prelude.{ℕ, ◌≡◌, ◌==◌, true, List, if◌then◌else◌}
+use Rattle.am_http.specs.Connections.{left_open}
 use Rattle.am_http.specs.Verdict.{verdict}
-use Rattle.am_world.specs.declared.event.Output.{Output}
-use Rattle.am_world.specs.declared.event.Output.TheVariants.{Reply}
-use Rattle.am_world.specs.declared.world.World.{World}
-use Rattle.am_world.specs.Local.{reply_by, fits_by, local_by}
-use Rattle.am_world.specs.Places.{local_in}
+use Rattle.am_world.specs.declared.instance.Instance.{Instance}
+use Rattle.am_world.specs.Places.{local_at, bytes_at, up_at, incarnation_at, here_in, SameElsewhere}
+use Rattle.am_world.specs.Reaction.{Brought, brought}
 
--- a reply that is due goes out on its connection
-abbrev pub outs_by : ℕ → Option (List ℕ) → List Output
-outs_by c None = []
-outs_by c (Some bytes) = Reply c bytes ∷ []
+-- all these bytes of the connection, taken by the instance at this moment
+abbrev pub taken_at : ℕ → ℕ → List ℕ → ℕ → List Instance → Brought
+taken_at i c bytes moment instances =
+    brought (verdict bytes) (here_in moment i instances) c (λ t. local_at t i instances)
 
--- the new world took in all these bytes of the connection at this moment
-pub record Takes (w : World) (c : ℕ) (bytes : List ℕ) (moment : ℕ) (w' : World) : Type 0 where
-  pub outputs : w'.outputs.items ≡ w.outputs.items ++
-      outs_by c (reply_by (verdict bytes) 1 w.instance.incarnation moment (λ t. local_in t w.instance))
-  pub fits : fits_by (verdict bytes) 1 w.instance.incarnation moment (λ t. local_in t w.instance) ≡ true
-  pub local : (t : List ℕ) →
-      local_in t w'.instance ≡ local_by (verdict bytes) t 1 w.instance.incarnation moment (local_in t w.instance)
-  pub front : (d : ℕ) →
-      bytes_of d w'.instance.front ≡ (if d == c then left_open (verdict bytes) bytes else bytes_of d w.instance.front)
-  pub up : w'.instance.up ≡ w.instance.up
-  pub incarnation : w'.instance.incarnation ≡ w.instance.incarnation
+-- the instance took them in, and all others are as they were
+pub record Takes (i c : ℕ) (bytes : List ℕ) (moment : ℕ) (before after : List Instance) : Type 0 where
+  pub local : (t : List ℕ) → local_at t i after ≡ (taken_at i c bytes moment before).local t
+  pub reading : (d : ℕ) →
+      bytes_at d i after ≡ (if d == c then left_open (verdict bytes) bytes else bytes_at d i before)
+  pub up : up_at i after ≡ up_at i before
+  pub incarnation : incarnation_at i after ≡ incarnation_at i before
+  pub others : SameElsewhere i before after

@@ -1,20 +1,15 @@
 //! The decision on a request of a tenant.
 
 ghost use Rattle.std.specs.Prelude.{ℕ, List, Result};
-ghost use Rattle.am_item.specs.Best.{IsRising};
-ghost use Rattle.am_item.specs.declared.item.Alert.{Alert};
-ghost use Rattle.am_item.specs.declared.item.Item.{Item};
-ghost use Rattle.am_alert.specs.Outcome.{Fails};
 ghost use Rattle.am_alert.specs.Posted.{posted};
-ghost use Rattle.am_alert.specs.declared.fault.PostedFault.{PostedFault};
 ghost use Rattle.am_alert.specs.declared.maker.Maker.{Maker};
-ghost use Rattle.am_world.specs.Decision.{Decides, decided, listed, resolve_timeout, stored_or_refused};
+ghost use Rattle.am_world.specs.Decision.{Decides, decided, listed, refused, resolve_timeout, stored_or_refused};
 
 use crate::alert_json::alerts_json;
-use am_alert::{AlertBook, ItemsFault, Maker, PostedFault, items_of_post, read_posted};
-use am_http::{Method, Request, refusal_body};
-use am_item::Item;
-use am_text::{Moment, Octets};
+use am_alert::{AlertBook, Maker, items_of_post, read_posted};
+use am_http::{Endpoint, Method, Request, refusal_body};
+use am_item::{Fault, Held, Item};
+use am_text::{Failure, Moment, Octets};
 use std::alloc::Global;
 
 /// How many milliseconds after its post an alert without an end ends.
@@ -28,30 +23,35 @@ pub struct Decided {
     pub body: Octets,
 }
 
-/// Decides a request of a tenant, of whom `held` is held in the order of label sets, at a moment. POST stores
-/// the alerts of its body, and GET lists those that fire. A refusal is a decision too.
+/// Decides a request of a tenant, of whom `held` is held, at a moment. A refusal is a decision too.
 ///
 /// Fails only where a count of `maker` would pass 2^62, or where memory is refused.
 #[tactic(auto, unfolding(crate::specs::Decision::decided))]
 pub fn decide(
     alloc: Global,
     request: &Request,
-    held: &[Item],
+    held: &Held,
     moment: Moment,
     maker: Maker,
-) -> Result<Decided, ItemsFault>
-    requires { IsRising held.now }
+) -> Result<Decided, Fault>
     ensures { Decides result (decided request.now held.now moment maker) }
 {
-    match request.method {
-        Method::Get => list(alloc, held, moment),
-        Method::Post => store(alloc, request.body.as_slice(), held, moment, maker),
+    match request.endpoint {
+        Endpoint::Alerts => match request.method {
+            Method::Get => list(alloc, held, moment),
+            Method::Post => store(alloc, request.body.as_slice(), held, moment, maker),
+            Method::Delete => refuse(alloc, 405, "H6"),
+        },
+        Endpoint::AlertGroups
+        | Endpoint::Silences
+        | Endpoint::Silence(_)
+        | Endpoint::Receivers
+        | Endpoint::Configuration => refuse(alloc, 404, "H5"),
     }
 }
 
 // The alerts that fire.
-fn list(alloc: Global, held: &[Item], moment: Moment) -> Result<Decided, ItemsFault>
-    requires { IsRising held.now }
+fn list(alloc: Global, held: &Held, moment: Moment) -> Result<Decided, Fault>
     ensures { Decides result (listed held.now moment) }
 {
     let firing = AlertBook::new(held).firing(alloc, moment)?;
@@ -67,11 +67,10 @@ fn list(alloc: Global, held: &[Item], moment: Moment) -> Result<Decided, ItemsFa
 fn store(
     alloc: Global,
     body: &[u8],
-    held: &[Item],
+    held: &Held,
     moment: Moment,
     maker: Maker,
-) -> Result<Decided, ItemsFault>
-    requires { IsRising held.now }
+) -> Result<Decided, Fault>
     ensures { Decides result (stored_or_refused held.now moment maker (posted moment resolve_timeout body.now)) }
 {
     match read_posted(alloc, body, moment, RESOLVE_TIMEOUT) {
@@ -83,22 +82,18 @@ fn store(
                 body: Octets::from_vec(Vec::new(alloc)),
             })
         }
-        Err(fault) => refuse(alloc, fault),
+        Err(Failure::Refused(reason)) => refuse(alloc, 400, reason.code()),
+        Err(Failure::OutOfMemory) => Err(Fault::OutOfMemory),
     }
 }
 
-// The refusal of a posted list: nothing of it is stored.
-fn refuse(alloc: Global, fault: PostedFault) -> Result<Decided, ItemsFault>
-    ensures { (outcome : Result (List Alert) PostedFault) → Fails fault outcome
-        → (held : List Item) (moment : ℕ) (maker : Maker)
-        → Decides result (stored_or_refused held moment maker outcome) }
+// A refusal, by its code: nothing is stored.
+fn refuse(alloc: Global, status: u16, code: &str) -> Result<Decided, Fault>
+    ensures { Decides result (refused status code.now) }
 {
-    match fault.code() {
-        None => Err(ItemsFault::OutOfMemory),
-        Some(code) => Ok(Decided {
-            items: Vec::new(alloc),
-            status: 400,
-            body: refusal_body(alloc, code)?,
-        }),
-    }
+    Ok(Decided {
+        items: Vec::new(alloc),
+        status,
+        body: refusal_body(alloc, code)?,
+    })
 }

@@ -51,7 +51,7 @@ pub enum Refused {
 }
 
 impl Refused {
-    ghost use Rattle.am_world.specs.RefusalCode.{code_of};
+    ghost use Rattle.am_world.specs.Refusal.{code_of};
 
     /// The refusal's code, as the program prints it.
     pub fn code(self) -> &'static str
@@ -67,7 +67,7 @@ impl Refused {
 
 impl fmt::Display for Refused {
     ghost use Rattle.std.specs.Prelude.{Some};
-    ghost use Rattle.am_world.specs.RefusalCode.{code_of};
+    ghost use Rattle.am_world.specs.Refusal.{code_of};
 
     ghost output = { λ refused. Some (code_of refused) };
 

@@ -1,14 +1,16 @@
-//! Events, the instance, the decision, and the theorem: every tenant as if alone.
+//! Events, the instances, the decision, and the theorem: every tenant as if alone.
 #![tactic(auto)]
 
 mod alert_json;
 mod decision;
 pub mod event;
 mod instance;
+mod instances;
 pub mod setup;
 pub mod theorem;
 pub mod world;
 
+pub use am_item::Fault;
 pub use event::{Event, LAST_MOMENT, Output, Refused};
 pub use setup::Setup;
 pub use world::World;

@@ -1,16 +1,29 @@
 //! What a world is opened with.
 
-ghost use Rattle.std.specs.Prelude.{◌≡◌, ◌↔◌, ◌++◌, ◌-◌, IsTrue, IsSome, IfSome, length, replicate};
+ghost use Rattle.std.specs.Prelude.{◌≡◌, ◌↔◌, IsTrue, IsSome, IfSome};
 ghost use Rattle.std.specs.List.{list_all};
 ghost use Rattle.am_world.specs.Setup.{all_differ, is_instance, is_ring, is_setup};
 
+use std::marker::Model;
+
 /// The settings of a world. Behind the ring's instances stand zeros, which are no instance's number.
-#[derive(Clone, Copy)]
+#[derive(Drop)]
 pub struct Setup {
     key: [u8; 32],
     ring: [u8; 8],
     cache: u32,
     start: u32,
+}
+
+impl Model for Setup {
+    ghost use Rattle.am_world.specs.Setup.{Settings, ring_in};
+
+    ghost Value = { Settings };
+
+    ghost view = { λ s. record {
+      origin = record { service_key = s.key; ring = ring_in s.ring; first = s.start };
+      cache = s.cache;
+    } };
 }
 
 impl Setup {
@@ -19,10 +32,10 @@ impl Setup {
     /// one of them is out of its range. Key, ring and capacity aren't used yet.
     pub fn new(key: [u8; 32], ring: &[u8], cache: u32, start: u32) -> Option<Setup>
         ensures valid { IsSome result ↔ IsTrue (is_setup ring.now cache start) }
-        ensures key { IfSome result (λ setup. setup.key ≡ key) }
-        ensures ring { IfSome result (λ setup. setup.ring ≡ ring.now ++ replicate (8 - length ring.now) 0) }
-        ensures cache { IfSome result (λ setup. setup.cache ≡ cache) }
-        ensures start { IfSome result (λ setup. setup.start ≡ start) }
+        ensures settings { IfSome result (λ setup. setup ≡ record {
+          origin = record { service_key = key; ring = ring.now; first = start };
+          cache = cache;
+        }) }
     {
         if !names_ring(ring) || cache == 0 || cache > 65_536 || start == 0 {
             return None;
@@ -39,7 +52,7 @@ impl Setup {
 
     /// The first incarnation of every instance.
     pub fn start(&self) -> u32
-        ensures { result ≡ self.now.start }
+        ensures { result ≡ self.now.origin.first }
     {
         self.start
     }

@@ -1,54 +1,62 @@
-//! The theorem in two closed statements: each tenant is as if alone, and equal views give equal outputs.
+//! The theorem in closed statements: each tenant is as if alone, equal views give equal outputs, and which events are
+//! refused is told by the events before them.
 
-ghost use Rattle.std.specs.Prelude.{◌≡◌, ℕ, List, [], true};
-ghost use Rattle.std.specs.List.{list_all};
-ghost use Rattle.am_world.specs.Outputs.{outputs_of, front_outputs, front_told_all, is_of_somebody};
-ghost use Rattle.am_world.specs.PrivateCluster.{opened, told_all};
-ghost use Rattle.am_world.specs.Simulation.{RunsFrom};
-ghost use Rattle.am_world.specs.View.{view, watch_all, names_once};
+ghost use Rattle.std.specs.Prelude.{◌≡◌, ℕ, List, IfOk, true};
+ghost use Rattle.am_world.specs.declared.event.Event.{Event};
+ghost use Rattle.am_world.specs.declared.world.World.{World};
+ghost use Rattle.am_world.specs.Outputs.{outputs_of};
+ghost use Rattle.am_world.specs.Places.{AreNumbered};
+ghost use Rattle.am_world.specs.Refusal.{refusal, refusal_seen};
+ghost use Rattle.am_world.specs.Runs.{Alone, RunsFrom};
+ghost use Rattle.am_world.specs.Simulation.{Follows, fault_count, put_out};
+ghost use Rattle.am_world.specs.View.{Watch, first_watch, names_once, view, watch_all};
 
 use crate::event::Event;
 use crate::setup::Setup;
 use crate::world::World;
-use std::alloc::Global;
+use std::alloc::{AllocError, Global};
 
 /// Opens a world and runs a list of events in it. Whatever the other tenants do, what the world puts out for a
 /// tenant is, byte for byte and in order, what a private cluster puts out that has this tenant alone and sees
 /// what the events are to it; provided that no fault came and no connection's name is used twice.
-pub fn run_alone(alloc: Global, setup: Setup, events: &[Event]) -> World
-    ensures steps { RunsFrom setup.start events.now result }
-    ensures alone { result.faults ≡ 0 → names_once [] events.now → (t : List ℕ) →
-        outputs_of t (watch_all [] events.now) result.outputs.items ≡
-        told_all (opened setup.start) (view t [] events.now) }
-    ensures front { result.faults ≡ 0 → names_once [] events.now →
-        front_outputs (watch_all [] events.now) result.outputs.items ≡ front_told_all [] events.now }
-    ensures whole { result.faults ≡ 0 → names_once [] events.now →
-        list_all (is_of_somebody (watch_all [] events.now)) result.outputs.items ≡ true }
+pub fn run_alone(alloc: Global, setup: Setup, events: &[Event]) -> Result<World, AllocError>
+    ensures steps { IfOk result (RunsFrom setup.origin events.now) }
+    ensures alone { IfOk result (λ world. fault_count world ≡ 0 → names_once (first_watch setup.origin) events.now →
+        Alone setup.origin events.now (put_out world)) }
 {
-    let mut world = World::open(alloc, setup);
+    let mut world = World::open(alloc, setup)?;
     world.run(alloc, events);
-    world
+    Ok(world)
 }
 
 /// Opens two worlds and runs a list of events in each. A tenant to whom both lists are the same gets the same
-/// outputs of both, whatever they are to others; provided that no fault came and no connection's name is used
-/// twice in a list.
+/// outputs of both, whatever they are to others; provided that both start from the same, no fault came, and no
+/// connection's name is used twice in a list.
 pub fn run_both(
     alloc: Global,
     setup: Setup,
     events: &[Event],
     other_setup: Setup,
     other_events: &[Event],
-) -> (World, World)
-    ensures steps { RunsFrom setup.start events.now result.0 }
-    ensures other_steps { RunsFrom other_setup.start other_events.now result.1 }
-    ensures equal { result.0.faults ≡ 0 → result.1.faults ≡ 0 →
-        names_once [] events.now → names_once [] other_events.now →
-        setup.start ≡ other_setup.start → (t : List ℕ) → view t [] events.now ≡ view t [] other_events.now →
-        outputs_of t (watch_all [] events.now) result.0.outputs.items ≡
-        outputs_of t (watch_all [] other_events.now) result.1.outputs.items }
+) -> Result<(World, World), AllocError>
+    ensures steps { IfOk result (λ worlds. RunsFrom setup.origin events.now worlds.0) }
+    ensures other_steps { IfOk result (λ worlds. RunsFrom other_setup.origin other_events.now worlds.1) }
+    ensures equal { IfOk result (λ worlds. fault_count worlds.0 ≡ 0 → fault_count worlds.1 ≡ 0 →
+        setup.origin ≡ other_setup.origin →
+        names_once (first_watch setup.origin) events.now → names_once (first_watch other_setup.origin) other_events.now →
+        (t : List ℕ) →
+        view t (first_watch setup.origin) events.now ≡ view t (first_watch other_setup.origin) other_events.now →
+        outputs_of t (watch_all (first_watch setup.origin) events.now) (put_out worlds.0) ≡
+        outputs_of t (watch_all (first_watch other_setup.origin) other_events.now) (put_out worlds.1)) }
 {
-    let world = run_alone(alloc, setup, events);
-    let other = run_alone(alloc, other_setup, other_events);
-    (world, other)
+    let world = run_alone(alloc, setup, events)?;
+    let other = run_alone(alloc, other_setup, other_events)?;
+    Ok((world, other))
 }
+
+/// In a world of which what is known is so, an event is refused as the events before it say. (A world always has its
+/// eight instances in order of number.)
+pub fn refusals_are_seen()
+    ensures { (v : Watch) (w : World) (e : Event) → AreNumbered w.instances → Follows v w →
+        refusal w e ≡ refusal_seen v w.clock e }
+{}

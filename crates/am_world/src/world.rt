@@ -1,52 +1,48 @@
 //! The world: one way in, one way out.
 
-ghost use Rattle.std.specs.Prelude.{◌≡◌, ◌++◌, ◌≤◌, ◌<◌, ℕ, List, [], ◌∷◌, take, Option, None, Some, IfOk, OnOk, OnErr, IsOk, IsErr, IsSome, IsTrue, MatchOption};
-ghost use Rattle.am_http.specs.Connections.{bytes_of};
-ghost use Rattle.am_http.specs.Verdict.{verdict};
-ghost use Rattle.am_world.specs.Moments.{last_moment, effective, is_tick};
+ghost use Rattle.std.specs.Prelude.{◌≡◌, ◌+◌, ◌-◌, ◌^◌, ◌≤◌, Some, min, IfOk, OnErr, IsOk, IsTrue, MatchOption};
 
 use crate::event::{Event, LAST_MOMENT, Output, Refused};
-use crate::instance::{FIRST, Fault, Instance};
+use crate::instances::Instances;
 use crate::setup::Setup;
 use am_http::ConnectionId;
+use am_item::Fault;
 use am_text::{Moment, Octets};
-use std::alloc::Global;
+use std::alloc::{AllocError, Global};
 
 /// All instances, the clock, and what was put out so far.
 #[derive(Drop)]
 pub struct World {
     pub(crate) clock: Moment,
-    pub(crate) instance: Instance,
+    pub(crate) instances: Instances,
     pub(crate) outputs: Vec<Output>,
     pub(crate) faults: u64,
 }
 
 impl World {
-    ghost use Rattle.am_world.specs.Alone.{Forgets};
-    ghost use Rattle.am_world.specs.Faults.{Counted};
-    ghost use Rattle.am_world.specs.Local.{fits_by};
-    ghost use Rattle.am_world.specs.Refusal.{refusal, refusal_seen};
-    ghost use Rattle.am_world.specs.Places.{up_at, local_in};
-    ghost use Rattle.am_world.specs.Simulation.{Follows, Opens, IsDown, Kept, Step, Stopped};
-    ghost use Rattle.am_world.specs.Simulation.{Run, Headline, Prefixes};
-    ghost use Rattle.am_world.specs.Taking.{Takes};
-    ghost use Rattle.am_world.specs.View.{Table};
+    ghost use Rattle.am_world.specs.Moments.{last_moment, effective};
+    ghost use Rattle.am_world.specs.Places.{IsDownAt, SameElsewhere, cause_at, incarnation_at};
+    ghost use Rattle.am_world.specs.Refusal.{refusal};
+    ghost use Rattle.am_world.specs.Runs.{Run, Headline, Prefixes, Forgets};
+    ghost use Rattle.am_world.specs.Setup.{is_instance};
+    ghost use Rattle.am_world.specs.Simulation.{Opens, Step, fault_count, put_out};
 
-    /// A world at moment 0, in which no connection is open and nothing is held.
-    pub fn open(alloc: Global, setup: Setup) -> World
-        ensures { Opens setup.start result }
+    /// A world at moment 0, in which no connection is open and nothing is held. Fails only where memory is refused.
+    pub fn open(alloc: Global, setup: Setup) -> Result<World, AllocError>
+        ensures { IfOk result (Opens setup.origin) }
     {
-        World {
+        let instances = Instances::open(alloc, setup.start())?;
+        Ok(World {
             clock: Moment::from_milliseconds(0).unwrap(),
-            instance: Instance::opened(alloc, setup.start()),
+            instances,
             outputs: Vec::new(alloc),
             faults: 0,
-        }
+        })
     }
 
     /// What was put out so far, in order.
     pub fn outputs(&self) -> &[Output]
-        ensures { result.now ≡ self.now.outputs.items }
+        ensures { result.now ≡ put_out self.now }
     {
         self.outputs.as_slice()
     }
@@ -60,20 +56,24 @@ impl World {
 
     /// How many faults came so far, at most 2^64 - 1.
     pub fn faults(&self) -> u64
-        ensures { result ≡ self.now.faults }
+        ensures { result ≡ fault_count self.now }
     {
         self.faults
     }
 
+    /// The fault that stopped an instance, where one did.
+    pub fn cause(&self, instance: u8) -> Option<Fault>
+        ensures { result ≡ cause_at instance self.now.instances }
+    {
+        self.instances.cause(instance)
+    }
+
     /// Handles one event. A refused one changes nothing. Where the system refuses memory, or a count passes its
-    /// greatest number, the instance stops, the event puts nothing out, and one fault more is counted.
+    /// greatest number, the instance that was handling it stops, puts nothing out, and one fault more is counted.
     pub fn step(&mut self, alloc: Global, event: &Event) -> Result<(), Refused>
-        ensures kept { Step self.old event.now self.new }
+        ensures step { Step self.old event.now self.new }
         ensures refused { MatchOption (refusal self.old event.now) (IsOk result) (λ r. result ≡ Err r) }
         ensures err { OnErr result (self.new ≡ self.old) }
-        ensures seen { (v : Table) → Follows v self.old →
-            MatchOption (refusal_seen v self.old.clock event.now) (IsOk result) (λ r. result ≡ Err r) }
-        ensures down { IsDown self.old → OnOk result (IsTrue (is_tick event.now)) }
     {
         match event {
             Event::Open {
@@ -95,7 +95,6 @@ impl World {
         ensures steps { Run self.old events.now self.new }
         ensures headline { Headline self.old events.now self.new }
         ensures prefixes { Prefixes self.old events.now self.new }
-        ensures down { IsDown self.old → IsDown self.new × (self.new.outputs.items ≡ self.old.outputs.items) }
     {
         for event in events {
             let _ = self.step(alloc, event);
@@ -108,18 +107,17 @@ impl World {
         connection: ConnectionId,
         instance: u8,
     ) -> Result<(), Refused>
-        ensures kept { Step self.old (Event.Open connection instance) self.new }
+        ensures step { Step self.old (Event.Open connection instance) self.new }
         ensures refused { MatchOption (refusal self.old (Event.Open connection instance)) (IsOk result) (λ r. result ≡ Err r) }
         ensures err { OnErr result (self.new ≡ self.old) }
-        ensures down { IsDown self.old → IsErr result }
     {
-        if !self.is_up(instance) {
+        if !self.instances.is_up(instance) {
             return Err(Refused::InstanceNotUp);
         }
-        match self.instance.open(alloc, connection) {
+        match self.instances.begin(alloc, instance, connection) {
             Ok(()) => Ok(()),
             Err(_) => {
-                self.fault(alloc);
+                self.stop(alloc, instance, Fault::OutOfMemory);
                 Ok(())
             }
         }
@@ -132,31 +130,33 @@ impl World {
         moment: u64,
         piece: &Octets,
     ) -> Result<(), Refused>
-        ensures kept { Step self.old (Event.Bytes connection moment piece.now) self.new }
+        ensures step { Step self.old (Event.Bytes connection moment piece.now) self.new }
         ensures refused { MatchOption (refusal self.old (Event.Bytes connection moment piece.now))
             (IsOk result) (λ r. result ≡ Err r) }
         ensures err { OnErr result (self.new ≡ self.old) }
-        ensures down { IsDown self.old → IsErr result }
     {
         if moment > LAST_MOMENT {
             return Err(Refused::MomentRefused);
         }
-        if !self.instance.is_reading(connection) {
+        let Some(reader) = self.instances.reader_of(connection) else {
             return Err(Refused::NotReading);
-        }
+        };
         let at = self.effective(moment);
-        match self.take(alloc, connection, piece, at) {
+        let outputs = &mut self.outputs;
+        match self
+            .instances
+            .feed(alloc, reader, connection, piece.as_slice(), at, outputs)
+        {
             Ok(()) => Ok(()),
-            Err(_) => {
-                self.fault(alloc);
+            Err(fault) => {
+                self.stop(alloc, reader, fault);
                 Ok(())
             }
         }
     }
 
     fn on_tick(&mut self, moment: u64) -> Result<(), Refused>
-        ensures kept { Kept self.old (Event.Tick moment) self.new }
-        ensures faults { self.new.faults ≡ self.old.faults }
+        ensures step { Step self.old (Event.Tick moment) self.new }
         ensures refused { MatchOption (refusal self.old (Event.Tick moment)) (IsOk result) (λ r. result ≡ Err r) }
         ensures err { OnErr result (self.new ≡ self.old) }
     {
@@ -165,13 +165,6 @@ impl World {
         }
         self.clock = self.effective(moment);
         Ok(())
-    }
-
-    /// Whether an instance is up.
-    fn is_up(&self, instance: u8) -> bool
-        ensures { result ≡ up_at instance self.now }
-    {
-        instance == FIRST && self.instance.up
     }
 
     /// The moment at which an event of this own moment happens.
@@ -184,37 +177,18 @@ impl World {
             _ => self.clock,
         }
     }
-
-    /// Hands a piece to the instance, and puts out the reply where there is one.
-    fn take(
-        &mut self,
-        alloc: Global,
-        connection: ConnectionId,
-        piece: &Octets,
-        at: Moment,
-    ) -> Result<(), Fault>
-        requires { IsSome (bytes_of connection self.old.instance.front) }
-        ensures taken { OnOk result ((before : List ℕ) → bytes_of connection self.old.instance.front ≡ Some before →
-            Takes self.old connection (before ++ piece.now) at self.new) }
-        ensures counts { (before : List ℕ) → bytes_of connection self.old.instance.front ≡ Some before →
-            Counted result (fits_by (verdict (before ++ piece.now)) FIRST self.old.instance.incarnation at
-            (λ t. local_in t self.old.instance)) }
-        ensures outputs { OnErr result (self.new.outputs.items ≡ self.old.outputs.items) }
-        ensures incarnation { self.new.instance.incarnation ≡ self.old.instance.incarnation }
+    /// Stops an instance as a crash does, and counts a fault.
+    fn stop(&mut self, alloc: Global, instance: u8, fault: Fault)
+        requires { IsTrue (is_instance instance) }
+        ensures down { IsDownAt instance self.new.instances }
+        ensures cause { cause_at instance self.new.instances ≡ Some fault }
+        ensures others { SameElsewhere instance self.old.instances self.new.instances }
+        ensures incarnation { incarnation_at instance self.new.instances ≡ incarnation_at instance self.old.instances }
+        ensures counted { self.new.faults ≡ min (self.old.faults + 1) (2 ^ 64 - 1) }
+        ensures outputs { self.new.outputs.items ≡ self.old.outputs.items }
         ensures clock { self.new.clock ≡ self.old.clock }
-        ensures faults { self.new.faults ≡ self.old.faults }
     {
-        if let Some(bytes) = self.instance.feed(alloc, connection, piece.as_slice(), at)? {
-            self.outputs.push(Output::Reply { connection, bytes })?;
-        }
-        Ok(())
-    }
-
-    /// Stops the instance and counts a fault.
-    fn fault(&mut self, alloc: Global)
-        ensures { Stopped self.old self.new }
-    {
-        self.instance.stop(alloc);
+        self.instances.stop(alloc, instance, fault);
         self.faults = self.faults.saturating_add(1);
     }
 }

@@ -1,5 +1,6 @@
 pub mod LineLemmas
 pub mod NamesLemmas
+pub mod NumberLemmas
 pub mod PlayingLemmas
 pub mod ScenarioLemmas
 pub mod TraceLemmas

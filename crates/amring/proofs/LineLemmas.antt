@@ -1,32 +1,9 @@
--- Which words are numbers, and which lines are looked at as text.
-use Rattle.std.proofs.Common.{◌≡◌, ◌≢◌, ℕ, ◌^◌, ◌<◌, Bool, true, false, eqb, List, length, get_or, Some, None, Result, Ok, Err, arith}
-use Rattle.std.specs.Str.{is_utf8, all_ascii_digits, IsUtf8}
-use Rattle.std.specs.Str.Parse.{digits_value, ParsesUnsigned}
+-- Which lines are looked at as text.
+use Rattle.std.proofs.Common.{◌≡◌, ◌≢◌, ℕ, true, List, length, get_or, None, arith}
+use Rattle.std.specs.Str.{is_utf8, IsUtf8}
 use Rattle.std.proofs.lemmas.Bool.Decides.{nat_tests}
 use Rattle.std.proofs.lemmas.Str.{IsUtf8-from_is_utf8, is_utf8-from_IsUtf8}
-use Rattle.std.proofs.lemmas.Str.Parse.{IsNumeralModel, numerals_by_value, tells_all_ascii_digits, parse_plain}
-use Rattle.amring.specs.Line.{number_of, command_of, text_command}
-
--- digits, and the number that they write
-own : IsNumeralModel (λ ds. all_ascii_digits ds ≡ true) (digits_value 10)
-own = numerals_by_value _ tells_all_ascii_digits
-
-number_taken : (s : List ℕ) (n : ℕ) → all_ascii_digits s ≡ true → 0 < length s → digits_value 10 s < 2 ^ 64 → n ≡ digits_value 10 s → number_of s ≡ Some n
-unfolding number_of
-number_taken s n digits some fits e = grind (arith, nat_tests)
-
-number_refused : (s : List ℕ) → ((all_ascii_digits s ≡ true) × (0 < length s) × (digits_value 10 s < 2 ^ 64) → ⊥) → number_of s ≡ None
-unfolding number_of
-number_refused s not = grind (arith, nat_tests)
-
--- what `parse` reads of a word without a plus is the word's number
-pub number_of-parse : {E : Type 0} (s : List ℕ) (r : Result ℕ E) (n : ℕ) → ParsesUnsigned 64 10 s r → get_or s 0 0 ≢ 43 → r ≡ Ok n → number_of s ≡ Some n
-number_of-parse s r n h plain e =
-    let k = rw e at (parse_plain own 64 s r h plain) in
-    number_taken s n k.0.0 k.0.1 k.0.2 k.1
-
-pub number_of-no_parse : {E : Type 0} (s : List ℕ) (r : Result ℕ E) (f : E) → ParsesUnsigned 64 10 s r → get_or s 0 0 ≢ 43 → r ≡ Err f → number_of s ≡ None
-number_of-no_parse s r f h plain e = number_refused s (rw e at (parse_plain own 64 s r h plain))
+use Rattle.amring.specs.Line.{command_of, text_command}
 
 -- a line that is neither empty nor a comment is looked at as text, where it is one
 pub command_of-text : (line : List ℕ) → length line ≢ 0 → get_or line 0 0 ≢ 35 → IsUtf8 line → command_of line ≡ text_command line
@@ -36,7 +13,3 @@ command_of-text line some plain text = let e : is_utf8 line ≡ true = is_utf8-f
 pub command_of-bytes : (line : List ℕ) → length line ≢ 0 → get_or line 0 0 ≢ 35 → (IsUtf8 line → ⊥) → command_of line ≡ None
 unfolding command_of
 command_of-bytes line some plain bytes = grind (arith, nat_tests, IsUtf8-from_is_utf8)
-
--- a word that doesn't start with a plus
-pub not_plus : (s : List ℕ) (r : Bool) → r ≡ false → r ≡ eqb (get_or s 0 0) 43 → get_or s 0 0 ≢ 43
-not_plus s r absent told = grind (arith, nat_tests)

@@ -8,10 +8,10 @@ use Rattle.am_world.specs.declared.event.Event.{Event}
 use Rattle.am_world.specs.declared.event.Event.TheVariants as event
 use Rattle.am_world.specs.declared.event.Refused.{Refused}
 use Rattle.am_world.specs.declared.world.World.{World}
-use Rattle.am_world.specs.Alone.{Forgets}
 use Rattle.am_world.specs.Places.{up_at}
 use Rattle.am_world.specs.Refusal.{refusal}
-use Rattle.am_world.specs.Simulation.{Step}
+use Rattle.am_world.specs.Runs.{Forgets}
+use Rattle.am_world.specs.Simulation.{Step, put_out}
 use Rattle.amring.specs.declared.play.Player.{Player}
 use Rattle.amring.specs.Playing.{Happens, Either, Gives, happened, goes_on, is_piece}
 use Rattle.amring.specs.Trace.{Happened, Prints, text_of, printed, output_line, refusal_line}
@@ -58,8 +58,8 @@ either_second P Q false e second = second
 -- refusals don't depend on what was put out
 pub refusal_same : (w w' : World) (e : Event) → Forgets w w' → refusal w' e ≡ refusal w e
 unfolding up_at
-refusal_same w w' (event.Open c i) forgets = rw forgets.instance refl
-refusal_same w w' (event.Bytes c moment piece) forgets = rw forgets.instance refl
+refusal_same w w' (event.Open c i) forgets = rw forgets.instances refl
+refusal_same w w' (event.Bytes c moment piece) forgets = rw forgets.instances refl
 refusal_same w w' (event.Tick moment) forgets = rw forgets.clock refl
 
 -- whether an event was refused, by what came of it
@@ -83,14 +83,14 @@ pub prints_event : (p : Player) (e : Event) (p' : Player) (before : World) (refu
     Forgets p.world before → Step before e p'.world → refusal before e ≡ refused →
     (IsSome refused → p'.world ≡ before) →
     p'.connections ≡ p.connections → p'.moment ≡ p.moment →
-    new ≡ (old ++ flat_map (output_line p.connections) p'.world.outputs.items) ++ refusal_line refused →
+    new ≡ (old ++ flat_map (output_line p.connections) (put_out p'.world)) ++ refusal_line refused →
     Prints old new (Happens p e p')
 prints_event p e p' before refused old new forgets step is same connections moment text =
     let seen : refusal p.world e ≡ refused = sym (refusal_same p.world before e forgets) ∙ is in (
       happened p e p' ∷ [],
-      rw seen (text ∙ append_assoc old (flat_map (output_line p.connections) p'.world.outputs.items)
+      rw seen (text ∙ append_assoc old (flat_map (output_line p.connections) (put_out p'.world))
           (refusal_line refused) ∙ ap (λ s. old ++ s)
-          (sym (append-nil (flat_map (output_line p.connections) p'.world.outputs.items ++ refusal_line refused)))),
+          (sym (append-nil (flat_map (output_line p.connections) (put_out p'.world) ++ refusal_line refused)))),
       record {
         before = before;
         forgets = forgets;

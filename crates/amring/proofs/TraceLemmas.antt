@@ -2,12 +2,12 @@
 use Rattle.std.proofs.Common.{◌≡◌, ◌∙◌, ℕ, ◌+◌, Bool, true, false, is_none, List, [], ◌∷◌, ◌++◌, MatchOption, Option, None, Some, refl, sym, ap}
 use Rattle.am_world.specs.declared.event.Event.TheVariants as event
 use Rattle.am_world.specs.declared.event.Event.{Event}
-use Rattle.am_world.specs.declared.setup.Setup.{Setup}
 use Rattle.am_world.specs.declared.world.World.{World}
-use Rattle.am_world.specs.Alone.{Forgets, Alone}
 use Rattle.am_world.specs.Refusal.{refusal}
-use Rattle.am_world.specs.Simulation.{Step}
-use Rattle.am_world.specs.View.{names_once}
+use Rattle.am_world.specs.Runs.{Alone, Forgets}
+use Rattle.am_world.specs.Setup.{Origin}
+use Rattle.am_world.specs.Simulation.{Step, fault_count, put_out}
+use Rattle.am_world.specs.View.{first_watch, names_once}
 use Rattle.am_world.proofs.Steps.{Steps, alone}
 use Rattle.amring.specs.Line.{command_of}
 use Rattle.amring.specs.Playing.{Happens, Either, Come, Gives, Calls, Obeys, Plays, IsStart, goes_on}
@@ -23,8 +23,8 @@ use Rattle.amring.specs.declared.play.Player.{Player}
 abbrev pub Traced : World → List Happened → World → Type 0
 Traced w [] w' = w' ≡ w
 Traced w (h ∷ trace) w' =
-    (before mid : World) × Forgets w before × Step before h.event mid × (h.outputs ≡ mid.outputs.items) ×
-    (h.faults ≡ mid.faults) × Traced mid trace w'
+    (before mid : World) × Forgets w before × Step before h.event mid × (h.outputs ≡ put_out mid) ×
+    (h.faults ≡ fault_count mid) × Traced mid trace w'
 
 traced_more : (w : World) (first rest : List Happened) (mid w' : World) → Traced w first mid → Traced mid rest w' →
     Traced w (first ++ rest) w'
@@ -105,19 +105,19 @@ traced_steps w (h ∷ trace) w' (before, mid, forgets, step, outs, faults, trace
     (before, mid, outputs trace, forgets, step, ap (λ os. os ++ outputs trace) outs, traced_steps mid trace w' traced)
 
 -- each tenant is as if alone, where no fault came and no connection's name was used twice
-traced_alone : (setup : Setup) (p : Player) (trace : List Happened) (w' : World) → IsStart setup p →
-    Traced p.world trace w' → w'.faults ≡ 0 → names_once [] (events trace) →
-    Alone setup.start (events trace) (outputs trace)
-traced_alone setup p trace w' start traced none once =
-    alone setup.start p.world (events trace) (outputs trace) w' start.opens (traced_steps p.world trace w' traced)
+traced_alone : (origin : Origin) (p : Player) (trace : List Happened) (w' : World) → IsStart origin p →
+    Traced p.world trace w' → fault_count w' ≡ 0 → names_once (first_watch origin) (events trace) →
+    Alone origin (events trace) (outputs trace)
+traced_alone origin p trace w' start traced none once =
+    alone origin p.world (events trace) (outputs trace) w' start.opens (traced_steps p.world trace w' traced)
     none once
 
-pub course_alone : (setup : Setup) (p : Player) (bytes : Option (List ℕ)) (played : Played) (trace : List Happened)
-    (p' : Player) → IsStart setup p →
-    Course p bytes played trace p' → p'.world.faults ≡ 0 → names_once [] (events trace) →
-    Alone setup.start (events trace) (outputs trace)
-course_alone setup p bytes played trace p' start course =
-    traced_alone setup p trace p'.world start (plays_traced 1 p course.lines played trace p' course.plays)
+pub course_alone : (origin : Origin) (p : Player) (bytes : Option (List ℕ)) (played : Played) (trace : List Happened)
+    (p' : Player) → IsStart origin p →
+    Course p bytes played trace p' → fault_count p'.world ≡ 0 → names_once (first_watch origin) (events trace) →
+    Alone origin (events trace) (outputs trace)
+course_alone origin p bytes played trace p' start course =
+    traced_alone origin p trace p'.world start (plays_traced 1 p course.lines played trace p' course.plays)
 
 -- .. and until a fault
 traced_first : (w : World) (first rest : List Happened) (w' : World) → Traced w (first ++ rest) w' → (mid : World) ×
@@ -127,17 +127,17 @@ traced_first w (h ∷ first) rest w' (before, next, forgets, step, outs, faults,
     let later = traced_first next first rest w' traced in
     (later.0, (before, next, forgets, step, outs, faults, later.1))
 
-traced_no_fault : (w : World) (trace : List Happened) (w' : World) → Traced w trace w' → w.faults ≡ 0 →
-    no_fault trace → w'.faults ≡ 0
-traced_no_fault w [] w' same none nowhere = ap (λ (x : World). x.faults) same ∙ none
+traced_no_fault : (w : World) (trace : List Happened) (w' : World) → Traced w trace w' → fault_count w ≡ 0 →
+    no_fault trace → fault_count w' ≡ 0
+traced_no_fault w [] w' same none nowhere = ap fault_count same ∙ none
 traced_no_fault w (h ∷ trace) w' (before, next, forgets, step, outs, faults, traced) none nowhere =
     traced_no_fault next trace w' traced (sym faults ∙ nowhere.0) nowhere.1
 
-pub course_until_fault : (setup : Setup) (p : Player) (bytes : Option (List ℕ)) (played : Played)
-    (trace : List Happened) (p' : Player) → IsStart setup p →
-    Course p bytes played trace p' → AloneUntilFault setup.start trace
-course_until_fault setup p bytes played trace p' start course first rest cut nowhere =
+pub course_until_fault : (origin : Origin) (p : Player) (bytes : Option (List ℕ)) (played : Played)
+    (trace : List Happened) (p' : Player) → IsStart origin p →
+    Course p bytes played trace p' → AloneUntilFault origin trace
+course_until_fault origin p bytes played trace p' start course first rest cut nowhere =
     let until = traced_first p.world first rest p'.world
     (rw cut at (plays_traced 1 p course.lines played trace p' course.plays)) in
-    traced_alone setup p first until.0 start until.1
+    traced_alone origin p first until.0 start until.1
     (traced_no_fault p.world first until.0 until.1 start.opens.faults nowhere)

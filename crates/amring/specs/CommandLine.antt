@@ -1,26 +1,77 @@
--- The command lines that the program takes, as clap describes a command.
-use Rattle.std.specs.Prelude.{◌≡◌, [], ◌∷◌, true, codes, replicate, Result, IfErr}
-use Rattle.am_world.specs.declared.setup.Setup.{Setup}
-use Rattle.clap.specs.Words.{App, new_app, with_subcommand, kind_of}
-use Rattle.clap.specs.declared.error.Error.{Error}
-use Rattle.clap.specs.declared.error.kind.ErrorKind.TheVariants.{OutOfMemory}
+-- The command lines that the program takes, as clap describes a command, and what they ask for.
+use Rattle.std.specs.Prelude.{◌≡◌, ◌≢◌, ◌⊎◌, ℕ, ◌&&◌, nat_le, if◌then◌else◌, true, List, [], ◌∷◌, Option, None, Some, option_and_then, codes, replicate}
+use Rattle.am_world.specs.Setup.{Settings}
+use Rattle.clap.specs.Words.{App, Row, Rule, Text, IsAmong, fault_of, first_of, new_app, new_rule, subcommand_of, with_rule, with_subcommand}
+use Rattle.clap.specs.Kinds.{Kinds}
+use Rattle.clap.specs.declared.error.kind.ErrorKind.{ErrorKind}
+use Rattle.clap.specs.declared.error.kind.ErrorKind.TheVariants.{DisplayHelp, DisplayVersion, OutOfMemory}
+use Rattle.amring.specs.Line.{◌>>=◌}
+use Rattle.amring.specs.Number.{number_of}
+use Rattle.amring.specs.declared.options.CommandLine.{CommandLine}
+use Rattle.amring.specs.declared.options.CommandLine.TheVariants.{Run, Help, Bad}
 
--- `amring`, which wants a subcommand
+-- the option `--NAME VALUE`, and the value that an absent one has
+abbrev pub option : Text → Text → Rule
+option name value = record (new_rule name) {
+  long = Some name;
+  value_names = 1;
+  defaults = value ∷ [];
+}
+
+-- `amring`, which has a version and wants a subcommand
 abbrev pub top : App
-top = record (new_app (codes "amring")) { top = record (new_app (codes "amring")).top { subcommand_required = true } }
+top = record (new_app (codes "amring")) {
+  top = record (new_app (codes "amring")).top { subcommand_required = true; has_version = true };
+}
 
--- `amring run`, without options
+-- `run` with its options
+abbrev pub run : App
+run = with_rule (new_app (codes "run")) (option (codes "cache") (codes "512"))
+
+-- `amring run`
 abbrev pub command_line : App
-command_line = with_subcommand top (new_app (codes "run")).top
+command_line = with_subcommand top run.top
 
--- want of memory is the only error
-abbrev pub FailsForMemory : {T : Type 0} → Result T Error → Type 0
-FailsForMemory r = IfErr r (λ e. kind_of e ≡ OutOfMemory)
+-- the kinds of what is wrong with the words; none where clap takes them
+abbrev pub kinds : List Text → Kinds
+kinds words = fault_of command_line words
 
--- the settings of a command line without options: a key of zeros, the ring of 1, 2 and 3 (zeros behind them are no
--- instances), 512 cached patterns, the first incarnation 1
-pub record IsDefault (setup : Setup) : Type 0 where
-  pub key : setup.key ≡ replicate 32 0
-  pub ring : setup.ring ≡ 1 ∷ 2 ∷ 3 ∷ 0 ∷ 0 ∷ 0 ∷ 0 ∷ 0 ∷ []
-  pub cache : setup.cache ≡ 512
-  pub start : setup.start ≡ 1
+-- the number that the option of this name says, where it is one from the least to the most
+abbrev pub number_in : Text → ℕ → ℕ → List Row → Option ℕ
+number_in name least most rows = do
+  text ← first_of name rows
+  number ← number_of text
+  if nat_le least number && nat_le number most then Some number else None
+
+-- the settings that the options say: so many cached patterns, a key of zeros, the ring of 1, 2 and 3, and the first
+-- incarnation 1
+abbrev pub settings_in : List Row → Option Settings
+settings_in rows = do
+  cache ← number_in (codes "cache") 1 65536 rows
+  Some (record {
+    origin = record { service_key = replicate 32 0; ring = 1 ∷ 2 ∷ 3 ∷ []; first = 1 };
+    cache = cache;
+  })
+
+-- .. of the subcommand that was entered
+abbrev pub settings_of : Option (Text × List Row) → Option Settings
+settings_of entered = option_and_then (λ sub. settings_in sub.1) entered
+
+-- a kind that says what is wrong with the words
+abbrev pub IsMistake : ErrorKind → Type 0
+IsMistake kind = (kind ≢ DisplayHelp) × (kind ≢ DisplayVersion) × (kind ≢ OutOfMemory)
+
+-- what an error of this kind tells
+abbrev pub Tells : ErrorKind → CommandLine → Type 0
+Tells kind (Run setup) = ⊥
+Tells kind (Help text) = (kind ≡ DisplayHelp) ⊎ (kind ≡ DisplayVersion)
+Tells kind (Bad text) = IsMistake kind
+
+-- what a command line asks for: its words are the program's own and say settings; or they ask for the help or the
+-- version; or something is wrong with a word, or an option says nothing that it takes
+abbrev pub Asks : List Text → CommandLine → Type 0
+Asks words (Run setup) =
+    (kinds words ≡ []) × (settings_of (subcommand_of command_line words) ≡ Some setup)
+Asks words (Help text) = IsAmong DisplayHelp (kinds words) ⊎ IsAmong DisplayVersion (kinds words)
+Asks words (Bad text) = ((kind : ErrorKind) × IsAmong kind (kinds words) × IsMistake kind)
+    ⊎ ((kinds words ≡ []) × (settings_of (subcommand_of command_line words) ≡ None))

@@ -1,6 +1,8 @@
 pub mod CommandLine
+pub mod Ending
 pub mod Line
 pub mod Names
+pub mod Number
 pub mod Output
 pub mod Playing
 pub mod Request

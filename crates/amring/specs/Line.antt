@@ -1,10 +1,10 @@
 -- The scenario language: what a line asks for. A line is given without its line end.
-use Rattle.std.specs.Prelude.{◌≡◌, ℕ, ◌^◌, Bool, ◌&&◌, ◌||◌, ◌==◌, nat_lt, if◌then◌else◌, List, [], length, slice_index, Option, None, Some, option_map, option_and_then, Result, Ok, Err, ⊤, codes}
-use Rattle.std.specs.Str.{is_utf8, bytes_eq, all_ascii_digits}
-use Rattle.std.specs.Str.Parse.{digits_value}
+use Rattle.std.specs.Prelude.{◌≡◌, ℕ, Bool, ◌||◌, ◌==◌, nat_lt, if◌then◌else◌, List, [], length, slice_index, Option, None, Some, option_map, option_and_then, Result, Ok, Err, ⊤, codes}
+use Rattle.std.specs.Str.{is_utf8, bytes_eq}
 use Rattle.std.specs.List.{position_or_len, before_first, after_first}
 use Rattle.serde_json.specs.Find.{as_str}
 use Rattle.serde_json.specs.Read.{read}
+use Rattle.amring.specs.Number.{number_of}
 use Rattle.amring.specs.declared.line.LineFault.{LineFault}
 use Rattle.amring.specs.declared.line.LineFault.TheVariants.{NotACommand, OutOfMemory}
 use Rattle.amring.specs.declared.command.Command.{Command}
@@ -47,13 +47,6 @@ word_then s = do
   p ← split s
   w ← word_of p.0
   Some (w, p.1)
-
--- a number in decimal digits, leading zeros taken
-unfoldable pub number_of : List ℕ → Option ℕ
-number_of s =
-    if nat_lt 0 (length s) && (all_ascii_digits s && nat_lt (digits_value 10 s) (2 ^ 64))
-    then Some (digits_value 10 s)
-    else None
 
 -- the string that a JSON text is
 unfoldable pub string_of : List ℕ → Option (List ℕ)

@@ -3,11 +3,11 @@ use Rattle.std.specs.Prelude.{◌≡◌, ℕ, ◌+◌, nat_lt, nat_le, Bool, tru
 use Rattle.std.specs.List.{concat, list_all}
 use Rattle.am_world.specs.declared.event.Event.{Event}
 use Rattle.am_world.specs.declared.event.Event.TheVariants as event
-use Rattle.am_world.specs.declared.setup.Setup.{Setup}
 use Rattle.am_world.specs.declared.world.World.{World}
-use Rattle.am_world.specs.Alone.{Forgets}
+use Rattle.am_world.specs.Runs.{Forgets}
+use Rattle.am_world.specs.Setup.{Origin}
 use Rattle.am_world.specs.Refusal.{refusal}
-use Rattle.am_world.specs.Simulation.{Opens, Step}
+use Rattle.am_world.specs.Simulation.{Opens, Step, fault_count, put_out}
 use Rattle.amring.specs.declared.command.Command.{Command}
 use Rattle.amring.specs.declared.command.Command.TheVariants.{Skip, At, Tick, Open, Bytes, Call, Pump}
 use Rattle.amring.specs.declared.play.Played.{Played}
@@ -23,10 +23,10 @@ use Rattle.amring.specs.Trace.{Happened}
 abbrev pub happened : Player → Event → Player → Happened
 happened p e p' = record {
   event = e;
-  outputs = p'.world.outputs.items;
+  outputs = put_out p'.world;
   refused = refusal p.world e;
   names = p.connections;
-  faults = p'.world.faults;
+  faults = fault_count p'.world;
 }
 
 -- an event came to the world, which forgot its outputs first; a refused one did nothing
@@ -46,7 +46,7 @@ Either false P Q = Q
 
 -- what stands on a line goes on after an event: it wasn't refused, and didn't answer the line's connection
 abbrev pub goes_on : ℕ → Player → Event → Player → Bool
-goes_on c p e p' = is_none (refusal p.world e) && not (is_answered c p'.world.outputs.items)
+goes_on c p e p' = is_none (refusal p.world e) && not (is_answered c (put_out p'.world))
 
 -- pieces came on a connection, one after the other; after the last one something is left only if it ended the line
 abbrev pub Come : ℕ → Player → List (List ℕ) → List ℕ → Player → List Happened → Type 0
@@ -119,7 +119,7 @@ Plays n p (line ∷ lines) played trace p' = MatchOption (command_of line)
     × Plays (n + 1) mid lines played rest p')
 
 -- where a scenario begins: a new world, no connection, the moment 0
-pub record IsStart (setup : Setup) (p : Player) : Type 0 where
-  pub opens : Opens setup.start p.world
+pub record IsStart (origin : Origin) (p : Player) : Type 0 where
+  pub opens : Opens origin p.world
   pub connections : p.connections ≡ []
   pub moment : p.moment ≡ 0

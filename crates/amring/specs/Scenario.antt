@@ -1,9 +1,10 @@
 -- A whole scenario: its lines, and what playing them comes to.
 use Rattle.std.specs.Prelude.{◌≡◌, ℕ, ◌==◌, List, [], ◌++◌, Option, IfSome}
 use Rattle.std.specs.List.{slice_split}
-use Rattle.am_world.specs.declared.setup.Setup.{Setup}
-use Rattle.am_world.specs.Alone.{Alone}
-use Rattle.am_world.specs.View.{names_once}
+use Rattle.am_world.specs.Runs.{Alone}
+use Rattle.am_world.specs.Setup.{Origin}
+use Rattle.am_world.specs.Simulation.{fault_count}
+use Rattle.am_world.specs.View.{first_watch, names_once}
 use Rattle.amring.specs.declared.play.Played.{Played}
 use Rattle.amring.specs.declared.play.Player.{Player}
 use Rattle.amring.specs.Playing.{Plays, IsStart}
@@ -25,15 +26,15 @@ pub record Course (start : Player) (bytes : Known) (played : Played) (trace : Li
   pub plays : Plays 1 start lines played trace end
 
 -- .. from a new world on, in which so many faults came
-pub record Scenario (setup : Setup) (bytes : Known) (played : Played) (trace : List Happened) (faults : ℕ) :
+pub record Scenario (origin : Origin) (bytes : Known) (played : Played) (trace : List Happened) (faults : ℕ) :
     Type 0 where
   pub start : Player
-  pub is_start : IsStart setup start
+  pub is_start : IsStart origin start
   pub end : Player
   pub course : Course start bytes played trace end
-  pub counted : faults ≡ end.world.faults
+  pub counted : faults ≡ fault_count end.world
 
 -- wherever a trace is cut: where no fault came before the cut, each tenant is as if alone until there
-abbrev pub AloneUntilFault : ℕ → List Happened → Type 0
-AloneUntilFault start trace = (first rest : List Happened) → trace ≡ first ++ rest → no_fault first →
-    names_once [] (events first) → Alone start (events first) (outputs first)
+abbrev pub AloneUntilFault : Origin → List Happened → Type 0
+AloneUntilFault origin trace = (first rest : List Happened) → trace ≡ first ++ rest → no_fault first →
+    names_once (first_watch origin) (events first) → Alone origin (events first) (outputs first)

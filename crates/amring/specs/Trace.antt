@@ -5,7 +5,7 @@ use Rattle.am_world.specs.declared.event.Event.{Event}
 use Rattle.am_world.specs.declared.event.Output.{Output}
 use Rattle.am_world.specs.declared.event.Output.TheVariants.{Reply}
 use Rattle.am_world.specs.declared.event.Refused.{Refused}
-use Rattle.am_world.specs.RefusalCode.{code_of}
+use Rattle.am_world.specs.Refusal.{code_of}
 use Rattle.amring.specs.Output.{reply_line}
 
 -- the line of a reply on the connection of this name, where it has one

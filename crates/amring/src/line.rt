@@ -1,7 +1,9 @@
 ghost use Rattle.std.specs.Prelude.{◌≡◌, option_map};
-ghost use Rattle.amring.specs.Line.{Reads, split, both, word_of, word_then, number_of, string_of, command_of, text_command, lone_command, named_command, at_of, open_of, bytes_of, call_of, request_of, target_of};
+ghost use Rattle.amring.specs.Number.{number_of};
+ghost use Rattle.amring.specs.Line.{Reads, split, both, word_of, word_then, string_of, command_of, text_command, lone_command, named_command, at_of, open_of, bytes_of, call_of, request_of, target_of};
 
 use crate::command::{Command, Request};
+use crate::number::number;
 use am_text::Text;
 use serde_json::Value;
 use std::alloc::{AllocError, Global};
@@ -86,7 +88,7 @@ fn named_command(alloc: Global, name: &str, rest: &str) -> Result<Command, LineF
 fn read_at(rest: &str) -> Result<Command, LineFault>
     ensures { Reads (λ c. c) result (at_of rest.now) }
 {
-    let moment = number(rest)?;
+    let moment = read_number(rest)?;
     Ok(Command::At(moment))
 }
 
@@ -95,7 +97,7 @@ fn read_open(alloc: Global, rest: &str) -> Result<Command, LineFault>
     ensures { Reads (λ c. c) result (open_of rest.now) }
 {
     let (connection, rest) = word_then(rest)?;
-    let instance = number(rest)?;
+    let instance = read_number(rest)?;
     let connection = Text::read(alloc, connection)?;
     Ok(Command::Open {
         connection,
@@ -119,7 +121,7 @@ fn read_call(alloc: Global, rest: &str) -> Result<Command, LineFault>
 {
     let (connection, rest) = word_then(rest)?;
     let (instance, rest) = word_then(rest)?;
-    let instance = number(instance)?;
+    let instance = read_number(instance)?;
     let request = read_request(alloc, rest)?;
     let connection = Text::read(alloc, connection)?;
     Ok(Command::Call {
@@ -200,17 +202,13 @@ fn word_then(text: &str) -> Result<(&str, &str), LineFault>
     }
 }
 
-/// A number in decimal digits, at most 2^64 - 1. Leading zeros are taken, a sign isn't.
-#[tactic(auto, unfolding(crate::specs::Line::number_of))]
-fn number(word: &str) -> Result<u64, LineFault>
+/// A number.
+fn read_number(word: &str) -> Result<u64, LineFault>
     ensures { Reads (λ n. n) result (number_of word.now) }
 {
-    if word.starts_with('+') {
-        return Err(LineFault::NotACommand);
-    }
-    match word.parse::<u64>() {
-        Ok(number) => Ok(number),
-        Err(_) => Err(LineFault::NotACommand),
+    match number(word) {
+        Some(number) => Ok(number),
+        None => Err(LineFault::NotACommand),
     }
 }
 

@@ -3,63 +3,67 @@
 
 mod command;
 mod connections;
+mod ending;
 mod line;
+mod number;
 mod options;
 mod play;
+mod stops;
 #[cfg(test)]
 mod tests;
 
 use am_world::setup::Setup;
-use clap::error::ErrorKind;
-use play::Played;
-use std::io::{BufReader, BufWriter};
+use options::CommandLine;
+use std::io::{BufReader, BufWriter, Write};
 use std::process::ExitCode;
 use std::{env, io};
 
-/// The exit status of a bad command line, and of a line that is no command.
-const REFUSED: u8 = 2;
+/// The exit status where the program itself is out of memory.
+const OUT_OF_MEMORY: u8 = 3;
 
 fn main(rt: HostRuntime) -> io::Result<ExitCode> {
-    match start(&rt) {
-        Err(fault) if fault.kind() == io::ErrorKind::OutOfMemory => {
-            eprintln!(rt; "error: out of memory")?;
+    let stderr = rt.stderr();
+    let mut errors = io::writer(&stderr);
+    match start(&rt, &mut errors) {
+        Ok(status) => Ok(status),
+        Err(error) if error.kind() == io::ErrorKind::OutOfMemory => {
+            writeln!(errors, "memory")?;
+            Ok(ExitCode::from(OUT_OF_MEMORY))
+        }
+        Err(error) => {
+            writeln!(errors, "amring: {error}")?;
             Ok(ExitCode::FAILURE)
         }
-        ended => ended,
     }
 }
 
 /// Reads the command line and does what it asks for.
-fn start(rt: &HostRuntime) -> io::Result<ExitCode> {
+fn start<E: Write>(rt: &HostRuntime, errors: &mut E) -> io::Result<ExitCode> {
     let words: Vec<String> = match env::args(rt) {
         Ok(words) => words.collect(rt.alloc())?,
-        Err(fault) if fault.kind() == io::ErrorKind::InvalidData => {
-            eprintln!(rt; "error: a word of the command line is no UTF-8")?;
-            return Ok(ExitCode::from(REFUSED));
+        Err(error) if error.kind() == io::ErrorKind::InvalidData => {
+            return ending::refuse(errors, "a word of the command line isn't UTF-8");
         }
-        Err(fault) => return Err(fault),
+        Err(error) => return Err(error),
     };
-    match options::options(rt.alloc(), words.as_slice()) {
-        Ok(setup) => run(rt, setup),
-        Err(fault) if fault.kind() == ErrorKind::OutOfMemory => {
-            Err(io::ErrorKind::OutOfMemory.into())
+    match options::options(rt.alloc(), words.as_slice())? {
+        CommandLine::Run(setup) => run(rt, setup, errors),
+        CommandLine::Help(text) => {
+            print!(rt; "{text}")?;
+            Ok(ExitCode::SUCCESS)
         }
-        Err(fault) => {
-            eprint!(rt; "{fault}")?;
-            Ok(ExitCode::from(REFUSED))
-        }
+        CommandLine::Bad(text) => ending::refuse(errors, text.as_str()),
     }
 }
 
 /// Plays the scenario on standard input.
-fn run<R: Input + Print + Eprint + AllocGlobal>(rt: &R, setup: Setup) -> io::Result<ExitCode> {
+fn run<R: Input + Print + AllocGlobal, E: Write>(
+    rt: &R,
+    setup: Setup,
+    errors: &mut E,
+) -> io::Result<ExitCode> {
     let reader = BufReader::new(rt.alloc(), rt.reader())?;
     let mut writer = BufWriter::new(rt.alloc(), io::writer(rt))?;
-    match play::play(rt.alloc(), setup, reader, &mut writer)? {
-        Played::All => Ok(ExitCode::SUCCESS),
-        Played::BadLine(number) => {
-            eprintln!(rt; "line {number}: not a command")?;
-            Ok(ExitCode::from(REFUSED))
-        }
-    }
+    let played = play::play(rt.alloc(), setup, reader, &mut writer, errors)?;
+    ending::tell(errors, played)
 }

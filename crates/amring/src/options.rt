@@ -1,11 +1,25 @@
-ghost use Rattle.std.specs.Prelude.{◌≡◌, List, ℕ, [], ◌∷◌, map, codes, IfOk};
-ghost use Rattle.clap.specs.Words.{FailsBy, fault_of};
-ghost use Rattle.amring.specs.CommandLine.{command_line, FailsForMemory, IsDefault};
+//! The command line: what its words ask for.
+ghost use Rattle.std.specs.Prelude.{◌≡◌, IfOk, MatchResult, None, Some, map, true};
+ghost use Rattle.clap.specs.Words.{app_of, found_of, has_subcommand, kind_of, rows_of};
+ghost use Rattle.clap.specs.Simple.{subcommand_rows_of};
+ghost use Rattle.amring.specs.CommandLine.{Asks, Tells, command_line, number_in, settings_in, settings_of};
 
+#[cfg(test)]
+mod tests;
+
+use crate::number::number;
 use am_world::setup::Setup;
-use clap::{Command, Error};
-use std::alloc::Global;
+use clap::error::ErrorKind;
+use clap::{Arg, ArgMatches, Command, Error};
+use std::alloc::{AllocError, Global};
 use std::convert::AsStr;
+use std::fmt;
+
+/// What `--version` prints.
+const VERSION: &str = "0.1.0";
+
+/// The most patterns that an instance may keep built.
+const MOST_CACHED: u64 = 65_536;
 
 /// The service key.
 const KEY: [u8; 32] = [0; 32];
@@ -13,27 +27,114 @@ const KEY: [u8; 32] = [0; 32];
 /// The instances of the ring.
 const RING: [u8; 3] = [1, 2, 3];
 
-/// How many patterns an instance's cache holds.
-const CACHE: u32 = 512;
-
 /// The first incarnation.
 const START: u32 = 1;
 
-/// The settings that a command line asks for. Its first word is the program's own name. Any command
-/// line but `amring run` is an error, whose text says why; its kind tells want of memory apart.
-pub fn options<S: AsStr>(alloc: Global, words: &[S]) -> Result<Setup, Error>
-    // Which words are taken, and of which kind an error is.
-    ensures kinds { FailsBy (fault_of command_line (map S.text words.entry.now)) result }
-    ensures settings { IfOk result IsDefault }
-    ensures run { (name : List ℕ) → map S.text words.entry.now ≡ name ∷ codes "run" ∷ [] → FailsForMemory result }
-{
-    let run = Command::new(alloc, "run").about("Plays the scenario on standard input");
-    let command = Command::new(alloc, "amring")
-        .about("A multi-tenant Alertmanager")
-        .subcommand_required(true)
-        .subcommand(run)?;
-    match command.try_get_matches_from(words) {
-        Ok(_) => Ok(Setup::new(KEY, &RING, CACHE, START).unwrap()),
-        Err(fault) => Err(fault),
+/// What a command line asks for.
+#[derive(Drop)]
+pub enum CommandLine {
+    /// To play the scenario on standard input with these settings.
+    Run(Setup),
+    /// To see the help or the version, which is this text.
+    Help(String),
+    /// Nothing that the program does; the text says what is wrong.
+    Bad(String),
+}
+
+/// An option whose value isn't one that it takes.
+#[derive(Clone, Copy, Debug, PartialEq, Eq)]
+enum BadOption {
+    Cache,
+}
+
+impl fmt::Display for BadOption {
+    fn fmt<W: fmt::Write>(&self, f: &mut fmt::Formatter<W>) -> fmt::Result {
+        match self {
+            BadOption::Cache => write!(f, "--cache takes a number from 1 to {MOST_CACHED}"),
+        }
     }
+}
+
+/// What the words of a command line ask for, of which the first is the program's own name.
+pub fn options<S: AsStr>(alloc: Global, words: &[S]) -> Result<CommandLine, AllocError>
+    ensures { IfOk result (Asks (map S.text words.entry.now)) }
+{
+    match form(alloc)?.try_get_matches_from(words) {
+        Ok(matches) => match settings(&matches) {
+            Ok(settings) => Ok(CommandLine::Run(settings)),
+            Err(bad) => Ok(CommandLine::Bad(format!(in alloc; "{bad}")?)),
+        },
+        Err(error) => told(alloc, &error),
+    }
+}
+
+/// The form of the program's command lines.
+fn form<'a>(alloc: Global) -> Result<Command<'a>, AllocError>
+    ensures { IfOk result (λ form. app_of form ≡ command_line) }
+{
+    let cache = Arg::new(alloc, "cache")
+        .long("cache")
+        .value_name("N")
+        .default_value("512")
+        .help("How many patterns each instance keeps built, 1 to 65536");
+    let run = Command::new(alloc, "run")
+        .about("Plays the scenario on standard input")
+        .arg(cache)?;
+    Command::new(alloc, "amring")
+        .about("A multi-tenant Alertmanager")
+        .version(VERSION)
+        .subcommand_required(true)
+        .subcommand(run)
+}
+
+/// The settings that the options of a command line say.
+fn settings(matches: &ArgMatches<'_>) -> Result<Setup, BadOption>
+    requires { has_subcommand matches.now ≡ true }
+    ensures { MatchResult result
+        (λ setup. settings_of (subcommand_rows_of matches.now) ≡ Some setup)
+        (λ _. settings_of (subcommand_rows_of matches.now) ≡ None) }
+{
+    let (_, run) = matches.subcommand().unwrap();
+    settings_in(run)
+}
+
+/// The settings that the options of a subcommand say.
+fn settings_in(run: &ArgMatches<'_>) -> Result<Setup, BadOption>
+    ensures { MatchResult result
+        (λ setup. settings_in (rows_of (found_of run.now)) ≡ Some setup)
+        (λ _. settings_in (rows_of (found_of run.now)) ≡ None) }
+{
+    let cache = number_in(run, "cache", 1, MOST_CACHED).ok_or(BadOption::Cache)?;
+    Ok(Setup::new(KEY, &RING, cache as u32, START).unwrap())
+}
+
+/// The number that an option says, where it is one from the least to the most.
+fn number_in(matches: &ArgMatches<'_>, name: &str, least: u64, most: u64) -> Option<u64>
+    ensures { result ≡ number_in name.now least most (rows_of (found_of matches.now)) }
+{
+    let number = number(matches.get_str(name)?)?;
+    (least <= number && number <= most).then_some(number)
+}
+
+/// What clap's error tells: the help, the version, or what is wrong with the words.
+fn told(alloc: Global, error: &Error) -> Result<CommandLine, AllocError>
+    ensures { IfOk result (Tells (kind_of error.now)) }
+{
+    match error.kind() {
+        ErrorKind::OutOfMemory => Err(AllocError),
+        ErrorKind::DisplayHelp | ErrorKind::DisplayVersion => {
+            Ok(CommandLine::Help(error.to_string(alloc)?))
+        }
+        _ => Ok(CommandLine::Bad(complaint(alloc, error)?)),
+    }
+}
+
+/// What clap says is wrong with the words, without its own mark in front.
+fn complaint(alloc: Global, error: &Error) -> Result<String, AllocError> {
+    let text = error.to_string(alloc)?;
+    let text = text.as_str();
+    String::from_str(
+        alloc,
+        text.strip_prefix("error: ").unwrap_or(text).trim_end(),
+    )
 }

@@ -1,9 +1,10 @@
 ghost use Rattle.std.specs.Prelude.{◌≡◌, ◌++◌, ◌&&◌, not, is_none, ℕ, List, [], Some, IfOk, OnOk, string_bytes};
 ghost use Rattle.std.specs.List.{flat_map};
 ghost use Rattle.std.specs.Io.KnownBytes.{Appends};
-ghost use Rattle.am_world.specs.Alone.{Alone};
 ghost use Rattle.am_world.specs.Refusal.{refusal};
-ghost use Rattle.am_world.specs.View.{names_once};
+ghost use Rattle.am_world.specs.Runs.{Alone};
+ghost use Rattle.am_world.specs.Simulation.{fault_count, put_out};
+ghost use Rattle.am_world.specs.View.{first_watch, names_once};
 ghost use Rattle.amring.specs.Output.{reply_line, is_answered};
 ghost use Rattle.amring.specs.Playing.{Happens, Gives, Calls, Obeys, ending, faults_line, instance_of};
 ghost use Rattle.amring.specs.Scenario.{Course, Scenario, AloneUntilFault};
@@ -12,6 +13,7 @@ ghost use Rattle.amring.specs.Trace.{Happened, Prints, events, outputs, printed,
 use crate::command::{Command, Request};
 use crate::connections::Connections;
 use crate::line::{LineFault, read_command};
+use crate::stops::Stops;
 use am_http::ConnectionId;
 use am_text::{Octets, Text};
 use am_world::event::{Event, Output, Refused};
@@ -41,25 +43,27 @@ pub enum Played {
 /// that no connection's name is opened twice, and up to a first fault.
 ///
 /// An error is one of reading or writing, or has the kind `OutOfMemory`; what was written stays.
-pub fn play<R: BufRead + Drop, W: Write>(
+pub fn play<R: BufRead + Drop, W: Write, E: Write>(
     alloc: Global,
     setup: Setup,
     reader: R,
     writer: &mut W,
+    errors: &mut E,
 ) -> io::Result<Played>
     // Where the bytes of the reader aren't known, there are lines of which this holds.
     ensures { IfOk result (λ played. (trace : List Happened) × (faults : ℕ)
-        × Scenario setup (R.remaining reader) played trace faults
+        × Scenario setup.origin (R.remaining reader) played trace faults
         × Appends (W.contents writer.old) (W.contents writer.new) (printed trace ++ ending played faults)
-        × (faults ≡ 0 → names_once [] (events trace) → Alone setup.start (events trace) (outputs trace))
-        × AloneUntilFault setup.start trace) }
+        × (faults ≡ 0 → names_once (first_watch setup.origin) (events trace) → Alone setup.origin (events trace) (outputs trace))
+        × AloneUntilFault setup.origin trace) }
 {
+    let world = World::open(alloc, setup)?;
     let mut player = Player {
-        world: World::open(alloc, setup),
+        world,
         connections: Connections::new(alloc),
         moment: 0,
     };
-    let played = player.play_lines(alloc, reader, writer)?;
+    let played = player.play_lines(alloc, reader, writer, errors)?;
     writer.flush()?;
     Ok(played)
 }
@@ -75,18 +79,20 @@ struct Player {
 impl Player {
     /// Plays the lines that are left, up to one that is no command. The text of each line is written before the next
     /// line is read.
-    fn play_lines<R: BufRead + Drop, W: Write>(
+    fn play_lines<R: BufRead + Drop, W: Write, E: Write>(
         &mut self,
         alloc: Global,
         reader: R,
         writer: &mut W,
+        errors: &mut E,
     ) -> io::Result<Played>
         ensures { IfOk result (λ played. (trace : List Happened)
             × Course self.old (R.remaining reader) played trace self.new
             × Appends (W.contents writer.old) (W.contents writer.new)
-            (printed trace ++ ending played self.new.world.faults)) }
+            (printed trace ++ ending played (fault_count self.new.world))) }
     {
         let mut number = 0u64;
+        let mut stops = Stops::none();
         for line in reader.split(alloc, b'\n') {
             let line = line?;
             number += 1;
@@ -94,6 +100,7 @@ impl Player {
                 Ok(command) => {
                     let mut lines = String::new(alloc);
                     self.obey(alloc, command, &mut lines)?;
+                    stops.tell(&self.world, errors)?;
                     writer.write_all(lines.as_bytes())?;
                 }
                 Err(LineFault::NotACommand) => return Ok(Played::BadLine(number)),
@@ -215,7 +222,7 @@ impl Player {
 
     /// Whether the bytes of a line go on after an event: it was taken, and didn't answer the line's connection.
     fn goes_on(&self, is_taken: bool, connection: ConnectionId) -> bool
-        ensures { result ≡ (is_taken && not (is_answered connection self.now.world.outputs.items)) }
+        ensures { result ≡ (is_taken && not (is_answered connection (put_out self.now.world))) }
     {
         is_taken && !is_answered(self.world.outputs(), connection)
     }
@@ -247,7 +254,7 @@ impl Player {
     /// Adds the lines of what the world put out at the last event.
     fn push_outputs(&self, alloc: Global, lines: &mut String) -> Result<(), AllocError>
         ensures { OnOk result (string_bytes lines.new ≡ string_bytes lines.old ++
-            flat_map (output_line self.now.connections) self.now.world.outputs.items) }
+            flat_map (output_line self.now.connections) (put_out self.now.world)) }
     {
         for output in self.world.outputs() {
             let Output::Reply { connection, bytes } = output;

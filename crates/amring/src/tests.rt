@@ -1,10 +1,11 @@
 //! Whole scenarios. What they must print was computed apart from this program.
 
-use crate::options::options;
+use crate::options::{CommandLine, options};
 use crate::play::{Played, play};
 use am_http::ConnectionId;
 use am_text::Octets;
 use am_world::event::{Event, Output};
+use am_world::setup::Setup;
 use am_world::theorem::run_both;
 use am_world::world::World;
 use serde_json::Value;
@@ -118,15 +119,51 @@ faults 0
 "#,
 );
 
+// An alert with 40 labels, posted from the last to the first.
+const MANY_LABELS: (&str, &str) = (
+    r#"at 1750000000000
+tick
+call p 1 a POST /alertmanager/api/v2/alerts "[{\"labels\":{\"l39\":\"v\",\"l38\":\"v\",\"l37\":\"v\",\"l36\":\"v\",\"l35\":\"v\",\"l34\":\"v\",\"l33\":\"v\",\"l32\":\"v\",\"l31\":\"v\",\"l30\":\"v\",\"l29\":\"v\",\"l28\":\"v\",\"l27\":\"v\",\"l26\":\"v\",\"l25\":\"v\",\"l24\":\"v\",\"l23\":\"v\",\"l22\":\"v\",\"l21\":\"v\",\"l20\":\"v\",\"l19\":\"v\",\"l18\":\"v\",\"l17\":\"v\",\"l16\":\"v\",\"l15\":\"v\",\"l14\":\"v\",\"l13\":\"v\",\"l12\":\"v\",\"l11\":\"v\",\"l10\":\"v\",\"l09\":\"v\",\"l08\":\"v\",\"l07\":\"v\",\"l06\":\"v\",\"l05\":\"v\",\"l04\":\"v\",\"l03\":\"v\",\"l02\":\"v\",\"l01\":\"v\",\"l00\":\"v\"}}]"
+call g 1 a GET /alertmanager/api/v2/alerts
+"#,
+    r#"reply p "HTTP/1.1 200 OK\r\nContent-Type: application/json\r\nContent-Length: 0\r\nConnection: close\r\n\r\n"
+reply g "HTTP/1.1 200 OK\r\nContent-Type: application/json\r\nContent-Length: 689\r\nConnection: close\r\n\r\n[{\"annotations\":{},\"endsAt\":\"2025-06-15T15:11:40.000Z\",\"fingerprint\":\"3c1d79935b26728d\",\"generatorURL\":\"\",\"labels\":{\"l00\":\"v\",\"l01\":\"v\",\"l02\":\"v\",\"l03\":\"v\",\"l04\":\"v\",\"l05\":\"v\",\"l06\":\"v\",\"l07\":\"v\",\"l08\":\"v\",\"l09\":\"v\",\"l10\":\"v\",\"l11\":\"v\",\"l12\":\"v\",\"l13\":\"v\",\"l14\":\"v\",\"l15\":\"v\",\"l16\":\"v\",\"l17\":\"v\",\"l18\":\"v\",\"l19\":\"v\",\"l20\":\"v\",\"l21\":\"v\",\"l22\":\"v\",\"l23\":\"v\",\"l24\":\"v\",\"l25\":\"v\",\"l26\":\"v\",\"l27\":\"v\",\"l28\":\"v\",\"l29\":\"v\",\"l30\":\"v\",\"l31\":\"v\",\"l32\":\"v\",\"l33\":\"v\",\"l34\":\"v\",\"l35\":\"v\",\"l36\":\"v\",\"l37\":\"v\",\"l38\":\"v\",\"l39\":\"v\"},\"receivers\":[{\"name\":\"default\"}],\"startsAt\":\"2025-06-15T15:06:40.000Z\",\"status\":{\"inhibitedBy\":[],\"silencedBy\":[],\"state\":\"active\"},\"updatedAt\":\"2025-06-15T15:06:40.000Z\"}]"
+faults 0
+"#,
+);
+
+// A connection's name that is opened again while its request is being read begins anew.
+const OPENED_AGAIN: (&str, &str) = (
+    r#"open c 1
+bytes c "POST /alertmanager/api/v2/alerts HTTP/1.1\r\nX-Scope-OrgID: b\r\nContent-Length: 99\r\n\r\n[{"
+open c 1
+bytes c "GET /alertmanager/api/v2/alerts HTTP/1.1\r\nX-Scope-OrgID: a\r\n"
+bytes c "\r\n"
+bytes c "\r\n"
+"#,
+    r#"reply c "HTTP/1.1 200 OK\r\nContent-Type: application/json\r\nContent-Length: 2\r\nConnection: close\r\n\r\n[]"
+refused We5
+faults 0
+"#,
+);
+
 // The request that reads the alerts of the tenant `a`.
 const READ: &str =
     "GET /alertmanager/api/v2/alerts HTTP/1.1\r\nHost: amring\r\nX-Scope-OrgID: a\r\nContent-Length: 0\r\n\r\n";
 
+/// The settings of a command line without options.
+pub fn setup(alloc: Global) -> Result<Setup, Fail> {
+    match options(alloc, ["amring", "run"].as_slice())? {
+        CommandLine::Run(setup) => Ok(setup),
+        _ => Err("no settings".into()),
+    }
+}
+
 /// Plays a scenario, and gives how it ended and what it wrote.
 fn played(alloc: Global, scenario: &[u8]) -> Result<(Played, Vec<u8>), Fail> {
-    let setup = options(alloc, ["amring", "run"].as_slice())?;
+    let setup = setup(alloc)?;
     let mut written = Vec::new(alloc);
-    let played = play(alloc, setup, scenario, &mut written)?;
+    let played = play(alloc, setup, scenario, &mut written, &mut Vec::new(alloc))?;
     Ok((played, written))
 }
 
@@ -138,6 +175,8 @@ fn scenarios(rt: HostRuntime) -> Result<(), Fail> {
         EMPTY_AND_REFUSED_POSTS,
         AN_END,
         POSTED_TWICE,
+        MANY_LABELS,
+        OPENED_AGAIN,
     ] {
         let (end, written) = played(rt.alloc(), scenario.as_bytes())?;
         assert_eq!(rt; end, Played::All, "{scenario}");
@@ -205,12 +244,13 @@ fn a_writer_fails(rt: HostRuntime) -> Result<(), Fail> {
     let alloc = rt.alloc();
     let (scenario, wanted) = POSTED_TWICE;
     for room in 0..wanted.len() + 2 {
-        let setup = options(alloc, ["amring", "run"].as_slice())?;
+        let setup = setup(alloc)?;
         let mut writer = Narrow {
             taken: Vec::new(alloc),
             room,
         };
-        let ended = play(alloc, setup, scenario.as_bytes(), &mut writer).is_ok();
+        let mut errors = Vec::new(alloc);
+        let ended = play(alloc, setup, scenario.as_bytes(), &mut writer, &mut errors).is_ok();
         assert_eq!(rt; ended, wanted.len() <= room, "room for {room}");
         let written = room.min(wanted.len());
         assert!(rt;
@@ -245,7 +285,7 @@ fn a_reader_fails(rt: HostRuntime) -> Result<(), Fail> {
     let (scenario, wanted) = POSTED_TWICE;
     for length in 0..scenario.len() + 1 {
         let read = std::str::from_utf8(&scenario.as_bytes()[..length])?;
-        let setup = options(alloc, ["amring", "run"].as_slice())?;
+        let setup = setup(alloc)?;
         let mut written = Vec::new(alloc);
         let reader = BufReader::new(
             alloc,
@@ -253,7 +293,7 @@ fn a_reader_fails(rt: HostRuntime) -> Result<(), Fail> {
                 rest: read.as_bytes(),
             },
         )?;
-        match play(alloc, setup, reader, &mut written) {
+        match play(alloc, setup, reader, &mut written, &mut Vec::new(alloc)) {
             Ok(_) => return Err("a scenario without an end was played".into()),
             Err(fault) => assert_eq!(rt; fault.kind(), io::ErrorKind::ConnectionReset),
         }
@@ -507,7 +547,7 @@ fn reply_on(world: &World, connection: u64) -> Option<&[u8]> {
 #[test]
 fn equal_views_give_equal_outputs(rt: HostRuntime) -> Result<(), Fail> {
     let alloc = rt.alloc();
-    let setup = options(alloc, ["amring", "run"].as_slice())?;
+    let setup = setup(alloc)?;
     let mut events = Vec::new(alloc);
     asked(alloc, &mut events, 0, POST_A)?;
     asked(alloc, &mut events, 1, READ)?;
@@ -528,26 +568,6 @@ fn equal_views_give_equal_outputs(rt: HostRuntime) -> Result<(), Fail> {
             reply_on(&world, connection) == reply_on(&other, connection),
             "connection {connection}"
         );
-    }
-    Ok(())
-}
-
-#[test]
-fn command_lines(rt: HostRuntime) -> Result<(), Fail> {
-    for (words, is_taken) in [
-        (["amring", "run"].as_slice(), true),
-        (["bin/amring", "run"].as_slice(), true),
-        (["amring"].as_slice(), false),
-        ([].as_slice(), false),
-        (["amring", "serve"].as_slice(), false),
-        (["amring", "--help"].as_slice(), false),
-        (["amring", "help"].as_slice(), false),
-        (["amring", "run", "x"].as_slice(), false),
-        (["amring", "run", "--ring", "1,2,3"].as_slice(), false),
-        (["amring", "run", "run"].as_slice(), false),
-        (["amring", ""].as_slice(), false),
-    ] {
-        assert_eq!(rt; options(rt.alloc(), words).is_ok(), is_taken, "{words:?}");
     }
     Ok(())
 }

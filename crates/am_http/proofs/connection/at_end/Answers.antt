@@ -7,4 +7,4 @@ returns-then-n-gt-HEAD_LIMIT c = long_head c.args.text.now c.args.n c.requires.e
 
 pub returns-in-Err : goal.returns-in-Err
 returns-in-Err c =
-    refused_head c.args.text.now c.args.n c.in-Err.fault c.requires.ended (omega arith) (sym (rw c.in-Err.is at c.in_ok-plan.ensures.wanted))
+    refused_head c.args.text.now c.args.n c.in-Err.refusal c.requires.ended (omega arith) (sym (rw c.in-Err.is at c.read_plan.ensures.wanted))

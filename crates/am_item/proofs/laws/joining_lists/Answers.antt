@@ -1,5 +1,5 @@
 use Rattle.am_item.proofs.BestLaws.{best-append, best-best, merged_assoc}
-use Rattle.am_item.proofs.Joining.{merged-push, merged_comm, merged_twice}
+use Rattle.am_item.proofs.Joining.{all_joined-merged, merged-push, merged_comm, merged_twice}
 use Rattle.am_item.proofs.laws.joining_lists.Goals as goal
 
 pub returns-clause-both : goal.returns-clause-both
@@ -19,3 +19,6 @@ returns-clause-again c = merged_twice
 
 pub returns-clause-best_again : goal.returns-clause-best_again
 returns-clause-best_again c = best-best
+
+pub returns-clause-one_after_the_other : goal.returns-clause-one_after_the_other
+returns-clause-one_after_the_other c = all_joined-merged

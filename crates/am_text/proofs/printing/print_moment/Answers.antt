@@ -4,7 +4,7 @@ use Rattle.jiff_fmt.specs.Text.{datetime_text}
 use Rattle.am_text.specs.DateTime.{IsUtcText}
 use Rattle.am_text.specs.Printing.{moment_text}
 use Rattle.am_text.proofs.RoundTrip.{moment_text_is}
-use Rattle.am_text.proofs.PrintingLemmas.{printed}
+use Rattle.am_text.proofs.PrintingLemmas.{datetime_text-moment_text}
 use Rattle.am_text.proofs.printing.print_moment.Goals as goal
 
 -- what was printed, with the letter after it
@@ -18,9 +18,9 @@ text_is c =
     let plain = c.to_plain.ensures in
     let shown : c.datetime_text-printed.result.bytes ≡ datetime_text false 84 (Some 3) c.utc_clock.result = c.datetime_text-printed.ensures ∙ rw (lower, letter, places, plain) refl in
     c.from_string.ensures ∙ c.in_ok-push.ensures.bytes
-    ∙ ap (λ (last : List ℕ). string_bytes c.in_ok-string.string ++ last) (c.in_ok-push.ensures.ascii (lit< tt))
-    ∙ ap (λ (bytes : List ℕ). bytes ++ 90 ∷ []) (c.in_ok-string.ensures.ok ∙ c.as_str.ensures.value ∙ shown)
-    ∙ printed c.utc_clock.result c.args.moment c.utc_clock.ensures.bound c.utc_clock.ensures.value
+    ∙ ap (λ (last : List ℕ). string_bytes c.push_str.new.self ++ last) (c.in_ok-push.ensures.ascii (lit< tt))
+    ∙ ap (λ (bytes : List ℕ). bytes ++ 90 ∷ []) (c.in_ok-push_str.ensures.bytes ∙ ap (λ (bytes : List ℕ). bytes ++ c.as_str.result.now) c.in_ok-string.ensures.bytes ∙ c.as_str.ensures.value ∙ shown)
+    ∙ datetime_text-moment_text c.utc_clock.result c.args.moment c.utc_clock.ensures.bound c.utc_clock.ensures.value
 
 pub returns-clause-value : goal.returns-clause-value
 returns-clause-value c = text_is c

@@ -1,13 +1,13 @@
 use Rattle.std.proofs.Common.{◌≡◌, ◌∙◌, ap, refl, ok_or, Err, Ok, Some, None, Result, Option, ℕ, to_z-of_z, w64, FitsSigned, rules}
 use Rattle.std.specs.Prelude.{OnOk}
-use Rattle.am_text.specs.declared.fault.TextFault.{TextFault}
-use Rattle.am_text.specs.declared.fault.TextFault.TheVariants.{NotAMoment}
+use Rattle.am_text.specs.declared.refusal.TextRefusal.{TextRefusal}
+use Rattle.am_text.specs.declared.refusal.TextRefusal.TheVariants.{NotAMoment}
 use Rattle.am_text.specs.Reading.{instant_of, moment_of}
 use Rattle.am_text.proofs.RoundTrip.{spelled_gives, printed_gives, only_spelled}
 use Rattle.am_text.proofs.reading.read_moment.Goals as goal
 
 -- a fact holds of whatever result
-OnOk_whatever : (r : Result (Option ℕ) TextFault) {P : Type 0} → P → OnOk r P
+OnOk_whatever : (r : Result (Option ℕ) TextRefusal) {P : Type 0} → P → OnOk r P
 OnOk_whatever (Ok x) p = p
 OnOk_whatever (Err e) p = tt
 
@@ -19,7 +19,7 @@ some_exact c =
     let read : Some c.in-Some.instant ≡ instant_of c.args.text.now = c.in-Some.ensures ∙ ap instant_of c.as_bytes.ensures.value in
     c.moment_at.ensures ∙ rw (to_z-of_z fits, ← read) refl
 
--- the fault is for a text without one
+-- the refusal is for a text without one
 none_exact : (c : goal.In-None) → Err NotAMoment ≡ ok_or (moment_of c.args.text.now) NotAMoment
 unfolding moment_of
 none_exact c =

@@ -1,11 +1,11 @@
-use Rattle.std.proofs.Common.{ap, ◌∙◌}
-use Rattle.serde_json.specs.Written.{compact_text, has_float}
-use Rattle.am_world.specs.AlertJson.{alerts_text}
-use Rattle.am_world.proofs.Plain.{alerts_plain}
+use Rattle.std.proofs.Common.{◌++◌, ap, map, ◌∙◌}
+use Rattle.am_alert.specs.HeldAlert.{held_alert}
+use Rattle.am_json.specs.Written.{data_tokens}
+use Rattle.am_world.specs.AlertJson.{alerts_data, alerts_text}
 use Rattle.am_world.proofs.alert_json.alerts_json.Goals as goal
 
 pub returns : goal.returns
 unfolding alerts_text
 returns c =
-    c.from_vec.ensures ∙ ap (λ v. v.items) c.into_bytes.ensures.value ∙ c.in_ok-text.ensures.text (ap has_float c.in_ok-alerts.ensures ∙ alerts_plain _)
-    ∙ ap compact_text c.in_ok-alerts.ensures
+    let written = alerts_data (map held_alert c.args.alerts.now) in
+    c.finish.ensures written (c.in_ok-put_alerts.ensures ∙ ap (λ tokens. tokens ++ data_tokens written) c.new-text.ensures)

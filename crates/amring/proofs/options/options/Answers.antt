@@ -1,46 +1,64 @@
-use Rattle.std.proofs.Common.{rules, ◌≡◌, ◌∙◌, ap, ap₂, sym, subst, refl, List, ℕ, [], ◌∷◌, map, codes, true}
-use Rattle.clap.specs.Words.{App, HasKind, app_of, fault_of, is_simple_and_free, new_app, takes, with_subcommand}
-use Rattle.clap.specs.Simple.{app_of_fields}
+use Rattle.std.proofs.Common.{◌≡◌, ◌∙◌, ap, sym, subst, refl, inl, inr, List, [], map, true}
+use Rattle.std.proofs.lemmas.Result.{IfOk-weaker}
+use Rattle.clap.specs.Words.{App, HasKind, IsAmong, Text, app_of, fault_of, is_simple, is_simple_and_free, kind_of, subcommand_of}
+use Rattle.clap.specs.Simple.{subcommand_rows_of}
+use Rattle.clap.specs.declared.error.Error.{Error}
+use Rattle.clap.specs.declared.error.kind.ErrorKind.{ErrorKind}
 use Rattle.clap.proofs.OnLiterals.{clap_on_literals}
-use Rattle.amring.specs.CommandLine.{top, command_line}
+use Rattle.amring.specs.CommandLine.{Asks, Tells, command_line, kinds, settings_of}
+use Rattle.amring.specs.declared.options.CommandLine.{CommandLine}
+use Rattle.amring.specs.declared.options.CommandLine.TheVariants.{Run, Help, Bad}
 use Rattle.amring.proofs.options.options.Goals as goal
 
--- the command is one of which clap says which words it takes
+-- clap says which words the command line's form takes, and what it finds in them
 is_known : is_simple_and_free command_line ≡ true
 unfolding clap_on_literals
 is_known = refl
 
--- it takes `run` behind the program's name
-is_taken : (name : List ℕ) → takes command_line (name ∷ codes "run" ∷ []) ≡ true
+is_read : is_simple command_line ≡ true
 unfolding clap_on_literals
-is_taken name = refl
+is_read = refl
 
-abbrev wanting : App → App
-wanting a = record a { top = record a.top { subcommand_required = true } }
+-- an error that tells this came from a fault of the words
+asks_told : (words : List Text) (e : Error) (line : CommandLine) → HasKind (kinds words) e → Tells (kind_of e) line → Asks words line
+asks_told words e (Run setup) has tells = absurd tells
+asks_told words e (Help text) has tells = elim tells [
+  | inl help ↦ elim has [
+    | inl memory ↦ cc
+    | inr among ↦ inl (subst (λ (k : ErrorKind). IsAmong k (kinds words)) help among)
+  ]
+  | inr version ↦ elim has [
+    | inl memory ↦ cc
+    | inr among ↦ inr (subst (λ (k : ErrorKind). IsAmong k (kinds words)) version among)
+  ]
+]
+asks_told words e (Bad text) has tells = elim has [
+  | inl memory ↦ absurd (tells.2 memory)
+  | inr among ↦ inl (kind_of e, among, tells)
+]
 
-pub returns-in-Ok-clause-kinds : goal.returns-in-Ok-clause-kinds
-returns-in-Ok-clause-kinds g c =
-    let run_is : app_of c.about-run.result ≡ new_app (codes "run") = ap app_of_fields c.about-run.ensures ∙ c.new.ensures.app in
-    let named_is : app_of c.about.result ≡ new_app (codes "amring") = ap app_of_fields c.about.ensures ∙ c.new-2.ensures.app in
-    let top_is : app_of c.subcommand_required.result ≡ top = ap app_of_fields c.subcommand_required.ensures ∙ ap wanting named_is in
-    let command_is : app_of c.in_ok-command.command ≡ command_line =
-    c.in_ok-command.ensures.shape (search rules) ∙ ap₂ with_subcommand top_is (ap (λ (a : App). a.top) run_is) in
-    ap (λ (a : App). fault_of a (map g.S.AsStr.text c.args.words.now)) (sym command_is) ∙ c.in-Ok.ensures.kinds (ap is_simple_and_free command_is ∙ is_known)
+pub returns-in-Ok-settings : goal.returns-in-Ok-settings
+returns-in-Ok-settings g c =
+    let words : List Text = map g.S.AsStr.text c.args.words.now in
+    let form_is : app_of c.in_ok-form.field-0 ≡ command_line = c.in_ok-form.ensures in
+    let no_fault : kinds words ≡ [] = ap (λ (a : App). fault_of a words) (sym form_is) ∙ c.in-Ok.ensures.kinds (ap is_simple_and_free form_is ∙ is_known) in
+    let entered : subcommand_rows_of c.in-Ok.matches ≡ subcommand_of command_line words =
+    (c.in-Ok.ensures.matches (ap is_simple form_is ∙ is_read)).1 ∙ ap (λ (a : App). subcommand_of a words) form_is in
+    (no_fault, ap settings_of (sym entered) ∙ c.in-Ok-settings.ensures)
 
-pub returns-clause-kinds : goal.returns-clause-kinds
-returns-clause-kinds g c =
-    let run_is : app_of c.about-run.result ≡ new_app (codes "run") = ap app_of_fields c.about-run.ensures ∙ c.new.ensures.app in
-    let named_is : app_of c.about.result ≡ new_app (codes "amring") = ap app_of_fields c.about.ensures ∙ c.new-2.ensures.app in
-    let top_is : app_of c.subcommand_required.result ≡ top = ap app_of_fields c.subcommand_required.ensures ∙ ap wanting named_is in
-    let command_is : app_of c.in_ok-command.command ≡ command_line =
-    c.in_ok-command.ensures.shape (search rules) ∙ ap₂ with_subcommand top_is (ap (λ (a : App). a.top) run_is) in
-    subst (λ (a : App). HasKind (fault_of a (map g.S.AsStr.text c.args.words.now)) c.in-Err.fault) command_is (c.in-Err.ensures.kinds (ap is_simple_and_free command_is ∙ is_known))
+pub returns-in-Ok : goal.returns-in-Ok
+returns-in-Ok g c =
+    let words : List Text = map g.S.AsStr.text c.args.words.now in
+    let form_is : app_of c.in_ok-form.field-0 ≡ command_line = c.in_ok-form.ensures in
+    let no_fault : kinds words ≡ [] = ap (λ (a : App). fault_of a words) (sym form_is) ∙ c.in-Ok.ensures.kinds (ap is_simple_and_free form_is ∙ is_known) in
+    let entered : subcommand_rows_of c.in-Ok.matches ≡ subcommand_of command_line words =
+    (c.in-Ok.ensures.matches (ap is_simple form_is ∙ is_read)).1 ∙ ap (λ (a : App). subcommand_of a words) form_is in
+    inr (no_fault, ap settings_of (sym entered) ∙ c.in-Err-settings.ensures)
 
-pub returns-clause-run : goal.returns-clause-run
-returns-clause-run g c name words_are =
-    let run_is : app_of c.about-run.result ≡ new_app (codes "run") = ap app_of_fields c.about-run.ensures ∙ c.new.ensures.app in
-    let named_is : app_of c.about.result ≡ new_app (codes "amring") = ap app_of_fields c.about.ensures ∙ c.new-2.ensures.app in
-    let top_is : app_of c.subcommand_required.result ≡ top = ap app_of_fields c.subcommand_required.ensures ∙ ap wanting named_is in
-    let command_is : app_of c.in_ok-command.command ≡ command_line =
-    c.in_ok-command.ensures.shape (search rules) ∙ ap₂ with_subcommand top_is (ap (λ (a : App). a.top) run_is) in
-    c.in-Err.ensures.passes (ap₂ takes command_is words_are ∙ is_taken name)
+pub returns : goal.returns
+returns g c =
+    let words : List Text = map g.S.AsStr.text c.args.words.now in
+    let form_is : app_of c.in_ok-form.field-0 ≡ command_line = c.in_ok-form.ensures in
+    let has : HasKind (kinds words) c.in-Err.error =
+    subst (λ (a : App). HasKind (fault_of a words) c.in-Err.error) form_is (c.in-Err.ensures.kinds (ap is_simple_and_free form_is ∙ is_known)) in
+    IfOk-weaker c.told.result _ _ (λ line tells. asks_told words c.in-Err.error line has tells) c.told.ensures

@@ -1,6 +1,7 @@
 use Rattle.std.proofs.Common.{refl}
 use Rattle.amring.proofs.PlayingLemmas.{appends_kept}
 use Rattle.amring.proofs.TraceLemmas.{course_alone, course_until_fault}
+use Rattle.am_world.specs.Simulation.{fault_count}
 use Rattle.amring.specs.Playing.{IsStart}
 use Rattle.amring.specs.declared.play.Player.{Player}
 use Rattle.amring.proofs.play.play.Goals as goal
@@ -9,16 +10,16 @@ pub returns : goal.returns
 returns g c =
     let trace = c.in_ok-played.ensures.0 in
     let course = c.in_ok-played.ensures.1 in
-    let start : Player = record { world = c.open.result; connections = c.new.result; moment = 0 } in
+    let start : Player = record { world = c.in_ok-world.world; connections = c.new.result; moment = 0 } in
     let end : Player = c.play_lines.new.self in
-    let is_start : IsStart c.args.setup start =
-    record { opens = c.open.ensures; connections = c.new.ensures; moment = refl } in (
+    let is_start : IsStart c.args.setup.origin start =
+    record { opens = c.in_ok-world.ensures; connections = c.new.ensures; moment = refl } in (
       trace,
-      end.world.faults,
+      fault_count end.world,
       record { start = start; is_start = is_start; end = end; course = course; counted = refl },
       appends_kept _ _ _ _ c.in_ok-played.ensures.2 c.flush.ensures.bytes,
-      course_alone c.args.setup start (g.R.Read.remaining c.args.reader) c.in_ok-played.played trace end is_start
+      course_alone c.args.setup.origin start (g.R.Read.remaining c.args.reader) c.in_ok-played.played trace end is_start
           course,
-      course_until_fault c.args.setup start (g.R.Read.remaining c.args.reader) c.in_ok-played.played trace end
+      course_until_fault c.args.setup.origin start (g.R.Read.remaining c.args.reader) c.in_ok-played.played trace end
           is_start course,
     )

@@ -1,50 +1,46 @@
-use Rattle.std.proofs.Common.{◌≡◌, ◌∙◌, ℕ, List, ◌++◌, sym, ap, None}
+use Rattle.std.proofs.Common.{◌≡◌, ◌∙◌, ℕ, List, ◌++◌, sym, ap, None, Some, rules}
+use Rattle.std.specs.Option.{option_copied_mut}
 use Rattle.am_http.specs.Connections.{bytes_of}
 use Rattle.am_http.specs.Verdict.{verdict}
-use Rattle.am_http.proofs.ConnectionLemmas.{found-bytes_of, bytes_of-updated, bytes_of-replaced}
+use Rattle.am_http.proofs.ConnectionLemmas.{found-bytes_of, bytes_of-updated, bytes_of-closed, left_open-decided}
 use Rattle.am_http.proofs.front.Front.feed.Goals as goal
 
 pub unreachable-requires : goal.unreachable-requires
 unreachable-requires c =
-    let held = c.remove.ensures.value ∙ found-bytes_of c.args.connection c.self.inside.connections.entries ∙ ap (bytes_of c.args.connection) c.self.view_is in
-    let none : bytes_of c.args.connection c.args.self.now ≡ None = sym held ∙ c.in_default.is in
+    let held = c.get_mut.ensures.value ∙ found-bytes_of c.args.connection c.self.inside.connections.entries ∙ ap (bytes_of c.args.connection) c.self.view_is in
+    let none : bytes_of c.args.connection c.args.self.now ≡ None = sym held ∙ ap option_copied_mut c.in_default.is in
     let reading = rw none at c.requires.reading in
     cc
 
-pub returns-in_ok-insert-in-Waiting-clause-verdict : goal.returns-in_ok-insert-in-Waiting-clause-verdict
-returns-in_ok-insert-in-Waiting-clause-verdict c =
-    let held = c.remove.ensures.value ∙ found-bytes_of c.args.connection c.self.inside.connections.entries ∙ ap (bytes_of c.args.connection) c.self.view_is in
+pub returns-in-Waits-clause-verdict : goal.returns-in-Waits-clause-verdict
+returns-in-Waits-clause-verdict c =
+    let held = c.get_mut.ensures.value ∙ found-bytes_of c.args.connection c.self.inside.connections.entries ∙ ap (bytes_of c.args.connection) c.self.view_is in
     λ before is.
-    let same : c.in-Some.reading ≡ before = cc in
-    sym (rw c.in-Waiting.is at c.in_ok-waiting.ensures).1 ∙ ap (λ (text : List ℕ). verdict (text ++ c.args.piece.now)) same
+    let found = sym (ap option_copied_mut c.in-Some.is) ∙ held ∙ is in
+    let same : c.in-Some.reading.now ≡ before = cc in
+    sym c.in-Waits.is ∙ c.in_ok-decided.ensures.fed ∙ ap (λ (text : List ℕ). verdict (text ++ c.args.piece.now)) same
 
-pub returns-in_ok-insert-in-Waiting-clause-table : goal.returns-in_ok-insert-in-Waiting-clause-table
-returns-in_ok-insert-in-Waiting-clause-table c =
-    let held = c.remove.ensures.value ∙ found-bytes_of c.args.connection c.self.inside.connections.entries ∙ ap (bytes_of c.args.connection) c.self.view_is in
+pub returns-in-Waits-clause-table : goal.returns-in-Waits-clause-table
+returns-in-Waits-clause-table c =
+    let held = c.get_mut.ensures.value ∙ found-bytes_of c.args.connection c.self.inside.connections.entries ∙ ap (bytes_of c.args.connection) c.self.view_is in
     λ before is n.
-    let same : c.in-Some.reading ≡ before = cc in
-    let bytes : c.in-Waiting.waiting ≡ before ++ c.args.piece.now = (rw c.in-Waiting.is at c.in_ok-waiting.ensures).0 ∙ ap (λ (text : List ℕ). text ++ c.args.piece.now) same in
-    rw (← c.self.view_is, ← bytes) (bytes_of-replaced c.args.connection c.in-Waiting.waiting c.self.inside.connections.entries c.remove.new.self.entries _
-    c.remove.ensures.updates.0 c.in_ok-insert-in-Waiting.ensures.updates.0 n)
+    let found = sym (ap option_copied_mut c.in-Some.is) ∙ held ∙ is in
+    let same : c.in-Some.reading.now ≡ before = cc in
+    let bytes = c.in_ok-decided.ensures.text c.in-Waits.is ∙ ap (λ (text : List ℕ). text ++ c.args.piece.now) same in
+    let written = c.get_mut.follows.holds c.feed.new.self in
+    rw (← c.self.view_is, ← bytes)
+    (bytes_of-updated c.args.connection (Some c.feed.new.self) c.self.inside.connections.entries _ (written.3 (search rules)).0 n)
 
-pub returns-in-Refused-clause-verdict : goal.returns-in-Refused-clause-verdict
-returns-in-Refused-clause-verdict c =
-    let held = c.remove.ensures.value ∙ found-bytes_of c.args.connection c.self.inside.connections.entries ∙ ap (bytes_of c.args.connection) c.self.view_is in
-    λ before is.
-    let same : c.in-Some.reading ≡ before = cc in
-    sym (rw c.in-Refused.is at c.in_ok-waiting.ensures) ∙ ap (λ (text : List ℕ). verdict (text ++ c.args.piece.now)) same
-
-pub returns-in-Refused-clause-table : goal.returns-in-Refused-clause-table
-returns-in-Refused-clause-table c = λ before is.
-    rw (← c.self.view_is) (bytes_of-updated c.args.connection None c.self.inside.connections.entries _ c.remove.ensures.updates.0)
-
-pub returns-in-Whole-clause-verdict : goal.returns-in-Whole-clause-verdict
-returns-in-Whole-clause-verdict c =
-    let held = c.remove.ensures.value ∙ found-bytes_of c.args.connection c.self.inside.connections.entries ∙ ap (bytes_of c.args.connection) c.self.view_is in
-    λ before is.
-    let same : c.in-Some.reading ≡ before = cc in
-    sym (rw c.in-Whole.is at c.in_ok-waiting.ensures) ∙ ap (λ (text : List ℕ). verdict (text ++ c.args.piece.now)) same
-
-pub returns-in-Whole-clause-table : goal.returns-in-Whole-clause-table
-returns-in-Whole-clause-table c = λ before is.
-    rw (← c.self.view_is) (bytes_of-updated c.args.connection None c.self.inside.connections.entries _ c.remove.ensures.updates.0)
+pub returns-in_default-2 : goal.returns-in_default-2
+returns-in_default-2 c =
+    let held = c.get_mut.ensures.value ∙ found-bytes_of c.args.connection c.self.inside.connections.entries ∙ ap (bytes_of c.args.connection) c.self.view_is in
+    let written = c.get_mut.follows.holds c.feed.new.self in
+    record {
+      verdict = λ before is.
+          let found = sym (ap option_copied_mut c.in-Some.is) ∙ held ∙ is in
+          let same : c.in-Some.reading.now ≡ before = cc in
+          c.in_ok-decided.ensures.fed ∙ ap (λ (text : List ℕ). verdict (text ++ c.args.piece.now)) same;
+      table = λ before is n.
+          rw (left_open-decided c.in_ok-decided.decided (before ++ c.args.piece.now) c.in_default-2.not-Waits, ← c.self.view_is)
+          (bytes_of-closed c.args.connection c.feed.new.self c.self.inside.connections.entries _ _ (written.3 (search rules)).0 c.close.ensures n);
+    }

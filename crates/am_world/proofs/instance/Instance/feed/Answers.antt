@@ -1,33 +1,30 @@
-use Rattle.std.proofs.Common.{ap, refl, Some}
+use Rattle.std.proofs.Common.{refl}
+use Rattle.std.proofs.lemmas.Result.{on_ok_weaker}
 use Rattle.am_world.specs.Places.{local_in}
-use Rattle.am_world.proofs.Counts.{counted_same}
 use Rattle.am_world.proofs.instance.Instance.feed.Goals as goal
 
 pub returns-in-Waits-clause-local : goal.returns-in-Waits-clause-local
 unfolding local_in
 returns-in-Waits-clause-local c before here t = rw (← c.in_ok-feed.ensures.verdict before here, c.in-Waits.is) refl
 
-pub returns-in_ok-reply-in-Refused-clause-local : goal.returns-in_ok-reply-in-Refused-clause-local
+pub returns-in_ok-push-in-Refused-clause-local : goal.returns-in_ok-push-in-Refused-clause-local
 unfolding local_in
-returns-in_ok-reply-in-Refused-clause-local c before here t = rw (← c.in_ok-feed.ensures.verdict before here, c.in-Refused.is) refl
+returns-in_ok-push-in-Refused-clause-local c before here t = rw (← c.in_ok-feed.ensures.verdict before here, c.in-Refused.is) refl
 
-pub returns-in_ok-reply-in-Request-clause-reply : goal.returns-in_ok-reply-in-Request-clause-reply
+pub returns-in_ok-push-in-Ready-clause-local : goal.returns-in_ok-push-in-Ready-clause-local
 unfolding local_in
-returns-in_ok-reply-in-Request-clause-reply c before here =
-    rw (← c.in_ok-feed.ensures.verdict before here, c.in-Request.is) (ap Some c.in_ok-reply-in-Request.ensures.reply)
+returns-in_ok-push-in-Ready-clause-local c before here t = rw (← c.in_ok-feed.ensures.verdict before here, c.in-Ready.is) refl
 
-pub returns-in_ok-reply-in-Request-clause-local : goal.returns-in_ok-reply-in-Request-clause-local
+pub returns-in-Request-clause-outputs : goal.returns-in-Request-clause-outputs
 unfolding local_in
-returns-in_ok-reply-in-Request-clause-local c before here t =
-    rw (← c.in_ok-feed.ensures.verdict before here, c.in-Request.is) (c.in_ok-reply-in-Request.ensures.local t)
+returns-in-Request-clause-outputs c =
+    on_ok_weaker c.answer.result (λ said before here. rw (← c.in_ok-feed.ensures.verdict before here, c.in-Request.is) said) c.answer.ensures.outputs
 
-pub returns-in_ok-reply-in-Request-clause-counts : goal.returns-in_ok-reply-in-Request-clause-counts
+pub returns-in-Request-clause-counts : goal.returns-in-Request-clause-counts
 unfolding local_in
-returns-in_ok-reply-in-Request-clause-counts c before here =
-    rw (← c.in_ok-feed.ensures.verdict before here, c.in-Request.is) c.in_ok-reply-in-Request.ensures.counts
+returns-in-Request-clause-counts c before here = rw (← c.in_ok-feed.ensures.verdict before here, c.in-Request.is) c.answer.ensures.counts
 
-pub returns-in_err-reply-in-Request-clause-counts : goal.returns-in_err-reply-in-Request-clause-counts
+pub returns-in-Request-clause-local : goal.returns-in-Request-clause-local
 unfolding local_in
-returns-in_err-reply-in-Request-clause-counts c before here =
-    rw (← c.in_ok-feed.ensures.verdict before here, c.in-Request.is)
-    (counted_same c.in_err-reply-in-Request.field-0.0 c.from_residual-in_err-reply-in-Request.result _ c.from_residual-in_err-reply-in-Request.ensures.1 c.in_err-reply-in-Request.ensures.counts)
+returns-in-Request-clause-local c =
+    on_ok_weaker c.answer.result (λ local before here t. rw (← c.in_ok-feed.ensures.verdict before here, c.in-Request.is) (local t)) c.answer.ensures.local

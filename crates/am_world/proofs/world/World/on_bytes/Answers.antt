@@ -1,39 +1,28 @@
-use Rattle.std.proofs.Common.{◌≡◌, ◌∙◌, nat_lt, false, inl, inr, refl, sym, arith}
+use Rattle.std.proofs.Common.{◌≡◌, ◌∙◌, nat_lt, false, is_some, inl, inr, refl, sym, ap, arith}
 use Rattle.std.proofs.lemmas.Bool.Decides.{nat_tests}
 use Rattle.am_world.specs.Moments.{last_moment}
-use Rattle.am_world.specs.Places.{bytes_at}
-use Rattle.am_world.proofs.Kept.{kept_late_bytes, stopped_after}
-use Rattle.am_world.proofs.KeptBytes.{none_where, some_where, kept_unread_bytes, kept_bytes}
+use Rattle.am_world.proofs.Faults.{elsewhere_then, faulted_at, incarnations_stay, some_where}
+use Rattle.am_world.proofs.Kept.{kept_late_bytes}
+use Rattle.am_world.proofs.KeptBytes.{kept_bytes, kept_unread_bytes}
 use Rattle.am_world.proofs.world.World.on_bytes.Goals as goal
 
-pub returns-then-moment-gt-LAST_MOMENT-clause-kept : goal.returns-then-moment-gt-LAST_MOMENT-clause-kept
-returns-then-moment-gt-LAST_MOMENT-clause-kept c = inl (refl, kept_late_bytes c.args.self.now c.args.connection c.args.moment c.args.piece.now (grind (arith, nat_tests)))
+pub returns-then-moment-gt-LAST_MOMENT-clause-step : goal.returns-then-moment-gt-LAST_MOMENT-clause-step
+returns-then-moment-gt-LAST_MOMENT-clause-step c = inl (kept_late_bytes c.args.self.now c.args.connection c.args.moment c.args.piece.now (grind (arith, nat_tests)))
 
-pub returns-then-not-is_reading-clause-kept : goal.returns-then-not-is_reading-clause-kept
-returns-then-not-is_reading-clause-kept c = inl (refl, kept_unread_bytes c.args.self.now c.args.connection c.args.moment c.args.piece.now (none_where _ c.if-not-is_reading.ensures))
+pub returns-in_default-clause-step : goal.returns-in_default-clause-step
+returns-in_default-clause-step c = inl (kept_unread_bytes c.args.self.now c.args.connection c.args.moment c.args.piece.now c.in_default.ensures.none)
 
-pub returns-in-Ok-clause-kept : goal.returns-in-Ok-clause-kept
-returns-in-Ok-clause-kept c =
-    let found = some_where _ c.if-not-is_reading.ensures in
-    inl (
-      c.in-Ok.ensures.faults,
-      kept_bytes c.args.self.now _ c.args.connection c.args.moment found.0 c.args.piece.now (grind (arith, nat_tests)) found.1
-          c.in-Ok.ensures.clock (rw c.effective-at.ensures at (c.in-Ok.ensures.taken found.0 found.1)),
-    )
+pub returns-in-Ok-clause-step : goal.returns-in-Ok-clause-step
+returns-in-Ok-clause-step c =
+    let found = some_where _ c.in-Some.ensures.reads in
+    inl (kept_bytes c.args.self.now _ c.in-Some.reader c.args.connection c.args.moment found.0 c.args.piece.now (grind (arith, nat_tests)) found.1
+    (rw (c.as_slice.ensures, c.effective-at.ensures) at (c.in-Ok.ensures.takes found.0 found.1)) (rw (c.as_slice.ensures, c.effective-at.ensures) at (c.in-Ok.ensures.outputs found.0 found.1))
+    (rw (c.as_slice.ensures, c.effective-at.ensures) at (c.in-Ok.ensures.counts found.0 found.1)) refl refl)
 
-pub returns-in-Err-clause-kept : goal.returns-in-Err-clause-kept
-returns-in-Err-clause-kept c =
+pub returns-in-Err-clause-step : goal.returns-in-Err-clause-step
+returns-in-Err-clause-step c =
     let allowed : nat_lt last_moment c.args.moment ≡ false = grind (arith, nat_tests) in
-    inr (record {
-      taken = rw (allowed, sym c.if-not-is_reading.ensures) refl;
-      works = refl;
-      stopped = stopped_after c.args.self.now _ _ c.take.ensures.faults c.in-Err.ensures.outputs c.take.ensures.clock c.take.ensures.incarnation c.fault.ensures;
-    })
-
-pub returns-in-Ok-clause-down : goal.returns-in-Ok-clause-down
-unfolding bytes_at
-returns-in-Ok-clause-down c = λ d. let never = sym ((some_where _ c.if-not-is_reading.ensures).1) ∙ d.unread c.args.connection 1 in cc
-
-pub returns-in-Err-clause-down : goal.returns-in-Err-clause-down
-unfolding bytes_at
-returns-in-Err-clause-down c = λ d. let never = sym ((some_where _ c.if-not-is_reading.ensures).1) ∙ d.unread c.args.connection 1 in cc
+    let others = elsewhere_then c.in-Some.reader _ _ _ c.feed.ensures.others c.stop.ensures.others in
+    inr (faulted_at c.args.self.now _ _ c.in-Some.reader (rw (allowed, sym c.in-Some.ensures.reader) refl) c.in-Some.ensures.reads c.stop.ensures.down (rw c.stop.ensures.cause refl) others
+    (incarnations_stay c.in-Some.reader _ _ (c.stop.ensures.incarnation ∙ c.feed.ensures.incarnation) others)
+    (c.stop.ensures.outputs ∙ c.in-Err.ensures.silent) c.stop.ensures.counted c.stop.ensures.clock)

@@ -1,18 +1,20 @@
 use Rattle.std.proofs.Common.{◌∙◌, inl, inr, refl, sym}
-use Rattle.am_world.proofs.Kept.{kept_not_up, kept_open, stopped_after}
+use Rattle.am_world.proofs.Faults.{elsewhere_then, faulted_at}
+use Rattle.am_world.proofs.Kept.{kept_not_up, kept_open, itself, incarnation_all}
 use Rattle.am_world.proofs.world.World.on_open.Goals as goal
 
-pub returns-then-not-is_up-clause-kept : goal.returns-then-not-is_up-clause-kept
-returns-then-not-is_up-clause-kept c = inl (refl, kept_not_up c.args.self.now c.args.connection c.args.instance (sym c.is_up.ensures ∙ c.if-not-is_up.true))
+pub returns-then-not-is_up-clause-step : goal.returns-then-not-is_up-clause-step
+returns-then-not-is_up-clause-step c = inl (kept_not_up c.args.self.now c.args.connection c.args.instance (sym c.is_up.ensures.up ∙ c.if-not-is_up.true))
 
-pub returns-in-Ok-clause-kept : goal.returns-in-Ok-clause-kept
-returns-in-Ok-clause-kept c = inl (
-  refl,
-  kept_open c.args.self.now _ c.args.connection c.args.instance (sym c.is_up.ensures ∙ c.if-not-is_up.false) c.in-Ok.ensures.front
-      (record { clock = refl; up = c.in-Ok.ensures.up; incarnation = c.in-Ok.ensures.incarnation; local = c.in-Ok.ensures.local }) refl,
-)
+pub returns-in-Ok-clause-step : goal.returns-in-Ok-clause-step
+returns-in-Ok-clause-step c = inl (
+    kept_open c.args.self.now _ c.args.connection c.args.instance (sym c.is_up.ensures.up ∙ c.if-not-is_up.false) c.in-Ok.ensures.reading
+    (record { clock = refl; roster = c.in-Ok.ensures.roster; local = c.in-Ok.ensures.local }) refl refl)
 
-pub returns-in-Err-clause-kept : goal.returns-in-Err-clause-kept
-returns-in-Err-clause-kept c =
-    let up = sym c.is_up.ensures ∙ c.if-not-is_up.false in
-    inr (record { taken = rw up refl; works = refl; stopped = stopped_after c.args.self.now _ _ refl refl refl c.open.ensures.incarnation c.fault.ensures })
+pub returns-in-Err-clause-step : goal.returns-in-Err-clause-step
+returns-in-Err-clause-step c =
+    let up = sym c.is_up.ensures.up ∙ c.if-not-is_up.false in
+    inr (faulted_at c.args.self.now _ _ c.args.instance (rw up refl) (itself c.args.instance) c.stop.ensures.down (rw c.stop.ensures.cause refl)
+    (elsewhere_then c.args.instance _ _ _ c.in-Err.ensures.others c.stop.ensures.others)
+    (incarnation_all c.args.instance _ _ _ c.begin.ensures.roster c.stop.ensures.incarnation c.stop.ensures.others)
+    c.stop.ensures.outputs c.stop.ensures.counted c.stop.ensures.clock)

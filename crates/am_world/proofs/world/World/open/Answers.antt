@@ -1,13 +1,14 @@
-use Rattle.std.proofs.Common.{◌≡◌, ◌∙◌, refl, rules}
+use Rattle.std.proofs.Common.{◌≡◌, ◌∙◌, refl, sym, rules}
 use Rattle.am_world.proofs.Opening.{follows_opening, stands_opening}
 use Rattle.am_world.proofs.world.World.open.Goals as goal
 
 pub returns : goal.returns
 returns c =
     let zero : c.unwrap.result ≡ 0 = search rules in
+    let roster = c.in_ok-instances.ensures.roster c.args.setup.origin (sym c.start.ensures) in
     record {
-      follows = follows_opening _ c.opened.ensures.unread c.opened.ensures.up;
-      stands = λ t. stands_opening t _ c.args.setup.start zero c.opened.ensures.up (c.opened.ensures.incarnation ∙ c.start.ensures) (c.opened.ensures.local t);
+      follows = follows_opening c.args.setup.origin _ roster c.in_ok-instances.ensures.unread;
+      stands = λ t. stands_opening c.args.setup.origin t _ zero roster c.in_ok-instances.ensures.local;
       outputs = search rules;
       faults = refl;
     }

@@ -1,12 +1,11 @@
 use Rattle.std.proofs.Common.{take}
 use Rattle.std.proofs.lemmas.List.{take_more, take_all}
-use Rattle.am_world.proofs.Down.{run_down}
 use Rattle.am_world.proofs.Run.{run_more, headline, prefixes}
 use Rattle.am_world.proofs.world.World.run.Goals as goal
 
 pub loop-event-preserved : goal.loop-event-preserved
 loop-event-preserved c = rw (take_more c.args.events.now c.loop-event.event-index c.event-item.result c.loop-event-test.true, ← c.event-item.is)
-    (run_more c.args.self.now (take c.loop-event.event-index c.args.events.now) c.loop-event.self c.event-item.result _ c.loop-event.invariant c.step.ensures.kept)
+    (run_more c.args.self.now (take c.loop-event.event-index c.args.events.now) c.loop-event.self c.event-item.result _ c.loop-event.invariant c.step.ensures.step)
 
 pub returns : goal.returns
 returns c =
@@ -15,5 +14,4 @@ returns c =
       steps = run;
       headline = headline c.args.self.now c.args.events.now _ run;
       prefixes = prefixes c.args.self.now c.args.events.now _ run;
-      down = run_down c.args.self.now c.args.events.now _ run;
     }

@@ -1,5 +1,5 @@
 use Rattle.std.proofs.Common.{take}
-use Rattle.am_world.specs.Simulation.{Run}
+use Rattle.am_world.specs.Runs.{Run}
 use Rattle.am_world.proofs.world.World.run.Given as goal
 
 abbrev pub invariant-loop-event : goal.invariant-loop-event

@@ -1,6 +1,7 @@
 use Rattle.std.proofs.Common.{◌≡◌, ◌&&◌, not, true, false, [], ◌++◌, sym, ap, ◌∙◌, arith, append_assoc, append-nil}
 use Rattle.std.proofs.lemmas.List.{nil_from_length}
 use Rattle.std.specs.Slice.Iter.{chunks_rest, chunks_size}
+use Rattle.am_world.specs.Simulation.{put_out}
 use Rattle.am_world.specs.declared.event.Event.TheVariants as event
 use Rattle.amring.specs.Output.{is_answered}
 use Rattle.amring.specs.Playing.{Happens, goes_on, is_piece}
@@ -18,7 +19,7 @@ returns-then-not-goes_on c =
     let happens : Happens p (event.Bytes c.args.connection p.moment piece) c.happen.new.self prints.0 =
     rw (← c.in_ok-read.ensures) prints.2 in
     let ends : goes_on c.args.connection p (event.Bytes c.args.connection p.moment piece) c.happen.new.self ≡ false =
-    ap (λ b. b && not (is_answered c.args.connection c.happen.new.self.world.outputs.items))
+    ap (λ b. b && not (is_answered c.args.connection (put_out c.happen.new.self.world)))
     (sym c.in_ok-is_taken.ensures.taken) ∙ sym c.if-not-goes_on.ensures in (
       known.done ++ prints.0,
       printed_more _ _ _ known.done prints.0 known.printed prints.1,
@@ -38,7 +39,7 @@ loop-piece-preserved-else-not-goes_on c =
     let happens : Happens p (event.Bytes c.args.connection p.moment piece) c.happen.new.self prints.0 =
     rw (← c.in_ok-read.ensures) prints.2 in
     let goes : goes_on c.args.connection p (event.Bytes c.args.connection p.moment piece) c.happen.new.self ≡ true =
-    ap (λ b. b && not (is_answered c.args.connection c.happen.new.self.world.outputs.items))
+    ap (λ b. b && not (is_answered c.args.connection (put_out c.happen.new.self.world)))
     (sym c.in_ok-is_taken.ensures.taken) ∙ sym c.if-not-goes_on.ensures in
     record {
       can_next = omega (arith, size);

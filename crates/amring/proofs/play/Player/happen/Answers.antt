@@ -16,7 +16,7 @@ returns-in-Ok-clause-happens c =
     let taken : refusal c.clear_outputs.new.self c.args.event.now ≡ None =
     taken_none _ _ _ c.in-Ok.is c.step-taken.ensures.refused in
     prints_event c.args.self.now c.args.event.now _ c.clear_outputs.new.self None _ _ c.clear_outputs.ensures
-    c.step-taken.ensures.kept taken (λ h. absurd (cc)) refl refl
+    c.step-taken.ensures.step taken (λ h. absurd (cc)) refl refl
     (c.in_ok-push_outputs.ensures ∙ sym (append-nil _))
 
 pub returns-in_ok-push_refusal-in-Err-clause-taken :
@@ -33,6 +33,6 @@ returns-in_ok-push_refusal-in-Err-clause-happens c =
     let refused : refusal c.clear_outputs.new.self c.args.event.now ≡ Some c.in-Err.refused =
     refused_some _ _ _ c.in-Err.is c.step-taken.ensures.refused in
     prints_event c.args.self.now c.args.event.now _ c.clear_outputs.new.self (Some c.in-Err.refused) _ _
-    c.clear_outputs.ensures c.step-taken.ensures.kept refused (λ h. c.in-Err.ensures.err) refl refl
+    c.clear_outputs.ensures c.step-taken.ensures.step refused (λ h. c.in-Err.ensures.err) refl refl
     (c.in_ok-push_refusal-in-Err.ensures
     ∙ ap (λ s. s ++ refusal_line (Some c.in-Err.refused)) c.in_ok-push_outputs.ensures)

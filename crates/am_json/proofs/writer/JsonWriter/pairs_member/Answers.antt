@@ -1,0 +1,11 @@
+use Rattle.std.proofs.Common.{◌≡◌, ◌++◌, OnOk, arith}
+use Rattle.std.proofs.lemmas.Grind.{common_steps}
+use Rattle.serde_json.specs.Data.{object}
+use Rattle.am_json.specs.Written.{member_tokens}
+use Rattle.am_json.proofs.Rising.{labels_members, labels_rising}
+use Rattle.am_json.proofs.writer.JsonWriter.pairs_member.Goals as goal
+
+pub returns : goal.returns
+returns c =
+    let written : OnOk c.end_object.result (c.end_object.new.self ≡ c.args.self.now ++ member_tokens c.args.name.now (object (labels_members c.args.pairs.now))) = grind (arith, common_steps) in
+    rw (labels_rising c.args.pairs.now c.requires) written

@@ -1,0 +1,9 @@
+pub mod Numbers
+pub mod Lists
+pub mod Order
+pub mod Tokens
+pub mod Flags
+pub mod Strict
+pub mod Replaced
+pub mod Positions
+pub mod Admitted

@@ -1,0 +1,72 @@
+-- an event whose one instance stopped
+use Rattle.std.proofs.Common.{◌≡◌, ◌∙◌, inl, inr, ℕ, ◌+◌, ◌-◌, ◌^◌, ◌<◌, ◌≤◌, ◌==◌, nat_eq, suc, Bool, true, false, List, [], ◌∷◌, Option, None, Some, IsSome, refl, sym, ap, arith, length, filter, min, max}
+use Rattle.std.proofs.lemmas.List.{append-nil}
+use Rattle.std.proofs.lemmas.Bool.{cases_Bool}
+use Rattle.std.proofs.lemmas.Bool.Decides.{nat_tests}
+use Rattle.am_world.specs.declared.event.Event.{Event}
+use Rattle.am_world.specs.declared.instance.Instance.{Instance}
+use Rattle.am_world.specs.declared.world.World.{World}
+use Rattle.am_world.specs.Moments.{clock_after}
+use Rattle.am_world.specs.Places.{IsDownAt, SameElsewhere, cause_at, incarnation_at, incarnation_where, numbers, roster_of}
+use Rattle.am_world.specs.Refusal.{refusal}
+use Rattle.am_world.specs.Roster.{roster_after}
+use Rattle.am_world.specs.Simulation.{Faulted, fault_count, faults_of, put_out, works}
+use Rattle.am_world.proofs.InstancesLemmas.{CountsFrom}
+
+count_none : (n i : ℕ) (ms : List ℕ) → CountsFrom n ms → i < n → length (filter (λ j. j == i) ms) ≡ 0
+count_none n i [] counts less = refl
+count_none n i (m ∷ ms) (first, rest) less =
+    let other : nat_eq m i ≡ false = grind (arith, nat_tests) in
+    rw other (count_none (suc n) i ms rest (omega arith))
+
+count_once : (n i : ℕ) (ms : List ℕ) → CountsFrom n ms → length (filter (λ j. j == i) ms) ≤ 1
+count_once n i [] counts = omega arith
+count_once n i (m ∷ ms) (first, rest) = elim (cases_Bool (nat_eq m i)) [
+  | inl h ↦ let none = count_none (suc n) i ms rest (let same : m ≡ i = grind (arith, nat_tests) in omega arith) in rw (h, none) (omega arith)
+  | inr h ↦ rw h (count_once (suc n) i ms rest)
+]
+
+one_fault : (i : ℕ) → faults_of (λ j. j == i) ≡ 1
+one_fault i =
+    let most = count_once 1 i numbers (refl, (refl, (refl, (refl, (refl, (refl, (refl, (refl, tt)))))))) in
+    omega arith
+
+pub faulted_at : (w w' : World) (e : Event) (i : ℕ) → refusal w e ≡ None → works w e i ≡ true → IsDownAt i w'.instances → IsSome (cause_at i w'.instances) →
+    SameElsewhere i w.instances w'.instances → ((j : ℕ) → incarnation_at j w'.instances ≡ (roster_after e (roster_of w.instances)).incarnation j) →
+    put_out w' ≡ put_out w → fault_count w' ≡ min (fault_count w + 1) (2 ^ 64 - 1) → w'.clock ≡ clock_after e w.clock → Faulted w e w'
+faulted_at w w' e i taken worked down cause others incarnations outputs counted clock =
+    let itself : nat_eq i i ≡ true = grind (arith, nat_tests) in
+    record {
+      taken = taken;
+      stopped = λ j. j == i;
+      worked = λ j same. let here : j ≡ i = grind (arith, nat_tests) in ap (works w e) here ∙ worked;
+      some = λ none. let never = sym itself ∙ none i in cc;
+      down = λ j same. let here : i ≡ j = grind (arith, nat_tests) in rw (← here) down;
+      causes = λ j same. let here : i ≡ j = grind (arith, nat_tests) in rw (← here) cause;
+      others = λ j idle. elim (cases_Bool (nat_eq j i)) [
+        | inl h ↦ let here : j ≡ i = grind (arith, nat_tests) in let never = sym idle ∙ ap (works w e) here ∙ worked in cc
+        | inr h ↦ others j h
+      ];
+      incarnations = incarnations;
+      outs = [];
+      appended = outputs ∙ sym (append-nil (put_out w));
+      silent = λ all. refl;
+      counted = counted ∙ ap (λ n. min (fault_count w + n) (2 ^ 64 - 1)) (sym (one_fault i));
+      clock = clock;
+    }
+
+-- incarnations stay, of the instance that stopped and of all others
+pub incarnations_stay : (i : ℕ) (xs ys : List Instance) → incarnation_at i ys ≡ incarnation_at i xs → SameElsewhere i xs ys →
+    (j : ℕ) → incarnation_at j ys ≡ incarnation_at j xs
+unfolding incarnation_at
+incarnations_stay i xs ys here others j = elim (cases_Bool (nat_eq j i)) [
+  | inl h ↦ let same : j ≡ i = grind (arith, nat_tests) in ap (λ k. incarnation_at k ys) same ∙ here ∙ ap (λ k. incarnation_at k xs) (sym same)
+  | inr h ↦ ap incarnation_where (others j h)
+]
+
+pub elsewhere_then : (i : ℕ) (xs ys zs : List Instance) → SameElsewhere i xs ys → SameElsewhere i ys zs → SameElsewhere i xs zs
+elsewhere_then i xs ys zs first next j other = next j other ∙ first j other
+
+pub some_where : (o : Option (List ℕ)) → IsSome o → (before : List ℕ) × (o ≡ Some before)
+some_where None e = absurd cc
+some_where (Some x) e = (x, refl)

@@ -1,0 +1,25 @@
+use Rattle.std.proofs.Common.{◌∙◌, ◌++◌, ◌∷◌, [], ap, sym, take}
+use Rattle.std.proofs.lemmas.List.{take_all, take_more}
+use Rattle.am_world.specs.Places.{numbers}
+use Rattle.am_world.specs.Roster.{serves}
+use Rattle.am_world.proofs.Opening.{IsFresh, roster_opening, fresh_push, local_opening, numbers_push, unread_opening}
+use Rattle.am_world.proofs.instances.Instances.open.Goals as goal
+
+pub returns-clause-roster : goal.returns-clause-roster
+returns-clause-roster c origin same = roster_opening origin c.args.first c.loop-number.list.items same (c.loop-number.invariant.0 ∙ take_all c.loop-number.number-index numbers c.loop-number-test.false) c.loop-number.invariant.1
+
+pub returns-clause-unread : goal.returns-clause-unread
+returns-clause-unread c connection i = unread_opening c.args.first connection i c.loop-number.list.items c.loop-number.invariant.1
+
+pub returns-clause-local : goal.returns-clause-local
+returns-clause-local c t i = local_opening c.args.first t i c.loop-number.list.items c.loop-number.invariant.1
+
+pub loop-number-preserved : goal.loop-number-preserved
+loop-number-preserved c =
+    let fresh : IsFresh c.args.first c.in_ok-new.field-0 = record { up = c.in_ok-new.ensures.up ∙ ap serves (sym c.in_ok-new.ensures.number); incarnation = c.in_ok-new.ensures.incarnation; unread = c.in_ok-new.ensures.unread; local = c.in_ok-new.ensures.local } in
+    rw (c.in_ok-push.ensures.items) (
+      numbers_push c.loop-number.list.items c.in_ok-new.field-0 ∙ ap (λ ns. ns ++ c.in_ok-new.field-0.number ∷ []) c.loop-number.invariant.0
+          ∙ ap (λ n. take c.loop-number.number-index numbers ++ n ∷ []) c.in_ok-new.ensures.number
+          ∙ sym (take_more numbers c.loop-number.number-index 0 c.loop-number-test.true),
+      fresh_push c.args.first c.loop-number.list.items c.in_ok-new.field-0 c.loop-number.invariant.1 fresh,
+    )

@@ -1,0 +1,125 @@
+-- what one tenant has at one instance, and what the instance does when something happens to the tenant
+use Rattle.std.specs.Prelude.{◌≡◌, ℕ, ◌+◌, Bool, true, false, List, [], ◌∷◌, length, map, Result, Ok, Err, if◌then◌else◌}
+use Rattle.am_alert.specs.Made.{counts_fit}
+use Rattle.am_alert.specs.declared.maker.Maker.{Maker}
+use Rattle.am_http.specs.Codes.{code_of, status_of}
+use Rattle.am_http.specs.Replies.{ready_reply, reply, refusal}
+use Rattle.am_http.specs.declared.refusal.FrontRefusal.{FrontRefusal}
+use Rattle.am_http.specs.declared.request.Fed.{Fed}
+use Rattle.am_http.specs.declared.request.Fed.TheVariants as fed
+use Rattle.am_http.specs.declared.request.Request.{Request}
+use Rattle.am_item.specs.declared.item.Item.{Item}
+use Rattle.am_item.specs.Best.{all_joined}
+use Rattle.am_item.specs.declared.fault.Fault.{Fault}
+use Rattle.am_item.specs.declared.fault.Fault.TheVariants.{OutOfMemory, CountsExhausted}
+use Rattle.am_tenant.specs.Names.{same}
+use Rattle.am_world.specs.declared.event.Output.{Output}
+use Rattle.am_world.specs.declared.event.Output.TheVariants.{Reply}
+use Rattle.am_world.specs.Decision.{Decision, decided}
+
+-- what an instance keeps of a tenant beside its items: how many stamps it has counted; the next one is one more
+pub record Ledger : Type 0 where
+  pub stamps : ℕ
+
+-- all that an instance can tell of a tenant: the items that it holds, and the rest
+pub record Local : Type 0 where
+  pub held : List Item
+  pub ledger : Ledger
+
+abbrev pub no_ledger : Ledger
+no_ledger = record { stamps = 0 }
+
+-- a tenant of whom the instance knows nothing
+abbrev pub blank : Local
+blank = record { held = []; ledger = no_ledger }
+
+-- what an instance goes by beside what it has of the tenant: its number, its incarnation, and the moment
+pub record Here : Type 0 where
+  pub instance : ℕ
+  pub incarnation : ℕ
+  pub moment : ℕ
+
+-- one thing that an instance says about a tenant: the reply of a connection
+pub data Said : Type 0 where
+  Replies : (connection : ℕ) (bytes : List ℕ) → Said
+
+-- what an instance does: the items that it accepts, in order, what it keeps beside them, what it says, in order, and
+-- whether no count passes the greatest
+pub record Reaction : Type 0 where
+  pub accepts : List Item
+  pub ledger : Ledger
+  pub said : List Said
+  pub fits : Bool
+
+-- who stamps items
+abbrev pub maker : Here → Ledger → Maker
+maker here ledger = record { instance = here.instance; incarnation = here.incarnation; used = ledger.stamps }
+
+-- the decision on a request of the tenant
+unfoldable pub decision_at : Here → Request → Local → Decision
+decision_at here request local = decided request local.held here.moment (maker here local.ledger)
+
+-- a request is decided at once: what it brings is accepted and counted, and the reply goes out
+abbrev pub carried_out : ℕ → Decision → Ledger → Reaction
+carried_out connection decision ledger = record {
+  accepts = decision.items;
+  ledger = record { stamps = ledger.stamps + length decision.items };
+  said = Replies connection (reply decision.status decision.body) ∷ [];
+  fits = counts_fit decision.items;
+}
+
+-- the reaction to a request that came whole over the connection
+unfoldable pub asked : Here → ℕ → Request → Local → Reaction
+asked here connection request local = carried_out connection (decision_at here request local) local.ledger
+
+-- what the instance has of the tenant after a reaction
+unfoldable pub local_after : Reaction → Local → Local
+local_after reaction local = record { held = all_joined local.held reaction.accepts; ledger = reaction.ledger }
+
+-- what is said of a tenant, as an output
+abbrev pub output_of : List ℕ → Said → Output
+output_of tenant (Replies connection bytes) = Reply connection bytes
+
+abbrev pub outputs_said : List ℕ → Reaction → List Output
+outputs_said tenant reaction = map (output_of tenant) reaction.said
+
+-- ---- what the bytes of a connection bring
+
+-- the front's reply to bytes that it refuses
+unfoldable pub refusal_reply : FrontRefusal → List ℕ
+refusal_reply reason = reply (status_of reason) (refusal (code_of reason))
+
+-- what is put out, whether counts fit, and what each tenant has afterwards
+pub record Brought : Type 0 where
+  pub outputs : List Output
+  pub fits : Bool
+  pub local : List ℕ → Local
+
+-- outputs of the front alone
+abbrev pub only_says : List Output → (List ℕ → Local) → Brought
+only_says outputs locals = record { outputs = outputs; fits = true; local = locals }
+
+-- one tenant's reaction, which leaves all others as they were
+abbrev pub of_one : List ℕ → Reaction → (List ℕ → Local) → Brought
+of_one tenant reaction locals = record {
+  outputs = outputs_said tenant reaction;
+  fits = reaction.fits;
+  local = λ t. if same t tenant then local_after reaction (locals t) else locals t;
+}
+
+-- by the verdict on all bytes of the connection
+abbrev pub brought : Fed → Here → ℕ → (List ℕ → Local) → Brought
+brought fed.Waits here connection locals = only_says [] locals
+brought (fed.Refused reason) here connection locals = only_says (Reply connection (refusal_reply reason) ∷ []) locals
+brought fed.Ready here connection locals = only_says (Reply connection ready_reply ∷ []) locals
+brought (fed.Request request) here connection locals =
+    of_one request.tenant (asked here connection request (locals request.tenant)) locals
+
+-- ---- faults
+
+-- what was returned, where these counts fit or not: counts that don't fit are never taken, and are the only cause but
+-- memory that is refused
+abbrev pub Counted : {A : Type 0} → Result A Fault → Bool → Type 0
+Counted (Ok x) fit = fit ≡ true
+Counted (Err CountsExhausted) fit = fit ≡ false
+Counted (Err OutOfMemory) fit = Unit {0}

@@ -1,0 +1,208 @@
+//! The eight instances, by number.
+
+ghost use Rattle.std.specs.Prelude.{◌≡◌, ◌==◌, ◌+◌, ℕ, List, [], ◌++◌, Option, None, Some, IfOk, OnOk, OnErr, IfSome, IfNone, IsSome, IsTrue, find, is_some, option_copied, if◌then◌else◌};
+ghost use Rattle.am_world.specs.Reaction.{Brought, Counted};
+ghost use Rattle.am_world.specs.Roster.{IsSameRoster, opened_roster};
+ghost use Rattle.am_world.specs.Setup.{Origin, is_instance};
+ghost use Rattle.am_world.specs.Taking.{Takes, taken_at};
+
+use crate::event::Output;
+use crate::instance::Instance;
+use am_http::ConnectionId;
+use am_item::Fault;
+use am_text::Moment;
+use std::alloc::{AllocError, Global};
+use std::marker::Model;
+
+/// The numbers of all instances.
+const NUMBERS: [u8; 8] = [1, 2, 3, 4, 5, 6, 7, 8];
+
+/// The instance that serves from the opening on.
+const SERVING: u8 = 1;
+
+/// All instances, in order of number.
+#[derive(Drop)]
+pub struct Instances {
+    list: Vec<Instance>,
+}
+
+impl Model for Instances {
+    ghost use Rattle.std.specs.Prelude.{List};
+    ghost use Rattle.am_world.specs.declared.instance.Instance.{Instance};
+    ghost use Rattle.am_world.specs.Places.{AreNumbered};
+
+    ghost Value = { List Instance };
+
+    ghost view = { λ s. s.list.items };
+
+    ghost invariant = { λ s. AreNumbered s.list.items };
+}
+
+impl Instances {
+    ghost use Rattle.am_world.specs.Places.{IsDownAt, IsReadOnce, SameElsewhere, bytes_at, cause_at, incarnation_at, instance_at, local_at, reader_of, reads, roster_of, up_at};
+    ghost use Rattle.am_world.specs.Reaction.{blank};
+
+    /// All instances in their first incarnation. None reads or has anything, and those that serve are up.
+    pub fn open(alloc: Global, first: u32) -> Result<Instances, AllocError>
+        ensures roster { IfOk result (λ instances. (origin : Origin) → origin.first ≡ first →
+            IsSameRoster (roster_of instances) (opened_roster origin)) }
+        ensures unread { IfOk result (λ instances. (c i : ℕ) → bytes_at c i instances ≡ None) }
+        ensures local { IfOk result (λ instances. (t : List ℕ) (i : ℕ) → local_at t i instances ≡ blank) }
+    {
+        let mut list = Vec::with_capacity(alloc, NUMBERS.len())?;
+        for number in NUMBERS {
+            list.push(Instance::new(alloc, number, number == SERVING, first)?)?;
+        }
+        Ok(Instances { list })
+    }
+
+    /// Whether an instance is up.
+    #[tactic(auto, unfolding(crate::specs::Places::up_at))]
+    pub fn is_up(&self, number: u8) -> bool
+        ensures up { result ≡ up_at number self.now }
+        ensures exists { IsTrue result → IsTrue (is_instance number) }
+    {
+        let _ = &self.list;
+        match self.at(number) {
+            Some(instance) => instance.up,
+            None => false,
+        }
+    }
+
+    /// The fault that stopped an instance, where one did.
+    #[tactic(auto, unfolding(crate::specs::Places::cause_at))]
+    pub fn cause(&self, number: u8) -> Option<Fault>
+        ensures { result ≡ cause_at number self.now }
+    {
+        match self.at(number) {
+            Some(instance) => instance.cause,
+            None => None,
+        }
+    }
+
+    /// The number of the instance that reads a connection.
+    pub fn reader_of(&self, connection: ConnectionId) -> Option<u8>
+        ensures reader { result ≡ reader_of connection self.now }
+        ensures reads { IfSome result (λ i. IsSome (bytes_at connection i self.now)) }
+        ensures exists { IfSome result (λ i. IsTrue (is_instance i)) }
+        ensures none { IfNone result ((i : ℕ) → bytes_at connection i self.now ≡ None) }
+    {
+        let _ = &self.list;
+        match self.reader(connection) {
+            Some(reader) => Some(reader.number),
+            None => None,
+        }
+    }
+
+    // The instance that reads a connection.
+    fn reader(&self, connection: ConnectionId) -> Option<&Instance>
+        ensures { option_copied result ≡ find (reads connection) self.now }
+    {
+        self.list
+            .iter()
+            .find(|instance| instance.is_reading(connection))
+    }
+
+    // The instance of a number.
+    #[tactic(auto, unfolding(crate::specs::Places::instance_at))]
+    fn at(&self, number: u8) -> Option<&Instance>
+        ensures { option_copied result ≡ instance_at number self.now }
+    {
+        self.list.iter().find(|instance| instance.number == number)
+    }
+
+    /// Begins a connection to an instance that is up. Where the connection is being read already, it begins anew. An
+    /// error leaves every other instance as it was.
+    pub fn begin(
+        &mut self,
+        alloc: Global,
+        number: u8,
+        connection: ConnectionId,
+    ) -> Result<(), AllocError>
+        requires { IsTrue (up_at number self.old) }
+        ensures reading { OnOk result (IsReadOnce connection self.old → (c i : ℕ) → bytes_at c i self.new ≡
+            (if c == connection then (if i == number then Some [] else None) else bytes_at c i self.old)) }
+        ensures local { OnOk result ((t : List ℕ) (i : ℕ) → local_at t i self.new ≡ local_at t i self.old) }
+        ensures others { OnErr result (SameElsewhere number self.old self.new) }
+        ensures roster { IsSameRoster (roster_of self.new) (roster_of self.old) }
+    {
+        let reader = self.reader_of(connection);
+        self.open_at(alloc, number, connection)?;
+        match reader {
+            Some(reader) if reader != number => self.close_at(reader, connection),
+            _ => {}
+        }
+        Ok(())
+    }
+
+    // Begins a connection to an instance.
+    fn open_at(
+        &mut self,
+        alloc: Global,
+        number: u8,
+        connection: ConnectionId,
+    ) -> Result<(), AllocError>
+        requires { IsTrue (up_at number self.old) }
+        ensures reading { OnOk result ((c i : ℕ) → bytes_at c i self.new ≡
+            (if i == number then (if c == connection then Some [] else bytes_at c i self.old) else bytes_at c i self.old)) }
+        ensures local { OnOk result ((t : List ℕ) (i : ℕ) → local_at t i self.new ≡ local_at t i self.old) }
+        ensures others { SameElsewhere number self.old self.new }
+        ensures roster { IsSameRoster (roster_of self.new) (roster_of self.old) }
+    {
+        self.list[place(number)].open(alloc, connection)
+    }
+
+    // Lets an instance read a connection no more.
+    fn close_at(&mut self, number: u8, connection: ConnectionId)
+        requires { IsSome (bytes_at connection number self.old) }
+        ensures reading { (c i : ℕ) → bytes_at c i self.new ≡
+            (if i == number then (if c == connection then None else bytes_at c i self.old) else bytes_at c i self.old) }
+        ensures local { (t : List ℕ) (i : ℕ) → local_at t i self.new ≡ local_at t i self.old }
+        ensures roster { IsSameRoster (roster_of self.new) (roster_of self.old) }
+    {
+        self.list[place(number)].close(connection);
+    }
+
+    /// Gives a piece to the instance that reads its connection.
+    pub fn feed(
+        &mut self,
+        alloc: Global,
+        number: u8,
+        connection: ConnectionId,
+        piece: &[u8],
+        moment: Moment,
+        outputs: &mut Vec<Output>,
+    ) -> Result<(), Fault>
+        requires { IsSome (bytes_at connection number self.old) }
+        ensures outputs { OnOk result ((before : List ℕ) → bytes_at connection number self.old ≡ Some before →
+            outputs.new.items ≡ outputs.old.items ++ (taken_at number connection (before ++ piece.now) moment self.old).outputs) }
+        ensures silent { OnErr result (outputs.new.items ≡ outputs.old.items) }
+        ensures counts { (before : List ℕ) → bytes_at connection number self.old ≡ Some before →
+            Counted result (taken_at number connection (before ++ piece.now) moment self.old).fits }
+        ensures takes { OnOk result ((before : List ℕ) → bytes_at connection number self.old ≡ Some before →
+            Takes number connection (before ++ piece.now) moment self.old self.new) }
+        ensures others { SameElsewhere number self.old self.new }
+        ensures incarnation { incarnation_at number self.new ≡ incarnation_at number self.old }
+    {
+        self.list[place(number)].feed(alloc, connection, piece, moment, outputs)
+    }
+
+    /// Stops an instance for a fault, as a crash does: it is down, and all that it had is lost.
+    pub fn stop(&mut self, alloc: Global, number: u8, fault: Fault)
+        requires { IsTrue (is_instance number) }
+        ensures down { IsDownAt number self.new }
+        ensures cause { cause_at number self.new ≡ Some fault }
+        ensures others { SameElsewhere number self.old self.new }
+        ensures incarnation { incarnation_at number self.new ≡ incarnation_at number self.old }
+    {
+        self.list[place(number)].stop(alloc, fault);
+    }
+}
+
+/// Where the instance of a number stands in the list.
+fn place(number: u8) -> usize
+    requires { IsTrue (is_instance number) }
+    ensures { result + 1 ≡ number }
+{
+    usize::from(number) - 1
+}
