@@ -1,6 +1,5 @@
 //! Whole scenarios. What they must print was computed apart from this program.
 
-use crate::options::{CommandLine, options};
 use crate::play::{Played, play};
 use am_http::ConnectionId;
 use am_text::Octets;
@@ -152,16 +151,13 @@ const READ: &str =
     "GET /alertmanager/api/v2/alerts HTTP/1.1\r\nHost: amring\r\nX-Scope-OrgID: a\r\nContent-Length: 0\r\n\r\n";
 
 /// The settings of a command line without options.
-pub fn setup(alloc: Global) -> Result<Setup, Fail> {
-    match options(alloc, ["amring", "run"].as_slice())? {
-        CommandLine::Run(setup) => Ok(setup),
-        _ => Err("no settings".into()),
-    }
+pub fn setup() -> Result<Setup, Fail> {
+    Ok(Setup::new([0; 32], &[1, 2, 3], 512, 1).ok_or("no settings")?)
 }
 
 /// Plays a scenario, and gives how it ended and what it wrote.
 fn played(alloc: Global, scenario: &[u8]) -> Result<(Played, Vec<u8>), Fail> {
-    let setup = setup(alloc)?;
+    let setup = setup()?;
     let mut written = Vec::new(alloc);
     let played = play(alloc, setup, scenario, &mut written, &mut Vec::new(alloc))?;
     Ok((played, written))
@@ -244,7 +240,7 @@ fn a_writer_fails(rt: HostRuntime) -> Result<(), Fail> {
     let alloc = rt.alloc();
     let (scenario, wanted) = POSTED_TWICE;
     for room in 0..wanted.len() + 2 {
-        let setup = setup(alloc)?;
+        let setup = setup()?;
         let mut writer = Narrow {
             taken: Vec::new(alloc),
             room,
@@ -285,7 +281,7 @@ fn a_reader_fails(rt: HostRuntime) -> Result<(), Fail> {
     let (scenario, wanted) = POSTED_TWICE;
     for length in 0..scenario.len() + 1 {
         let read = std::str::from_utf8(&scenario.as_bytes()[..length])?;
-        let setup = setup(alloc)?;
+        let setup = setup()?;
         let mut written = Vec::new(alloc);
         let reader = BufReader::new(
             alloc,
@@ -547,7 +543,6 @@ fn reply_on(world: &World, connection: u64) -> Option<&[u8]> {
 #[test]
 fn equal_views_give_equal_outputs(rt: HostRuntime) -> Result<(), Fail> {
     let alloc = rt.alloc();
-    let setup = setup(alloc)?;
     let mut events = Vec::new(alloc);
     asked(alloc, &mut events, 0, POST_A)?;
     asked(alloc, &mut events, 1, READ)?;
@@ -556,7 +551,13 @@ fn equal_views_give_equal_outputs(rt: HostRuntime) -> Result<(), Fail> {
     asked(alloc, &mut among, 0, POST_A)?;
     asked(alloc, &mut among, 3, READ_B)?;
     asked(alloc, &mut among, 1, READ)?;
-    let (world, other) = run_both(alloc, setup, events.as_slice(), setup, among.as_slice());
+    let (world, other) = run_both(
+        alloc,
+        setup()?,
+        events.as_slice(),
+        setup()?,
+        among.as_slice(),
+    )?;
     assert_eq!(rt; world.outputs().len(), 2);
     assert_eq!(rt; other.outputs().len(), 4);
     for connection in 0..2 {

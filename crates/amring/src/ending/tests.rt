@@ -25,7 +25,13 @@ fn a_bad_line(rt: HostRuntime) -> Result<(), Fail> {
     ] {
         let mut written = Vec::new(alloc);
         let mut errors = Vec::new(alloc);
-        let played = play(alloc, setup(alloc)?, scenario.as_bytes(), &mut written)?;
+        let played = play(
+            alloc,
+            setup()?,
+            scenario.as_bytes(),
+            &mut written,
+            &mut errors,
+        )?;
         let ended = tell(&mut errors, played)?;
         assert!(rt; ended == status, "{scenario}");
         assert!(rt; written.as_slice() == wanted.as_bytes(), "{scenario}");
@@ -52,7 +58,14 @@ impl Write for Full {
 fn the_last_write_fails(rt: HostRuntime) -> Result<(), Fail> {
     let alloc = rt.alloc();
     let mut writer = BufWriter::new(alloc, Full)?;
-    match play(alloc, setup(alloc)?, b"tick\n".as_slice(), &mut writer) {
+    let mut errors = Vec::new(alloc);
+    match play(
+        alloc,
+        setup()?,
+        b"tick\n".as_slice(),
+        &mut writer,
+        &mut errors,
+    ) {
         Ok(_) => Err("what wasn't written counts as written".into()),
         Err(error) => {
             assert_eq!(rt; error.kind(), io::ErrorKind::StorageFull);
