@@ -1,5 +1,5 @@
 -- What is read off the items that are held of a tenant.
-use Rattle.std.specs.Prelude.{◌≡◌, ℕ, List, Bool, nat_lt, Option, Some, None, option_map, filter}
+use Rattle.std.specs.Prelude.{ℕ, List, Bool, nat_lt, Option, Some, None, option_map, filter}
 use Rattle.std.specs.List.{filter_map}
 use Rattle.std.specs.List.Sorted.{IsStrictlySortedBy}
 use Rattle.am_labels.specs.declared.Label.{Label}

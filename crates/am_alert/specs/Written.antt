@@ -1,5 +1,5 @@
 -- What one object of a posted list says.
-use Rattle.std.specs.Prelude.{ℕ, List, [], length, nat_le, Option, None, Result, Ok, Err, if◌then◌else◌, codes}
+use Rattle.std.specs.Prelude.{List, [], length, nat_le, None, Result, Ok, Err, if◌then◌else◌, codes}
 use Rattle.serde_json.specs.Data.{Data}
 use Rattle.serde_json.specs.Find.{get, as_object}
 use Rattle.am_text.specs.Outcome.{◌>>=◌, outcome_as}

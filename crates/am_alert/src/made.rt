@@ -73,7 +73,7 @@ fn items_from(
     ensures { MakesItems result (items_from held.now moment maker alerts.items) }
 {
     let book = AlertBook::new(held);
-    let mut items = Vec::new(alloc);
+    let mut items = Vec::with_capacity(alloc, alerts.len())?;
     let mut used = maker.used;
     for alert in alerts {
         if used >= GREATEST_COUNT {

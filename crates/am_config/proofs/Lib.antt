@@ -1,9 +1,12 @@
-pub mod Stops
-pub mod Fronts
-pub mod Shapes
-pub mod Judgements
 pub mod Inherits
 pub mod Placed
-pub mod Owned
+pub mod Shapes
+pub mod Lists
+pub mod Stops
+pub mod Readings
+pub mod Judgements
+pub mod Received
+pub mod Patterned
+pub mod Settled
 pub mod Configured
 pub mod DefaultRead

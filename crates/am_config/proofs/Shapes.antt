@@ -1,78 +1,77 @@
--- The routes of a configuration are a tree, as those of its draft are.
-use Rattle.std.proofs.Common.{◌≡◌, ℕ, ◌+◌, List, [], ◌∷◌, ◌++◌, map, length, take, drop, refl, sym, ap, ◌∙◌, append-nil}
-use Rattle.std.proofs.lemmas.List.{map-append, take-map, drop-map, length-map, take-append-drop}
-use Rattle.std.proofs.Math.Seq.{take-append_seam, drop-append_seam}
+-- The routes of a configuration, and what the routes of its draft say, stand in the tree in which the draft's routes do.
+use Rattle.std.proofs.Common.{◌≡◌, List, [], ◌∷◌, Ok, length, map, refl, sym, ap, ◌∙◌, arith}
+use Rattle.am_text.specs.Trees.{Forest, IsTree, flat, none, tree}
+use Rattle.am_text.specs.declared.tree.Node.{Node}
+use Rattle.am_text.proofs.OutcomeLemmas.{both_done}
+use Rattle.am_text.proofs.TreeLemmas.{same_length, same_tree, withins}
 use Rattle.am_draft.specs.declared.receiver.ReceiverDraft.{ReceiverDraft}
 use Rattle.am_draft.specs.declared.route.RouteDraft.{RouteDraft}
-use Rattle.am_draft.specs.declared.tree.Node.{Node}
-use Rattle.am_draft.specs.Trees.{Forest, none, tree, flat, IsTree}
-use Rattle.am_config.specs.Completing.{routes_from}
+use Rattle.am_draft.specs.Forests.{IsForest, forest_of}
+use Rattle.am_draft.proofs.ForestLemmas.{forest_of-flat}
+use Rattle.am_config.specs.declared.parts.Route.{Route}
+use Rattle.am_config.specs.declared.parts.Settings.{Settings}
+use Rattle.am_config.specs.declared.terms.Own.{Own}
+use Rattle.am_config.specs.Completing.{routes_with}
+use Rattle.am_config.specs.Inheriting.{defaults, settings_of}
+use Rattle.am_config.specs.Terms.{own_in, owns_in}
+use Rattle.am_config.proofs.Inherits.{length-inherited}
 
--- how many nodes are within each
-abbrev pub withins : {A : Type 0} → List (Node A) → List ℕ
-withins {A} nodes = map (λ (node : Node A). node.within) nodes
+pub withins-routes_with : (settings : List Settings) (nodes : List (Node RouteDraft)) → length settings ≡ length nodes →
+    withins (routes_with settings nodes) ≡ withins nodes
+unfolding routes_with
+withins-routes_with [] [] size = refl
+withins-routes_with [] (node ∷ nodes) size = absurd (omega arith)
+withins-routes_with (own ∷ settings) [] size = absurd (omega arith)
+withins-routes_with (own ∷ settings) (node ∷ nodes) size =
+    ap (λ ns. node.within ∷ ns) (withins-routes_with settings nodes (omega arith))
 
-same_length : {A B : Type 0} (xs : List (Node A)) (ys : List (Node B)) → withins xs ≡ withins ys → length xs ≡ length ys
-same_length xs ys e = sym (length-map xs (λ node. node.within)) ∙ ap length e ∙ length-map ys (λ node. node.within)
+pub tree-routes_with : (settings : List Settings) (nodes : List (Node RouteDraft)) → length settings ≡ length nodes →
+    IsTree nodes → IsTree (routes_with settings nodes)
+tree-routes_with settings nodes size whole =
+    same_tree nodes (routes_with settings nodes) whole (withins-routes_with settings nodes size)
 
--- a list that counts as the flat list of a forest does is one of a forest
-same_shape : {A B : Type 0} (forest : Forest A) (ys : List (Node B)) → withins ys ≡ withins (flat forest) → (grown : Forest B) × (ys ≡ flat grown)
-same_shape none [] e = (none, refl)
-same_shape none (y ∷ ys) e = absurd (cc)
-same_shape (tree item within after) [] e = absurd (cc)
-same_shape {A} {B} (tree item within after) (y ∷ ys) e =
-    let count : y.within ≡ length (flat within) = cc in
-    let rest : withins ys ≡ withins (flat within ++ flat after) = cc in
-    let parts : withins ys ≡ withins (flat within) ++ withins (flat after) =
-    rest ∙ map-append (λ (node : Node A). node.within) (flat within) (flat after) in
-    let size : length (withins (flat within)) ≡ length (flat within) = length-map (flat within) (λ node. node.within) in
-    let front : withins (take (length (flat within)) ys) ≡ withins (flat within) =
-    sym (take-map (λ (node : Node B). node.within) (length (flat within)) ys)
-    ∙ ap (take (length (flat within))) parts
-    ∙ ap (λ n. take n (withins (flat within) ++ withins (flat after))) (sym size)
-    ∙ take-append_seam (withins (flat within)) (withins (flat after)) in
-    let back : withins (drop (length (flat within)) ys) ≡ withins (flat after) =
-    sym (drop-map (λ (node : Node B). node.within) (length (flat within)) ys)
-    ∙ ap (drop (length (flat within))) parts
-    ∙ ap (λ n. drop n (withins (flat within) ++ withins (flat after))) (sym size)
-    ∙ drop-append_seam (withins (flat within)) (withins (flat after)) in
-    let first = same_shape within (take (length (flat within)) ys) front in
-    let later = same_shape after (drop (length (flat within)) ys) back in
-    let counted : y.within ≡ length (flat first.0) =
-    count ∙ sym (same_length (take (length (flat within)) ys) (flat within) front) ∙ ap length first.1 in
-    let joined : ys ≡ flat first.0 ++ flat later.0 =
-    sym (take-append-drop (length (flat within)) ys) ∙ ap (λ zs. zs ++ drop (length (flat within)) ys) first.1
-    ∙ ap (λ zs. flat first.0 ++ zs) later.1 in
-    let node : y ≡ record { item = y.item; within = length (flat first.0) } = ap (λ n. record { item = y.item; within = n }) counted in
-    (tree y.item first.0 later.0, ap (λ z. z ∷ ys) node ∙ ap (λ zs. record { item = y.item; within = length (flat first.0) } ∷ zs) joined)
+pub length-routes_with : (settings : List Settings) (nodes : List (Node RouteDraft)) → length settings ≡ length nodes →
+    length (routes_with settings nodes) ≡ length nodes
+length-routes_with settings nodes size = same_length (routes_with settings nodes) nodes (withins-routes_with settings nodes size)
 
--- and that of one tree, as that of one tree does
-same_tree : {A B : Type 0} (xs : List (Node A)) (ys : List (Node B)) → IsTree xs → withins ys ≡ withins xs → IsTree ys
-same_tree xs [] whole e = absurd (let none : [] ≡ withins xs = e in cc (ap withins whole.1.1))
-same_tree {A} {B} xs (y ∷ ys) whole e =
-    let all : withins (y ∷ ys) ≡ withins (flat (tree whole.0 whole.1.0 none)) = e ∙ ap withins whole.1.1 in
-    let count : y.within ≡ length (flat whole.1.0) = cc in
-    let rest : withins ys ≡ withins (flat whole.1.0 ++ []) = cc in
-    let same : withins ys ≡ withins (flat whole.1.0) = rest ∙ ap withins (append-nil (flat whole.1.0)) in
-    let below = same_shape whole.1.0 ys same in
-    let counted : y.within ≡ length (flat below.0) = count ∙ sym (same_length ys (flat whole.1.0) same) ∙ ap length below.1 in
-    let node : y ≡ record { item = y.item; within = length (flat below.0) } = ap (λ n. record { item = y.item; within = n }) counted in (
-      y.item,
-      (
-        below.0,
-        ap (λ z. z ∷ ys) node
-            ∙ ap (λ zs. record { item = y.item; within = length (flat below.0) } ∷ zs) (below.1 ∙ sym (append-nil (flat below.0))),
-      ),
-    )
+pub settings-routes_with : (settings : List Settings) (nodes : List (Node RouteDraft)) → length settings ≡ length nodes →
+    map (λ (node : Node Route). node.item.settings) (routes_with settings nodes) ≡ settings
+unfolding routes_with
+settings-routes_with [] [] size = refl
+settings-routes_with [] (node ∷ nodes) size = absurd (omega arith)
+settings-routes_with (own ∷ settings) [] size = absurd (omega arith)
+settings-routes_with (own ∷ settings) (node ∷ nodes) size =
+    ap (λ rest. own ∷ rest) (settings-routes_with settings nodes (omega arith))
 
-pub withins-routes_from : (receivers : List ReceiverDraft) (all : List (Node RouteDraft)) (number : ℕ) (nodes : List (Node RouteDraft)) →
-    withins (routes_from receivers all number nodes) ≡ withins nodes
-unfolding routes_from
-withins-routes_from receivers all number [] = refl
-withins-routes_from receivers all number (node ∷ nodes) = ap (λ ns. node.within ∷ ns) (withins-routes_from receivers all (number + 1) nodes)
+pub withins-owns_in : (receivers : List ReceiverDraft) (nodes : List (Node RouteDraft)) (owns : List (Node Own)) →
+    owns_in receivers nodes ≡ Ok owns → withins owns ≡ withins nodes
+unfolding owns_in
+withins-owns_in receivers [] owns e = let same : [] ≡ owns = cc in ap withins (sym same)
+withins-owns_in receivers (node ∷ nodes) owns e =
+    let first = both_done (own_in receivers node.item) _ owns e in
+    let rest = both_done (owns_in receivers nodes) _ owns first.1.1 in
+    let made : Node Own = record { item = first.0; within = node.within } in
+    let same : made ∷ rest.0 ≡ owns = cc in
+    ap withins (sym same) ∙ ap (λ ns. node.within ∷ ns) (withins-owns_in receivers nodes rest.0 rest.1.0)
 
-pub tree-routes_from : (receivers : List ReceiverDraft) (all : List (Node RouteDraft)) → IsTree all → IsTree (routes_from receivers all 0 all)
-tree-routes_from receivers all whole = same_tree all (routes_from receivers all 0 all) whole (withins-routes_from receivers all 0 all)
+-- where the draft's routes are one tree
+module _ (receivers : List ReceiverDraft) (nodes : List (Node RouteDraft)) (owns : List (Node Own)) (e : owns_in receivers nodes ≡ Ok owns) (whole : IsTree nodes) where
+  -- so is what they say
+  pub tree-owns : IsTree owns
+  tree-owns = same_tree nodes owns whole (withins-owns_in receivers nodes owns e)
 
-pub length-routes_from : (receivers : List ReceiverDraft) (all : List (Node RouteDraft)) → length (routes_from receivers all 0 all) ≡ length all
-length-routes_from receivers all = same_length (routes_from receivers all 0 all) all (withins-routes_from receivers all 0 all)
+  pub forest-owns : IsForest owns
+  forest-owns = (tree tree-owns.0 tree-owns.1.0 none, tree-owns.1.1)
+
+  pub length-owns : length owns ≡ length nodes
+  length-owns = same_length owns nodes (withins-owns_in receivers nodes owns e)
+
+  -- the list holds the tree
+  flat-owns : flat (forest_of owns) ≡ owns
+  flat-owns =
+      let whole_tree : Forest Own = tree tree-owns.0 tree-owns.1.0 none in
+      ap (λ (xs : List (Node Own)). flat (forest_of xs)) tree-owns.1.1 ∙ ap flat (forest_of-flat whole_tree) ∙ sym tree-owns.1.1
+
+  -- and settings hold for each
+  pub length-settings : length (settings_of owns) ≡ length nodes
+  length-settings = length-inherited 0 defaults (forest_of owns) ∙ ap length flat-owns ∙ length-owns

@@ -1,14 +1,11 @@
--- The checks of what a draft says, each over the whole of it.
-use Rattle.std.specs.Prelude.{ℕ, Bool, true, false, not, ◌&&◌, ◌||◌, ◌==◌, nat_le, List, [], ◌∷◌, length, Option, Some, None, Result, Ok, Err}
+-- The checks that a draft passes or fails, each over the whole of it.
+use Rattle.std.specs.Prelude.{ℕ, Bool, true, false, not, ◌&&◌, ◌||◌, ◌==◌, nat_le, List, [], ◌∷◌, length, Option, Some, None}
 use Rattle.std.specs.List.{list_all, list_any}
 use Rattle.std.specs.Str.{bytes_eq}
-use Rattle.am_text.specs.Duration.{duration}
-use Rattle.am_text.specs.declared.refusal.TextRefusal.{TextRefusal}
+use Rattle.am_text.specs.declared.tree.Node.{Node}
 use Rattle.am_draft.specs.declared.draft.Draft.{Draft}
 use Rattle.am_draft.specs.declared.receiver.ReceiverDraft.{ReceiverDraft}
-use Rattle.am_draft.specs.declared.route.Intervals.{Intervals}
 use Rattle.am_draft.specs.declared.route.RouteDraft.{RouteDraft}
-use Rattle.am_draft.specs.declared.tree.Node.{Node}
 
 -- the limits
 abbrev pub most_routes : ℕ
@@ -22,10 +19,6 @@ most_receivers = 1000
 
 abbrev pub most_webhooks : ℕ
 most_webhooks = 16
-
--- the shortest of an interval, in milliseconds
-abbrev pub shortest_interval : ℕ
-shortest_interval = 1000
 
 -- one of the receivers has this name
 abbrev pub is_listed : List ReceiverDraft → List ℕ → Bool
@@ -52,32 +45,12 @@ unfoldable pub is_root_bare : List (Node RouteDraft) → Bool
 is_root_bare [] = true
 is_root_bare (root ∷ routes) = length root.item.matchers == 0
 
--- at least so many milliseconds
-abbrev pub lasts : ℕ → Result ℕ TextRefusal → Bool
-lasts least (Ok milliseconds) = nat_le least milliseconds
-lasts least (Err fault) = false
-
--- a duration of at least so many milliseconds, where one is written
-abbrev pub is_span : ℕ → Option (List ℕ) → Bool
-is_span least None = true
-is_span least (Some text) = lasts least (duration text)
-
-abbrev pub are_spans : Intervals → Bool
-are_spans intervals =
-    is_span 0 intervals.group_wait
-    && (is_span shortest_interval intervals.group_interval && is_span shortest_interval intervals.repeat_interval)
-
-abbrev pub have_spans : List (Node RouteDraft) → Bool
-have_spans routes = list_all (λ (node : Node RouteDraft). are_spans node.item.intervals) routes
-
-unfoldable pub durations_fit : Draft → Bool
-durations_fit draft = is_span 0 draft.global.resolve_timeout && have_spans draft.routes
-
-abbrev pub is_shallow : Node RouteDraft → Bool
-is_shallow node = nat_le node.item.depth deepest
+-- a route's depth is within the limit
+abbrev pub is_in_depth : Node RouteDraft → Bool
+is_in_depth node = nat_le node.item.depth deepest
 
 abbrev pub are_routes_few : List (Node RouteDraft) → Bool
-are_routes_few routes = nat_le (length routes) most_routes && list_all is_shallow routes
+are_routes_few routes = nat_le (length routes) most_routes && list_all is_in_depth routes
 
 abbrev pub has_few_webhooks : ReceiverDraft → Bool
 has_few_webhooks receiver = nat_le (length receiver.webhooks) most_webhooks

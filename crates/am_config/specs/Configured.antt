@@ -4,15 +4,16 @@ use Rattle.std.specs.Option.{ForSome}
 use Rattle.am_text.specs.Duration.{longest_duration}
 use Rattle.am_pattern.specs.Taking.{IsPattern}
 use Rattle.am_match.specs.Matchers.{MatcherText, is_on_pattern}
-use Rattle.am_draft.specs.declared.tree.Node.{Node}
+use Rattle.am_text.specs.declared.tree.Node.{Node}
+use Rattle.am_text.specs.Trees.{IsTree}
 use Rattle.am_draft.specs.LabelNames.{AreLabelNames, HasLabelNames}
-use Rattle.am_draft.specs.Trees.{IsTree}
 use Rattle.am_config.specs.declared.parts.Receiver.{Receiver}
 use Rattle.am_config.specs.declared.parts.Route.{Route}
 use Rattle.am_config.specs.declared.parts.Rule.{Rule}
 use Rattle.am_config.specs.declared.parts.Settings.{Settings}
-use Rattle.am_config.specs.Checks.{most_receivers, most_routes, most_webhooks, shortest_interval}
+use Rattle.am_config.specs.Checks.{most_receivers, most_routes, most_webhooks}
 use Rattle.am_config.specs.Configuration.{Configuration}
+use Rattle.am_config.specs.Terms.{shortest_interval}
 
 -- the value of a matcher on a pattern is a pattern, of no more bytes than one may have
 abbrev pub HasPattern : MatcherText → Type 0

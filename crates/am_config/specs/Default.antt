@@ -1,12 +1,12 @@
 -- The configuration that holds where none is stored, or a stored text would be refused with one of C1 to C9: every alert
 -- goes to a receiver that tells nobody.
 use Rattle.std.specs.Prelude.{ℕ, List, [], ◌∷◌, codes, None, false}
-use Rattle.am_draft.specs.declared.tree.Node.{Node}
+use Rattle.am_text.specs.declared.tree.Node.{Node}
 use Rattle.am_config.specs.declared.parts.Receiver.{Receiver}
 use Rattle.am_config.specs.declared.parts.Route.{Route}
-use Rattle.am_config.specs.Completing.{default_resolve_timeout}
 use Rattle.am_config.specs.Configuration.{Configuration}
 use Rattle.am_config.specs.Inheriting.{defaults}
+use Rattle.am_config.specs.Terms.{default_resolve_timeout}
 
 -- the text that says it
 abbrev pub default_text : List ℕ

@@ -1,20 +1,19 @@
 -- what clauses see of a configuration
 pub mod Configuration
--- what reading comes to, and the codes of refusals
-pub mod Outcome
-pub mod Code
--- the checks of what a draft says, but for its matchers
+-- the refusals and their codes
+pub mod Refusals
+-- the checks that a draft passes or fails
 pub mod Checks
+-- the places of receivers by their names
+pub mod Places
+-- what routes say themselves
+pub mod Terms
+-- what holds for each route
+pub mod Inheriting
 -- the matchers of a draft
 pub mod Matching
 -- where the reading of matchers stops
 pub mod Stopping
--- the places of receivers by their names
-pub mod Places
--- what holds for each route
-pub mod Inheriting
--- what routes say themselves
-pub mod Own
 -- the configuration that a draft makes
 pub mod Completing
 -- the configuration that holds where none is stored

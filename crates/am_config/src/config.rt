@@ -1,14 +1,15 @@
 //! A configuration that was read.
 
-ghost use Rattle.std.specs.Prelude.{◌≡◌, ◌≤◌, length};
-ghost use Rattle.am_draft.specs.Trees.{IsTree};
+ghost use Rattle.std.specs.Prelude.{◌≡◌, ◌<◌, ◌≤◌, Some, length, option_map, slice_get};
+ghost use Rattle.am_text.specs.Trees.{IsTree};
 ghost use Rattle.am_config.specs.Checks.{most_routes};
+ghost use Rattle.am_config.specs.Configuration.{grouping_of, receiver_of};
 ghost use Rattle.am_config.specs.Configured.{IsConfiguration};
-ghost use Rattle.am_config.specs.Judging.{IsMeant};
+ghost use Rattle.am_config.specs.Judging.{IsMeant, IsRead};
 
 use crate::parts::{Receiver, Route, Rule};
-use am_draft::{Listed, Node};
-use am_text::Text;
+use am_draft::Grouping;
+use am_text::{Listed, Node, Text};
 use std::marker::Model;
 
 /// A configuration that passed every check, with everything that its text says.
@@ -23,21 +24,22 @@ pub struct Config {
 
 impl Model for Config {
     ghost use Rattle.am_config.specs.Configuration.{Configuration};
-    ghost use Rattle.am_config.specs.Judging.{IsMeant};
+    ghost use Rattle.am_config.specs.Judging.{IsRead};
 
     ghost Value = { Configuration };
 
     ghost view = { λ c. record { text = c.text; resolve_timeout = c.resolve_timeout; routes = c.routes; receivers = c.receivers; rules = c.rules } };
 
-    ghost invariant = { λ c. IsMeant
+    ghost invariant = { λ c. IsRead
         (record { text = c.text; resolve_timeout = c.resolve_timeout; routes = c.routes; receivers = c.receivers; rules = c.rules }) };
 }
 
 impl Config {
-    /// The configuration's text, as it was posted: reading it again gives the same configuration.
+    /// The configuration's text, as it was posted: [`Config::reread`] gives the same configuration of it.
     pub fn text(&self) -> &str
         ensures text { result.now ≡ self.now.text }
         ensures meant { IsMeant self.now }
+        ensures read { IsRead self.now }
     {
         self.text.as_str()
     }
@@ -60,6 +62,28 @@ impl Config {
         self.routes.as_slice()
     }
 
+    /// The receiver of the route of this number.
+    pub fn receiver_of(&self, number: usize) -> &Receiver
+        requires { number < length self.now.routes }
+        ensures { receiver_of self.now number ≡ Some result.now }
+    {
+        let node = element(self.routes.as_slice(), number);
+        element(self.receivers.as_slice(), node.item.settings.receiver)
+    }
+
+    /// The grouping that holds for the route of this number, `None` where it groups by no label.
+    pub fn grouping_of(&self, number: usize) -> Option<&Grouping>
+        requires { number < length self.now.routes }
+        ensures { option_map (λ grouping. grouping.now) result ≡ grouping_of self.now number }
+    {
+        let routes = self.routes.as_slice();
+        let node = element(routes, number);
+        match node.item.settings.grouping {
+            None => None,
+            Some(place) => element(routes, place).item.grouping.as_ref(),
+        }
+    }
+
     /// The receivers in the order in which they are written.
     pub fn receivers(&self) -> &[Receiver]
         ensures receivers { result.now ≡ self.now.receivers }
@@ -75,4 +99,11 @@ impl Config {
     {
         self.rules.as_slice()
     }
+}
+
+fn element<T>(items: &[T], place: usize) -> &T
+    requires { place < length items.now }
+    ensures { slice_get items.now place ≡ Some result.now }
+{
+    &items[place]
 }

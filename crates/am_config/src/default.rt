@@ -6,9 +6,8 @@ ghost use Rattle.am_config.specs.Default.{default_route, default_receiver, defau
 use crate::config::Config;
 use crate::inheriting::DEFAULTS;
 use crate::parts::{Receiver, Route};
-use crate::reading::DEFAULT_RESOLVE_TIMEOUT;
-use am_draft::{Listed, Node};
-use am_text::Text;
+use crate::terms::DEFAULT_RESOLVE_TIMEOUT;
+use am_text::{Listed, Node, Text};
 use std::alloc::{AllocError, Global};
 
 /// The text that says it.
@@ -19,8 +18,8 @@ impl Config {
     /// one route goes to its one receiver `default`, which has no webhook.
     ///
     /// # Errors
-    /// Want of memory alone.
-    #[tactic(auto, using(crate::proofs::DefaultRead::default_meant))]
+    /// Out of memory alone.
+    #[tactic(auto, using(crate::proofs::DefaultRead::default_is_read))]
     pub fn default_config(alloc: Global) -> Result<Config, AllocError>
         ensures { IfOk result (λ c. c ≡ default_configuration) }
     {

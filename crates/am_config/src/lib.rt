@@ -8,17 +8,18 @@ mod checks;
 mod completing;
 mod config;
 mod default;
-mod fault;
 mod inheriting;
 pub mod laws;
 mod matching;
 mod named;
 mod parts;
 mod reading;
+mod refusal;
+mod terms;
 
 pub use config::Config;
-pub use fault::ConfigFault;
 pub use parts::{Receiver, Route, Rule, Settings, Webhook};
+pub use refusal::ConfigRefusal;
 
 #[cfg(test)]
 mod tests;

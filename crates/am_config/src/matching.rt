@@ -1,127 +1,155 @@
 //! The matchers of a draft, read in their order.
 
-ghost use Rattle.std.specs.Prelude.{◌≡◌, ◌∷◌, ◌++◌, [], true, map, IfOk, IfErr, OnOk};
-ghost use Rattle.std.specs.List.{list_all};
-ghost use Rattle.am_draft.specs.declared.route.RouteDraft.{RouteDraft};
-ghost use Rattle.am_draft.specs.declared.tree.Node.{Node};
-ghost use Rattle.am_config.specs.Completing.{rule_of};
-ghost use Rattle.am_config.specs.Matching.{meaning, given, gives_matchers, matchers_in, route_texts, rule_texts};
+ghost use Rattle.std.specs.Prelude.{◌≡◌, ◌++◌, ◌∷◌, [], false, true, map, IfOk, IfErr, OnOk};
+ghost use Rattle.std.specs.List.{flat_map, list_all};
+ghost use Rattle.am_text.specs.Outcome.{ForRefused};
+ghost use Rattle.am_pattern.specs.Asking.{Asked};
+ghost use Rattle.am_config.specs.declared.refusal.ConfigRefusal.TheVariants.{BadMatcher};
+ghost use Rattle.am_config.specs.Matching.{given, matcher_lists, matchers_in, meaning, reads_matchers, route_lists, rule_lists};
 ghost use Rattle.am_config.specs.Stopping.{IsStopOf};
 
-use crate::fault::ConfigFault;
-use crate::parts::Rule;
-use am_draft::{Listed, Node, RouteDraft, RuleDraft};
-use am_match::{Matcher, read_matchers};
+use crate::refusal::ConfigRefusal;
+use am_draft::{Draft, RouteDraft, RuleDraft};
+use am_match::{Matcher, read_matchers, reread_matchers};
 use am_pattern::PatternCache;
-use am_text::Text;
+use am_text::{Failure, Listed, Node, Text, refuse_as};
 use std::alloc::{AllocError, Global};
 
-/// The matchers of each route.
-///
-/// # Errors
-/// The first text that can't be read decides between [`ConfigFault::BadMatcher`] and [`ConfigFault::BuildRefused`].
-pub(crate) fn read_route_matchers(
-    alloc: Global,
-    routes: &[Node<RouteDraft>],
-    cache: &mut PatternCache,
-) -> Result<Vec<Listed<Matcher>>, ConfigFault>
-    ensures matchers { IfOk result (λ v. v.items ≡ map (λ (node : Node RouteDraft). matchers_in node.item.matchers) routes.now) }
-    ensures read { OnOk result (list_all gives_matchers (route_texts routes.now) ≡ true) }
-    ensures refused { OnOk result (cache.new.refused ≡ cache.old.refused) }
-    ensures stop { IfErr result (IsStopOf (route_texts routes.now) cache.old.refused cache.new.refused) }
-    ensures capacity { cache.new.capacity ≡ cache.old.capacity }
+/// The lists of matchers' texts, in the order of reading: that of each route, then of each inhibit rule the source's and
+/// the target's.
+pub(crate) fn matcher_lists(alloc: Global, draft: &Draft) -> Result<Vec<&[Text]>, AllocError>
+    ensures { IfOk result (λ v. map (λ list. list.now) v.items ≡ matcher_lists draft.now) }
 {
-    let mut matchers = Vec::new(alloc);
-    for node in routes {
-        let found = read_all(alloc, node.item.matchers.as_slice(), cache)?;
-        matchers.push(found)?;
-    }
-    Ok(matchers)
+    let mut lists = Vec::new(alloc);
+    push_route_lists(draft.routes.as_slice(), &mut lists)?;
+    push_rule_lists(draft.rules.as_slice(), &mut lists)?;
+    Ok(lists)
 }
 
-/// The inhibit rules: of each the source's matchers, then the target's.
+fn push_route_lists<'a>(
+    routes: &'a [Node<RouteDraft>],
+    lists: &mut Vec<&'a [Text]>,
+) -> Result<(), AllocError>
+    ensures { OnOk result (map (λ list. list.now) lists.new.items ≡ map (λ list. list.now) lists.old.items ++ route_lists routes.now) }
+{
+    for node in routes {
+        lists.push(node.item.matchers.as_slice())?;
+    }
+    Ok(())
+}
+
+fn push_rule_lists<'a>(
+    rules: &'a [RuleDraft],
+    lists: &mut Vec<&'a [Text]>,
+) -> Result<(), AllocError>
+    ensures { OnOk result (map (λ list. list.now) lists.new.items ≡ map (λ list. list.now) lists.old.items ++ rule_lists rules.now) }
+{
+    for rule in rules {
+        lists.push(rule.source.as_slice())?;
+        lists.push(rule.target.as_slice())?;
+    }
+    Ok(())
+}
+
+/// The matchers of each list, their patterns built.
 ///
 /// # Errors
-/// As [`read_route_matchers`].
-pub(crate) fn read_rules(
+/// The first text that can't be read decides between [`ConfigRefusal::BadMatcher`] and [`ConfigRefusal::BuildRefused`].
+pub(crate) fn read_lists(
     alloc: Global,
-    rules: &[RuleDraft],
+    lists: &[&[Text]],
     cache: &mut PatternCache,
-) -> Result<Vec<Rule>, ConfigFault>
-    ensures rules { IfOk result (λ v. v.items ≡ map rule_of rules.now) }
-    ensures read { OnOk result (list_all gives_matchers (rule_texts rules.now) ≡ true) }
-    ensures refused { OnOk result (cache.new.refused ≡ cache.old.refused) }
-    ensures stop { IfErr result (IsStopOf (rule_texts rules.now) cache.old.refused cache.new.refused) }
-    ensures capacity { cache.new.capacity ≡ cache.old.capacity }
+) -> Result<Vec<Listed<Matcher>>, Failure<ConfigRefusal>>
+    ensures matchers { IfOk result (λ v. v.items ≡ map (λ list. matchers_in list.now) lists.now) }
+    ensures read { OnOk result (list_all reads_matchers (flat_map (λ list. list.now) lists.now) ≡ true) }
+    ensures asked { Asked result cache.old cache.new }
+    ensures stop { IfErr result (IsStopOf (flat_map (λ list. list.now) lists.now) cache.old cache.new) }
 {
-    let mut read = Vec::new(alloc);
-    for rule in rules {
-        let found = read_rule(alloc, rule, cache)?;
-        read.push(found)?;
+    let mut read = Vec::with_capacity(alloc, lists.len())?;
+    for list in lists {
+        let matchers = read_list(alloc, list, cache)?;
+        read.push(matchers)?;
     }
     Ok(read)
 }
 
-fn read_rule(alloc: Global, rule: &RuleDraft, cache: &mut PatternCache) -> Result<Rule, ConfigFault>
-    ensures rule { IfOk result (λ r. r ≡ rule_of rule.now) }
-    ensures read { OnOk result (list_all gives_matchers (rule.now.source ++ rule.now.target) ≡ true) }
-    ensures refused { OnOk result (cache.new.refused ≡ cache.old.refused) }
-    ensures stop { IfErr result (IsStopOf (rule.now.source ++ rule.now.target) cache.old.refused cache.new.refused) }
-    ensures capacity { cache.new.capacity ≡ cache.old.capacity }
-{
-    let source = read_all(alloc, rule.source.as_slice(), cache)?;
-    let target = read_all(alloc, rule.target.as_slice(), cache)?;
-    let equal = copy_texts(alloc, rule.equal.as_slice())?;
-    Ok(Rule {
-        source,
-        target,
-        equal: Listed::from_vec(equal),
-    })
-}
-
-// The matchers of texts, one after another.
 #[tactic(auto, unfolding(crate::specs::Matching::matchers_in))]
-fn read_all(
+fn read_list(
     alloc: Global,
     texts: &[Text],
     cache: &mut PatternCache,
-) -> Result<Listed<Matcher>, ConfigFault>
+) -> Result<Listed<Matcher>, Failure<ConfigRefusal>>
     ensures matchers { IfOk result (λ l. l ≡ matchers_in texts.now) }
-    ensures read { OnOk result (list_all gives_matchers texts.now ≡ true) }
-    ensures refused { OnOk result (cache.new.refused ≡ cache.old.refused) }
-    ensures stop { IfErr result (IsStopOf texts.now cache.old.refused cache.new.refused) }
-    ensures capacity { cache.new.capacity ≡ cache.old.capacity }
+    ensures read { OnOk result (list_all reads_matchers texts.now ≡ true) }
+    ensures asked { Asked result cache.old cache.new }
+    ensures stop { IfErr result (IsStopOf texts.now cache.old cache.new) }
 {
     let mut matchers = Vec::new(alloc);
     for text in texts {
-        let mut found = read_one(alloc, text.as_str(), cache)?;
+        let mut found = read_text(alloc, text.as_str(), cache)?;
         matchers.append(&mut found)?;
     }
     Ok(Listed::from_vec(matchers))
 }
 
-fn read_one(
+fn read_text(
     alloc: Global,
     text: &str,
     cache: &mut PatternCache,
-) -> Result<Vec<Matcher>, ConfigFault>
+) -> Result<Vec<Matcher>, Failure<ConfigRefusal>>
     ensures matchers { IfOk result (λ v. v.items ≡ given (meaning text.now)) }
-    ensures read { OnOk result (gives_matchers text.now ≡ true) }
-    ensures refused { OnOk result (cache.new.refused ≡ cache.old.refused) }
-    ensures stop { IfErr result (IsStopOf (text.now ∷ []) cache.old.refused cache.new.refused) }
-    ensures capacity { cache.new.capacity ≡ cache.old.capacity }
+    ensures read { OnOk result (reads_matchers text.now ≡ true) }
+    ensures asked { Asked result cache.old cache.new }
+    ensures stop { IfErr result (IsStopOf (text.now ∷ []) cache.old cache.new) }
 {
-    let matchers = read_matchers(alloc, text, cache)?;
-    Ok(matchers)
+    match read_matchers(alloc, text, cache) {
+        Ok(matchers) => Ok(matchers),
+        Err(Failure::Refused(refusal)) => Err(Failure::Refused(ConfigRefusal::of_matcher(refusal))),
+        Err(Failure::OutOfMemory) => Err(Failure::OutOfMemory),
+    }
 }
 
-/// Equal texts.
-pub(crate) fn copy_texts(alloc: Global, texts: &[Text]) -> Result<Vec<Text>, AllocError>
-    ensures { IfOk result (λ v. v.items ≡ texts.now) }
+/// The matchers of each list by the grammars alone, as [`read_lists`] reads them where no build is refused.
+///
+/// # Errors
+/// [`ConfigRefusal::BadMatcher`] where a text can't be read.
+pub(crate) fn reread_lists(
+    alloc: Global,
+    lists: &[&[Text]],
+) -> Result<Vec<Listed<Matcher>>, Failure<ConfigRefusal>>
+    ensures matchers { IfOk result (λ v. v.items ≡ map (λ list. matchers_in list.now) lists.now) }
+    ensures read { OnOk result (list_all reads_matchers (flat_map (λ list. list.now) lists.now) ≡ true) }
+    ensures refusal { IfErr result (λ failure. ForRefused failure (λ refusal.
+        (refusal ≡ BadMatcher) × (list_all reads_matchers (flat_map (λ list. list.now) lists.now) ≡ false))) }
 {
-    let mut copies = Vec::new(alloc);
-    for text in texts {
-        copies.push(text.copy(alloc)?)?;
+    let mut read = Vec::with_capacity(alloc, lists.len())?;
+    for list in lists {
+        let matchers = reread_list(alloc, list)?;
+        read.push(matchers)?;
     }
-    Ok(copies)
+    Ok(read)
+}
+
+#[tactic(auto, unfolding(crate::specs::Matching::matchers_in))]
+fn reread_list(alloc: Global, texts: &[Text]) -> Result<Listed<Matcher>, Failure<ConfigRefusal>>
+    ensures matchers { IfOk result (λ l. l ≡ matchers_in texts.now) }
+    ensures read { OnOk result (list_all reads_matchers texts.now ≡ true) }
+    ensures refusal { IfErr result (λ failure. ForRefused failure (λ refusal.
+        (refusal ≡ BadMatcher) × (list_all reads_matchers texts.now ≡ false))) }
+{
+    let mut matchers = Vec::new(alloc);
+    for text in texts {
+        let mut found = reread_text(alloc, text.as_str())?;
+        matchers.append(&mut found)?;
+    }
+    Ok(Listed::from_vec(matchers))
+}
+
+fn reread_text(alloc: Global, text: &str) -> Result<Vec<Matcher>, Failure<ConfigRefusal>>
+    ensures matchers { IfOk result (λ v. v.items ≡ given (meaning text.now)) }
+    ensures read { OnOk result (reads_matchers text.now ≡ true) }
+    ensures refusal { IfErr result (λ failure. ForRefused failure (λ refusal.
+        (refusal ≡ BadMatcher) × (reads_matchers text.now ≡ false))) }
+{
+    refuse_as(reread_matchers(alloc, text), ConfigRefusal::BadMatcher)
 }

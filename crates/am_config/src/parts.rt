@@ -1,8 +1,8 @@
 //! The parts of a configuration.
 
-use am_draft::{Grouping, Listed};
+use am_draft::Grouping;
 use am_match::Matcher;
-use am_text::Text;
+use am_text::{Listed, Text};
 use am_url::WebhookUrl;
 
 /// What holds for a route: what it says itself, for the rest what the nearest route around it says, else the default.

@@ -1,31 +1,29 @@
 //! A configuration, from a document or a text.
 
-ghost use Rattle.std.specs.Prelude.{◌≡◌, false, true, map, None, Ok, IfOk, IfErr, OnOk};
-ghost use Rattle.am_draft.specs.Drafts.{draft_in, has_left_out, posted};
-ghost use Rattle.am_draft.specs.declared.route.RouteDraft.{RouteDraft};
-ghost use Rattle.am_draft.specs.declared.tree.Node.{Node};
+ghost use Rattle.std.specs.Prelude.{◌≡◌, false, true, map, length, Ok, IfOk, IfErr};
+ghost use Rattle.std.specs.List.{list_all};
+ghost use Rattle.am_text.specs.Outcome.{ForRefused, Gives};
+ghost use Rattle.am_text.specs.Trees.{IsTree};
+ghost use Rattle.am_pattern.specs.Asking.{Asked};
 ghost use Rattle.am_match.specs.Checking.{AreRefusedRightly};
-ghost use Rattle.am_config.specs.Completing.{rule_of};
-ghost use Rattle.am_config.specs.Judging.{after_matchers, fault_before, judged, configuration, IsFaultOf, IsLate};
-ghost use Rattle.am_config.specs.Matching.{matchers_in, matcher_texts, matchers_fit, patterns_of_draft};
-ghost use Rattle.am_config.specs.Outcome.{Gives};
-ghost use Rattle.am_config.specs.Stopping.{IsStopOf};
+ghost use Rattle.am_draft.specs.Drafts.{draft_in, has_left_out, posted};
+ghost use Rattle.am_config.specs.Checks.{is_repeated};
+ghost use Rattle.am_config.specs.Judging.{IsFailureOf, IsLate, after_matchers, before_matchers, configuration, judged_by, reading};
+ghost use Rattle.am_config.specs.Matching.{matcher_lists, matcher_texts, matchers_in, patterns_of_draft, reads_matchers};
 
-use crate::checks::{counts_fit, fault_before};
-use crate::completing::{receivers_of, routes_of};
+use crate::checks::{are_listed, counts_fit, is_root_bare};
+use crate::completing::{receivers_of, routes_with, rules_with};
 use crate::config::Config;
-use crate::fault::ConfigFault;
-use crate::inheriting::span;
-use crate::matching::{read_route_matchers, read_rules};
+use crate::inheriting::settings_of;
+use crate::matching::{matcher_lists, read_lists, reread_lists};
 use crate::named::NamedReceivers;
-use crate::parts::Rule;
-use am_draft::{Draft, Listed};
+use crate::refusal::ConfigRefusal;
+use crate::terms::{Terms, terms_in};
+use am_draft::Draft;
 use am_match::Matcher;
 use am_pattern::PatternCache;
+use am_text::{Failure, Listed, map_refusal, refuse_as};
 use std::alloc::Global;
-
-/// How long an alert without an end fires where nothing is written, in milliseconds: 5 minutes.
-pub(crate) const DEFAULT_RESOLVE_TIMEOUT: u64 = 300_000;
 
 impl Config {
     /// The configuration that a posted document gives: a JSON object with `alertmanager_config`, the text.
@@ -33,24 +31,24 @@ impl Config {
     /// # Errors
     /// The first of `C1` to `C9` whose check fails over the whole text. Of its matchers, in the order of routes, each
     /// before those within it, and then of inhibit rules, each source's before its target's, the first that can't be
-    /// read decides between `C7` and [`ConfigFault::BuildRefused`]; patterns are built only where `C1` to `C6` pass.
-    /// Want of memory can come at any step and says nothing of the text.
+    /// read decides between `C7` and [`ConfigRefusal::BuildRefused`]; patterns are built only where `C1` to `C6` pass.
+    /// Out of memory can come at any step and says nothing of the text.
     pub fn read(
         alloc: Global,
         document: &[u8],
         cache: &mut PatternCache,
-    ) -> Result<Config, ConfigFault>
+    ) -> Result<Config, Failure<ConfigRefusal>>
         ensures ok { IfOk result (λ c. configuration (posted document.now) ≡ Ok c) }
         ensures text { IfOk result (λ c. configuration (draft_in c.text) ≡ Ok c) }
-        ensures refused { OnOk result (cache.new.refused ≡ cache.old.refused) }
-        ensures fault { IfErr result (IsFaultOf (posted document.now) cache.old.refused cache.new.refused) }
-        ensures capacity { cache.new.capacity ≡ cache.old.capacity }
+        ensures again { IfOk result (λ c. reading (draft_in c.text) ≡ Ok c) }
+        ensures asked { Asked result cache.old cache.new }
+        ensures failure { IfErr result (IsFailureOf (posted document.now) cache.old cache.new) }
 
         // Where no build of these patterns was refused, the answer is the meaning of the document.
         ensures meaning { AreRefusedRightly cache.new.refused (patterns_of_draft (posted document.now)) →
             Gives (λ c. c) result (configuration (posted document.now)) }
     {
-        let draft = Draft::read(alloc, document)?;
+        let draft = map_refusal(Draft::read(alloc, document), ConfigRefusal::of_draft)?;
         judged(alloc, &draft, cache)
     }
 
@@ -62,57 +60,103 @@ impl Config {
         alloc: Global,
         text: &[u8],
         cache: &mut PatternCache,
-    ) -> Result<Config, ConfigFault>
+    ) -> Result<Config, Failure<ConfigRefusal>>
         ensures ok { IfOk result (λ c. configuration (draft_in text.now) ≡ Ok c) }
         ensures text { IfOk result (λ c. c.text ≡ text.now) }
-        ensures refused { OnOk result (cache.new.refused ≡ cache.old.refused) }
-        ensures fault { IfErr result (IsFaultOf (draft_in text.now) cache.old.refused cache.new.refused) }
-        ensures capacity { cache.new.capacity ≡ cache.old.capacity }
+        ensures again { IfOk result (λ c. reading (draft_in text.now) ≡ Ok c) }
+        ensures asked { Asked result cache.old cache.new }
+        ensures failure { IfErr result (IsFailureOf (draft_in text.now) cache.old cache.new) }
 
         // Where no build of these patterns was refused, the answer is the meaning of the text.
         ensures meaning { AreRefusedRightly cache.new.refused (patterns_of_draft (draft_in text.now)) →
             Gives (λ c. c) result (configuration (draft_in text.now)) }
     {
-        let draft = Draft::read_text(alloc, text)?;
+        let draft = map_refusal(Draft::read_text(alloc, text), ConfigRefusal::of_draft)?;
         judged(alloc, &draft, cache)
+    }
+
+    /// The configuration that a text gives, by the grammars alone: no pattern is built and no cache is asked. A text that
+    /// [`Config::read`] or [`Config::read_text`] accepted gives the same configuration again.
+    ///
+    /// # Errors
+    /// The first of `C1` to `C9` whose check fails over the whole text, where a pattern that nests too deep to be built is
+    /// none; never [`ConfigRefusal::BuildRefused`]. Out of memory says nothing of the text.
+    pub fn reread(alloc: Global, text: &[u8]) -> Result<Config, Failure<ConfigRefusal>>
+        ensures read { Gives (λ c. c) result (reading (draft_in text.now)) }
+        ensures ok { IfOk result (λ c. configuration (draft_in text.now) ≡ Ok c) }
+        ensures text { IfOk result (λ c. c.text ≡ text.now) }
+    {
+        let draft = map_refusal(Draft::read_text(alloc, text), ConfigRefusal::of_draft)?;
+        rejudged(alloc, &draft)
     }
 }
 
 // The configuration of a draft, where every check passes.
-#[tactic(auto, using(crate::proofs::Judgements::repeated_fault))]
-fn judged(alloc: Global, draft: &Draft, cache: &mut PatternCache) -> Result<Config, ConfigFault>
-    requires again { has_left_out draft.now ≡ false → draft_in draft.now.text ≡ Ok draft.now }
-    ensures ok { IfOk result (λ c. judged draft.now ≡ Ok c) }
-    ensures refused { OnOk result (cache.new.refused ≡ cache.old.refused) }
-    ensures fault { IfErr result (IsFaultOf (Ok draft.now) cache.old.refused cache.new.refused) }
-    ensures capacity { cache.new.capacity ≡ cache.old.capacity }
-{
-    let Some(receivers) = NamedReceivers::new(alloc, draft.receivers.as_slice())? else {
-        return Err(ConfigFault::BadReceiver);
-    };
-    if let Some(fault) = fault_before(draft, &receivers) {
-        return Err(fault);
-    }
-    let (matchers, rules) = read_matchers(alloc, draft, cache)?;
-    completed(alloc, draft, &receivers, matchers, rules)
-}
-
-// All matchers of a draft: those of the routes, and the inhibit rules.
-fn read_matchers(
+fn judged(
     alloc: Global,
     draft: &Draft,
     cache: &mut PatternCache,
-) -> Result<(Vec<Listed<Matcher>>, Vec<Rule>), ConfigFault>
-    ensures routes { IfOk result (λ read. read.0.items ≡ map (λ (node : Node RouteDraft). matchers_in node.item.matchers) draft.now.routes) }
-    ensures rules { IfOk result (λ read. read.1.items ≡ map rule_of draft.now.rules) }
-    ensures read { OnOk result (matchers_fit draft.now ≡ true) }
-    ensures refused { OnOk result (cache.new.refused ≡ cache.old.refused) }
-    ensures stop { IfErr result (IsStopOf (matcher_texts draft.now) cache.old.refused cache.new.refused) }
-    ensures capacity { cache.new.capacity ≡ cache.old.capacity }
+) -> Result<Config, Failure<ConfigRefusal>>
+    requires tree { IsTree draft.now.routes }
+    requires again { has_left_out draft.now ≡ false → draft_in draft.now.text ≡ Ok draft.now }
+    ensures ok { IfOk result (λ c. judged_by reads_matchers draft.now ≡ Ok c) }
+    ensures asked { Asked result cache.old cache.new }
+    ensures failure { IfErr result (IsFailureOf (Ok draft.now) cache.old cache.new) }
 {
-    let matchers = read_route_matchers(alloc, draft.routes.as_slice(), cache)?;
-    let rules = read_rules(alloc, draft.rules.as_slice(), cache)?;
-    Ok((matchers, rules))
+    let terms = terms_of(alloc, draft)?;
+    let lists = matcher_lists(alloc, draft)?;
+    let matchers = read_lists(alloc, &lists, cache)?;
+    completed(alloc, draft, &terms, matchers)
+}
+
+// The same by the grammars alone.
+fn rejudged(alloc: Global, draft: &Draft) -> Result<Config, Failure<ConfigRefusal>>
+    requires tree { IsTree draft.now.routes }
+    requires again { has_left_out draft.now ≡ false → draft_in draft.now.text ≡ Ok draft.now }
+    ensures { Gives (λ c. c) result (judged_by reads_matchers draft.now) }
+{
+    let terms = terms_of(alloc, draft)?;
+    let lists = matcher_lists(alloc, draft)?;
+    let matchers = reread_lists(alloc, &lists)?;
+    completed(alloc, draft, &terms, matchers)
+}
+
+// What is read of a draft before its matchers.
+#[tactic(auto, using(crate::proofs::Judgements::repeated_refused))]
+fn terms_of(alloc: Global, draft: &Draft) -> Result<Terms, Failure<ConfigRefusal>>
+    ensures { Gives (λ terms. terms) result (before_matchers draft.now) }
+{
+    let Some(receivers) = NamedReceivers::new(alloc, draft.receivers.as_slice())? else {
+        return Err(Failure::Refused(ConfigRefusal::BadReceiver));
+    };
+    terms_by(alloc, draft, &receivers)
+}
+
+// The same, where these are the draft's receivers, each of a name of its own.
+#[tactic(auto, unfolding(crate::specs::Judging::before_matchers, crate::specs::Checks::receivers_fit))]
+fn terms_by(
+    alloc: Global,
+    draft: &Draft,
+    receivers: &NamedReceivers,
+) -> Result<Terms, Failure<ConfigRefusal>>
+    requires apart { is_repeated draft.now.receivers ≡ false }
+    requires receivers { receivers.now ≡ draft.now.receivers }
+    ensures { Gives (λ terms. terms) result (before_matchers draft.now) }
+{
+    if !are_listed(receivers, draft.routes.as_slice()) {
+        return Err(Failure::Refused(ConfigRefusal::BadReceiver));
+    }
+    if !is_root_bare(draft.routes.as_slice()) {
+        return Err(Failure::Refused(ConfigRefusal::RootMatchers));
+    }
+    let terms = refuse_as(
+        terms_in(alloc, draft, receivers),
+        ConfigRefusal::BadDuration,
+    )?;
+    if draft.has_left_out() {
+        return Err(Failure::Refused(ConfigRefusal::LeftOut));
+    }
+    Ok(terms)
 }
 
 // The configuration, once all matchers were read.
@@ -120,28 +164,28 @@ fn read_matchers(
 fn completed(
     alloc: Global,
     draft: &Draft,
-    named: &NamedReceivers,
-    matchers: Vec<Listed<Matcher>>,
-    rules: Vec<Rule>,
-) -> Result<Config, ConfigFault>
-    requires receivers { named.now ≡ draft.now.receivers }
+    terms: &Terms,
+    mut matchers: Vec<Listed<Matcher>>,
+) -> Result<Config, Failure<ConfigRefusal>>
+    requires tree { IsTree draft.now.routes }
     requires again { has_left_out draft.now ≡ false → draft_in draft.now.text ≡ Ok draft.now }
-    requires passed { fault_before draft.now ≡ None }
-    requires read { matchers_fit draft.now ≡ true }
-    requires matchers { matchers.items ≡ map (λ (node : Node RouteDraft). matchers_in node.item.matchers) draft.now.routes }
-    requires rules { rules.items ≡ map rule_of draft.now.rules }
-    ensures value { Gives (λ c. c) result (after_matchers draft.now) }
-    ensures late { IfErr result IsLate }
+    requires passed { before_matchers draft.now ≡ Ok terms.now }
+    requires read { list_all reads_matchers (matcher_texts draft.now) ≡ true }
+    requires matchers { matchers.items ≡ map matchers_in (matcher_lists draft.now) }
+    ensures value { Gives (λ c. c) result (after_matchers draft.now terms.now) }
+    ensures late { IfErr result (λ failure. ForRefused failure IsLate) }
 {
     if !counts_fit(draft) {
-        return Err(ConfigFault::TooMany);
+        return Err(Failure::Refused(ConfigRefusal::TooMany));
     }
     let receivers = receivers_of(alloc, draft.receivers.as_slice())?;
-    let routes = routes_of(alloc, named, draft.routes.as_slice(), matchers)?;
-    let text = draft.text.copy(alloc)?;
+    let settings = settings_of(alloc, terms.owns.as_slice())?;
+    let of_rules = matchers.split_off(draft.routes.as_slice().len())?;
+    let routes = routes_with(alloc, &settings, draft.routes.as_slice(), matchers)?;
+    let rules = rules_with(alloc, draft.rules.as_slice(), of_rules)?;
     Ok(Config {
-        text,
-        resolve_timeout: span(&draft.global.resolve_timeout, DEFAULT_RESOLVE_TIMEOUT),
+        text: draft.text.copy(alloc)?,
+        resolve_timeout: terms.resolve_timeout,
         routes: Listed::from_vec(routes),
         receivers: Listed::from_vec(receivers),
         rules: Listed::from_vec(rules),

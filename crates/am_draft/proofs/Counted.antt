@@ -1,35 +1,16 @@
 -- A route whose routes were added after it, and are then counted as within it.
-use Rattle.std.proofs.Common.{◌≡◌, ℕ, zero, suc, ◌+◌, List, [], ◌∷◌, ◌++◌, length, slice_index_or, slice_set, Result, Ok, Err, refl, sym, ap, ◌∙◌, append_assoc, append-nil, arith}
+use Rattle.std.proofs.Common.{◌≡◌, ℕ, List, [], ◌∷◌, ◌++◌, length, Result, Ok, Err, refl, sym, ◌∙◌, append_assoc, append-nil}
 use Rattle.serde_json.specs.Data.{Members, object}
-use Rattle.am_draft.specs.declared.fault.DraftFault.{DraftFault}
+use Rattle.am_text.specs.declared.tree.Node.{Node}
+use Rattle.am_text.specs.Outcome.{◌>>=◌}
+use Rattle.am_text.proofs.TreeLemmas.{counted_done}
+use Rattle.am_text.specs.Trees.{Forest, counted, flat}
+use Rattle.am_json.specs.declared.refusal.JsonRefusal.{JsonRefusal}
 use Rattle.am_draft.specs.declared.route.RouteDraft.{RouteDraft}
-use Rattle.am_draft.specs.declared.tree.Node.{Node}
-use Rattle.am_draft.specs.Growing.{counted, grown, grown_by_tree}
-use Rattle.am_draft.specs.Outcome.{◌>>=◌}
-use Rattle.am_draft.specs.Routes.{deeper, route_of, routes_below, tree_in}
-use Rattle.am_draft.specs.Trees.{Forest, flat}
+use Rattle.am_draft.specs.Routes.{deeper, grown, grown_by_tree, route_of, routes_below, tree_in}
 
--- the write is the count
-pub counted_set : (nodes : List (Node RouteDraft)) (number : ℕ) (node : Node RouteDraft) (within : ℕ)
-    → within + number + 1 ≡ length nodes → node ≡ slice_index_or nodes number node
-    → slice_set nodes number (record { item = node.item; within = within }) ≡ counted number nodes
-counted_set [] number node within fits at = absurd (omega arith)
-counted_set (first ∷ nodes) zero node within fits at =
-    let same : within ≡ length nodes = omega arith in
-    rw (at, same) refl
-counted_set (first ∷ nodes) (suc number) node within fits at =
-    let less : within + number + 1 ≡ length nodes = omega arith in
-    ap (λ (rest : List (Node RouteDraft)). first ∷ rest) (counted_set nodes number node within less at)
-
--- what follows the node of this number is within it
-pub counted_done : (done : List (Node RouteDraft)) (node : Node RouteDraft) (rest : List (Node RouteDraft))
-    → counted (length done) (done ++ (node ∷ rest)) ≡ done ++ (record { item = node.item; within = length rest } ∷ rest)
-counted_done [] node rest = refl
-counted_done (first ∷ done) node rest =
-    ap (λ (nodes : List (Node RouteDraft)). first ∷ nodes) (counted_done done node rest)
-
--- the same by what reading the routes within comes to
-by_outcome : (done : List (Node RouteDraft)) (route : RouteDraft) (outcome : Result (Forest RouteDraft) DraftFault)
+-- by what reading the routes within comes to
+by_outcome : (done : List (Node RouteDraft)) (route : RouteDraft) (outcome : Result (Forest RouteDraft) JsonRefusal)
     (pushed nodes : List (Node RouteDraft)) → grown (done ++ record { item = route; within = 0 } ∷ []) outcome ≡ Ok pushed
     → nodes ≡ counted (length done) pushed
     → grown_by_tree done (outcome >>= λ within. Ok (route, within)) ≡ Ok nodes

@@ -1,7 +1,6 @@
-pub mod Json
-pub mod Fronts
 pub mod Held
 pub mod Counted
 pub mod Rooted
 pub mod LabelNames
 pub mod Plain
+pub mod ForestLemmas

@@ -4,10 +4,12 @@ use Rattle.std.specs.Prelude.{codes}
 use Rattle.std.specs.Str.{is_utf8, chars}
 use Rattle.serde_json.specs.Data.{Data, object, array, string, item, no_items, member, no_members}
 use Rattle.serde_json.proofs.OnLiterals.{serde_json_on_literals}
+use Rattle.am_text.specs.Outcome.{◌>>=◌, outcome_map}
+use Rattle.am_json.specs.Reading.{json}
 use Rattle.am_draft.specs.declared.draft.Draft.{Draft}
-use Rattle.am_draft.specs.Drafts.{draft_in, draft_of, global_in, json}
+use Rattle.am_draft.specs.Drafts.{draft_in, draft_of, global_in, said_by_text}
+use Rattle.am_draft.specs.Refusals.{refusal_of}
 use Rattle.am_draft.specs.Keys.{key_leaves_out}
-use Rattle.am_draft.specs.Outcome.{◌>>=◌}
 use Rattle.am_draft.specs.Receivers.{receiver_of, receivers_of}
 use Rattle.am_draft.specs.Routes.{intervals_of, route_of}
 
@@ -50,5 +52,5 @@ unfolding draft_of global_in key_leaves_out intervals_of route_of receiver_of re
 plain_said = refl
 
 pub plain_read : draft_in plain_text ≡ Ok plain_draft
-unfolding draft_in
-plain_read = ap (λ read. read >>= draft_of plain_text) plain_json ∙ plain_said
+unfolding draft_in said_by_text
+plain_read = ap (λ read. outcome_map refusal_of (read >>= draft_of plain_text)) plain_json ∙ ap (outcome_map refusal_of) plain_said

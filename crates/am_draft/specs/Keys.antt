@@ -4,11 +4,12 @@ use Rattle.std.specs.List.{list_any, ends_with}
 use Rattle.std.specs.Str.{bytes_eq}
 use Rattle.serde_json.specs.Data.{Data, Items, no_items, item, Members, no_members, member}
 use Rattle.serde_json.specs.Find.{as_array, as_object}
-use Rattle.am_draft.specs.declared.fault.DraftFault.{DraftFault}
-use Rattle.am_draft.specs.declared.fault.DraftFault.TheVariants.{BadForm}
+use Rattle.am_json.specs.declared.refusal.JsonRefusal.{JsonRefusal}
+use Rattle.am_json.specs.declared.refusal.JsonRefusal.TheVariants.{BadForm}
 use Rattle.am_draft.specs.declared.keys.Place.{Place}
 use Rattle.am_draft.specs.declared.keys.Place.TheVariants.{Document, Top, Global, Route, Receiver, Webhook, Rule}
-use Rattle.am_draft.specs.Outcome.{◌>>=◌, formed}
+use Rattle.am_text.specs.Outcome.{◌>>=◌}
+use Rattle.am_json.specs.Reading.{formed}
 
 -- the text is one of these
 abbrev pub has_text : List (List ℕ) → List ℕ → Bool
@@ -46,7 +47,7 @@ abbrev pub has_items : Items → Bool
 has_items no_items = false
 has_items (item d ds) = true
 
-abbrev pub templates_in : Data → Result Bool DraftFault
+abbrev pub templates_in : Data → Result Bool JsonRefusal
 templates_in d = formed (as_array d) >>= λ ds. Ok (has_items ds)
 
 -- an object of templates' files, which is left out where it holds one
@@ -54,11 +55,11 @@ abbrev pub has_members : Members → Bool
 has_members no_members = false
 has_members (member k d ms) = true
 
-abbrev pub template_files_in : Data → Result Bool DraftFault
+abbrev pub template_files_in : Data → Result Bool JsonRefusal
 template_files_in d = formed (as_object d) >>= λ ms. Ok (has_members ms)
 
 -- whether this key, with what it holds, is left out; refused where it is unknown
-unfoldable pub key_leaves_out : Place → List ℕ → Data → Result Bool DraftFault
+unfoldable pub key_leaves_out : Place → List ℕ → Data → Result Bool JsonRefusal
 key_leaves_out place key d =
     if bytes_eq key (codes "templates") then templates_in d
     else if bytes_eq key (codes "template_files") then template_files_in d
@@ -67,11 +68,11 @@ key_leaves_out place key d =
     else Err BadForm
 
 -- whether one of the keys is left out, or one before them was
-abbrev pub leaves_out_after : Place → Bool → Members → Result Bool DraftFault
+abbrev pub leaves_out_after : Place → Bool → Members → Result Bool JsonRefusal
 leaves_out_after place seen no_members = Ok seen
 leaves_out_after place seen (member key d ms) =
     key_leaves_out place key d >>= λ left_out. leaves_out_after place (seen || left_out) ms
 
 -- whether one of the object's keys is left out; refused where one is unknown, or where this is no object
-abbrev pub leaves_out : Place → Data → Result Bool DraftFault
+abbrev pub leaves_out : Place → Data → Result Bool JsonRefusal
 leaves_out place d = formed (as_object d) >>= leaves_out_after place false

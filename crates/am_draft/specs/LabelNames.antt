@@ -7,7 +7,7 @@ use Rattle.am_draft.specs.declared.route.Grouping.{Grouping}
 use Rattle.am_draft.specs.declared.route.Grouping.TheVariants as grouping
 use Rattle.am_draft.specs.declared.route.RouteDraft.{RouteDraft}
 use Rattle.am_draft.specs.declared.rule.RuleDraft.{RuleDraft}
-use Rattle.am_draft.specs.declared.tree.Node.{Node}
+use Rattle.am_text.specs.declared.tree.Node.{Node}
 
 -- each of them is a label name
 abbrev pub AreLabelNames : List (List ℕ) → Type 0

@@ -1,15 +1,13 @@
--- trees as flat lists
-pub mod Trees
--- what reading comes to
-pub mod Outcome
+-- the refusals and their codes
+pub mod Refusals
+-- the trees that flat lists hold
+pub mod Forests
 -- the keys of each kind of object
 pub mod Keys
--- one value within an object
-pub mod Fields
+-- lists of label names
+pub mod Names
 -- routes and those within them
 pub mod Routes
--- how the list of routes grows
-pub mod Growing
 -- receivers and their webhooks
 pub mod Receivers
 -- inhibit rules

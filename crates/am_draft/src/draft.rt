@@ -4,21 +4,19 @@ ghost use Rattle.std.specs.Prelude.{◌≡◌, false, true, IfOk, Ok, codes};
 ghost use Rattle.std.specs.List.{list_any};
 ghost use Rattle.serde_json.specs.Find.{get};
 ghost use Rattle.serde_json.specs.View.{view};
-ghost use Rattle.am_draft.specs.Drafts.{global_in, no_global, rooted, root_in, root_has_receiver, draft_of, draft_in, json, within_document, route_leaves_out, webhook_leaves_out, receiver_leaves_out, rule_leaves_out};
-ghost use Rattle.am_draft.specs.Trees.{IsTree};
-ghost use Rattle.am_draft.specs.Fields.{optional, required};
-ghost use Rattle.am_draft.specs.Outcome.{Gives};
+ghost use Rattle.am_text.specs.Outcome.{Gives};
+ghost use Rattle.am_text.specs.Trees.{IsTree};
+ghost use Rattle.am_json.specs.Reading.{optional, required};
+ghost use Rattle.am_draft.specs.Drafts.{draft_of, global_in, has_left_out, no_global, receiver_leaves_out, root_has_receiver, root_in, rooted, route_leaves_out, rule_leaves_out, said_by_document, said_by_text, webhook_leaves_out, within_document};
 
-use crate::fault::DraftFault;
-use crate::fields::{text_at, written_at};
 use crate::keys::{Place, leaves_out};
-use crate::listed::Listed;
 use crate::receiver::{ReceiverDraft, WebhookDraft, receivers_at};
+use crate::refusal::DraftRefusal;
 use crate::route::RouteDraft;
 use crate::routes::push_tree;
 use crate::rule::{RuleDraft, rules_at};
-use crate::tree::Node;
-use am_text::Text;
+use am_json::{JsonRefusal, optional_text_at, read_json, text_at};
+use am_text::{Failure, Listed, Node, Text, map_refusal};
 use serde_json::Value;
 use std::alloc::Global;
 use std::str;
@@ -51,17 +49,17 @@ pub struct Draft {
 }
 
 impl Draft {
-    ghost use Rattle.am_draft.specs.Trees.{IsTree};
-    ghost use Rattle.std.specs.Prelude.{true};
+    ghost use Rattle.std.specs.Prelude.{false, true, Ok};
+    ghost use Rattle.am_text.specs.Trees.{IsTree};
     ghost use Rattle.am_draft.specs.Drafts.{draft_in, has_left_out, posted, root_has_receiver};
 
     /// What a posted document says: a JSON object with `alertmanager_config`, the configuration's text.
     ///
     /// # Errors
-    /// [`DraftFault::NotJson`] where the document or its text is not JSON; else [`DraftFault::BadForm`] where one of
-    /// them is not of its form, also a document without a text; [`DraftFault::OutOfMemory`] where memory ran out.
-    #[tactic(auto, unfolding(crate::specs::Drafts::posted))]
-    pub fn read(alloc: Global, document: &[u8]) -> Result<Draft, DraftFault>
+    /// [`DraftRefusal::NotJson`] where the document or its text is not JSON; else [`DraftRefusal::BadForm`] where one
+    /// of them is not of its form, also a document without a text; out of memory says nothing of the document.
+    #[tactic(auto, unfolding(crate::specs::Drafts::posted, crate::specs::Drafts::draft_in))]
+    pub fn read(alloc: Global, document: &[u8]) -> Result<Draft, Failure<DraftRefusal>>
         ensures draft { Gives (λ d. d) result (posted document.now) }
         ensures tree { IfOk result (λ d. IsTree d.routes) }
         ensures root { IfOk result (λ d. root_has_receiver d.routes ≡ true) }
@@ -69,27 +67,27 @@ impl Draft {
         // Where no key is left out, the text alone says the same.
         ensures text { IfOk result (λ d. has_left_out d ≡ false → draft_in d.text ≡ Ok d) }
     {
-        let value = json_of(alloc, document)?;
-        let text = text_at(alloc, &value, "alertmanager_config")?;
-        let draft = draft_in(alloc, text)?;
-        let left_out = leaves_out(&value, Place::Document)?;
-        Ok(within_document(draft, left_out))
+        map_refusal(said_by_document(alloc, document), DraftRefusal::of_json)
     }
 
     /// What the text of a configuration says, as [`Draft::text`] holds it.
     ///
     /// # Errors
-    /// [`DraftFault::NotJson`] where the text is not JSON; else [`DraftFault::BadForm`] where it is not of its form;
-    /// [`DraftFault::OutOfMemory`] where memory ran out.
-    pub fn read_text(alloc: Global, text: &[u8]) -> Result<Draft, DraftFault>
+    /// [`DraftRefusal::NotJson`] where the text is not JSON; else [`DraftRefusal::BadForm`] where it is not of its
+    /// form; out of memory says nothing of the text.
+    #[tactic(auto, unfolding(crate::specs::Drafts::draft_in))]
+    pub fn read_text(alloc: Global, text: &[u8]) -> Result<Draft, Failure<DraftRefusal>>
         ensures draft { Gives (λ d. d) result (draft_in text.now) }
         ensures tree { IfOk result (λ d. IsTree d.routes) }
         ensures root { IfOk result (λ d. root_has_receiver d.routes ≡ true) }
         ensures text { IfOk result (λ d. d.text ≡ text.now) }
     {
         match str::from_utf8(text) {
-            Ok(text) => draft_in(alloc, Text::read(alloc, text)?),
-            Err(_) => Err(DraftFault::NotJson),
+            Ok(text) => {
+                let text = Text::read(alloc, text)?;
+                map_refusal(said_by_text(alloc, text), DraftRefusal::of_json)
+            }
+            Err(_) => Err(Failure::Refused(DraftRefusal::NotJson)),
         }
     }
 
@@ -140,33 +138,33 @@ fn within_document(draft: Draft, left_out: bool) -> Draft
     }
 }
 
-fn json_of(alloc: Global, bytes: &[u8]) -> Result<Value, DraftFault>
-    ensures { Gives view result (json bytes.now) }
+#[tactic(auto, unfolding(crate::specs::Drafts::said_by_document))]
+fn said_by_document(alloc: Global, document: &[u8]) -> Result<Draft, Failure<JsonRefusal>>
+    ensures draft { Gives (λ d. d) result (said_by_document document.now) }
+    ensures tree { IfOk result (λ d. IsTree d.routes) }
+    ensures root { IfOk result (λ d. root_has_receiver d.routes ≡ true) }
+    ensures text { IfOk result (λ d. has_left_out d ≡ false → said_by_text d.text ≡ Ok d) }
 {
-    match Value::from_slice(alloc, bytes) {
-        Ok(value) => Ok(value),
-        Err(error) => {
-            if error.is_memory() {
-                return Err(DraftFault::OutOfMemory);
-            }
-            Err(DraftFault::NotJson)
-        }
-    }
+    let value = read_json(alloc, document)?;
+    let text = text_at(alloc, &value, "alertmanager_config")?;
+    let draft = said_by_text(alloc, text)?;
+    let left_out = leaves_out(&value, Place::Document)?;
+    Ok(within_document(draft, left_out))
 }
 
-#[tactic(auto, unfolding(crate::specs::Drafts::draft_in))]
-fn draft_in(alloc: Global, text: Text) -> Result<Draft, DraftFault>
-    ensures draft { Gives (λ d. d) result (draft_in text) }
+#[tactic(auto, unfolding(crate::specs::Drafts::said_by_text))]
+fn said_by_text(alloc: Global, text: Text) -> Result<Draft, Failure<JsonRefusal>>
+    ensures draft { Gives (λ d. d) result (said_by_text text) }
     ensures tree { IfOk result (λ d. IsTree d.routes) }
     ensures root { IfOk result (λ d. root_has_receiver d.routes ≡ true) }
     ensures text { IfOk result (λ d. d.text ≡ text) }
 {
-    let value = json_of(alloc, text.as_str().as_bytes())?;
+    let value = read_json(alloc, text.as_str().as_bytes())?;
     draft_of(alloc, text, &value)
 }
 
 #[tactic(auto, unfolding(crate::specs::Drafts::draft_of))]
-fn draft_of(alloc: Global, text: Text, value: &Value) -> Result<Draft, DraftFault>
+fn draft_of(alloc: Global, text: Text, value: &Value) -> Result<Draft, Failure<JsonRefusal>>
     ensures draft { Gives (λ d. d) result (draft_of text (view value.now)) }
     ensures tree { IfOk result (λ d. IsTree d.routes) }
     ensures root { IfOk result (λ d. root_has_receiver d.routes ≡ true) }
@@ -187,7 +185,7 @@ fn draft_of(alloc: Global, text: Text, value: &Value) -> Result<Draft, DraftFaul
     })
 }
 
-fn global_at(alloc: Global, value: &Value) -> Result<GlobalDraft, DraftFault>
+fn global_at(alloc: Global, value: &Value) -> Result<GlobalDraft, Failure<JsonRefusal>>
     ensures { Gives (λ g. g) result (optional no_global global_in (get (codes "global") (view value.now))) }
 {
     match value.get("global") {
@@ -200,29 +198,29 @@ fn global_at(alloc: Global, value: &Value) -> Result<GlobalDraft, DraftFault>
 }
 
 #[tactic(auto, unfolding(crate::specs::Drafts::global_in))]
-fn global_in(alloc: Global, value: &Value) -> Result<GlobalDraft, DraftFault>
+fn global_in(alloc: Global, value: &Value) -> Result<GlobalDraft, Failure<JsonRefusal>>
     ensures { Gives (λ g. g) result (global_in (view value.now)) }
 {
     let left_out = leaves_out(value, Place::Global)?;
-    let resolve_timeout = written_at(alloc, value, "resolve_timeout")?;
+    let resolve_timeout = optional_text_at(alloc, value, "resolve_timeout")?;
     Ok(GlobalDraft {
         resolve_timeout,
         left_out,
     })
 }
 
-fn routes_at(alloc: Global, value: &Value) -> Result<Listed<Node<RouteDraft>>, DraftFault>
+fn routes_at(alloc: Global, value: &Value) -> Result<Listed<Node<RouteDraft>>, Failure<JsonRefusal>>
     ensures routes { Gives (λ l. l) result (required root_in (get (codes "route") (view value.now))) }
     ensures tree { IfOk result IsTree }
     ensures root { IfOk result (λ l. root_has_receiver l ≡ true) }
 {
     match value.get("route") {
-        None => Err(DraftFault::BadForm),
+        None => Err(Failure::Refused(JsonRefusal::BadForm)),
         Some(found) => root_in(alloc, found),
     }
 }
 
-fn root_in(alloc: Global, value: &Value) -> Result<Listed<Node<RouteDraft>>, DraftFault>
+fn root_in(alloc: Global, value: &Value) -> Result<Listed<Node<RouteDraft>>, Failure<JsonRefusal>>
     ensures routes { Gives (λ l. l) result (root_in (view value.now)) }
     ensures tree { IfOk result IsTree }
     ensures root { IfOk result (λ l. root_has_receiver l ≡ true) }
@@ -233,14 +231,14 @@ fn root_in(alloc: Global, value: &Value) -> Result<Listed<Node<RouteDraft>>, Dra
 }
 
 // The routes, of which the first one has a receiver.
-fn rooted(routes: Vec<Node<RouteDraft>>) -> Result<Listed<Node<RouteDraft>>, DraftFault>
+fn rooted(routes: Vec<Node<RouteDraft>>) -> Result<Listed<Node<RouteDraft>>, Failure<JsonRefusal>>
     ensures routes { Gives (λ l. l) result (rooted routes.items) }
     ensures root { IfOk result (λ l. root_has_receiver l ≡ true) }
 {
     match routes.first() {
-        None => Err(DraftFault::BadForm),
+        None => Err(Failure::Refused(JsonRefusal::BadForm)),
         Some(root) => match &root.item.receiver {
-            None => Err(DraftFault::BadForm),
+            None => Err(Failure::Refused(JsonRefusal::BadForm)),
             Some(_) => Ok(Listed::from_vec(routes)),
         },
     }

@@ -5,9 +5,10 @@ ghost use Rattle.std.specs.List.{list_any};
 ghost use Rattle.std.specs.Str.{bytes_eq};
 ghost use Rattle.serde_json.specs.View.{view, members_view};
 ghost use Rattle.am_draft.specs.Keys.{has_text, keys_of, is_left_out, templates_in, template_files_in, key_leaves_out, leaves_out_after, leaves_out};
-ghost use Rattle.am_draft.specs.Outcome.{Gives};
+ghost use Rattle.am_text.specs.Outcome.{Gives};
 
-use crate::fault::DraftFault;
+use am_json::{JsonRefusal, list_in, object_in};
+use am_text::Failure;
 use serde_json::{Map, Value};
 
 /// A kind of object of a configuration.
@@ -58,16 +59,17 @@ const LEFT_OUT_KEYS: [&str; 8] = [
 ];
 
 /// Whether one of the object's keys is left out. Refused where one is unknown, or where this is no object.
-pub(crate) fn leaves_out(value: &Value, place: Place) -> Result<bool, DraftFault>
+pub(crate) fn leaves_out(value: &Value, place: Place) -> Result<bool, Failure<JsonRefusal>>
     ensures { Gives (λ out. out) result (leaves_out place (view value.now)) }
 {
-    match value.as_object() {
-        None => Err(DraftFault::BadForm),
-        Some(members) => leaves_out_among(members, place),
-    }
+    let members = object_in(value)?;
+    leaves_out_among(members, place)
 }
 
-fn leaves_out_among(members: &Map<String, Value>, place: Place) -> Result<bool, DraftFault>
+fn leaves_out_among(
+    members: &Map<String, Value>,
+    place: Place,
+) -> Result<bool, Failure<JsonRefusal>>
     ensures { Gives (λ out. out) result (leaves_out_after place false (members_view members.now.entries)) }
 {
     let mut seen = false;
@@ -79,7 +81,7 @@ fn leaves_out_among(members: &Map<String, Value>, place: Place) -> Result<bool, 
 }
 
 #[tactic(auto, unfolding(crate::specs::Keys::key_leaves_out))]
-fn key_leaves_out(place: Place, key: &str, value: &Value) -> Result<bool, DraftFault>
+fn key_leaves_out(place: Place, key: &str, value: &Value) -> Result<bool, Failure<JsonRefusal>>
     ensures { Gives (λ out. out) result (key_leaves_out place key.now (view value.now)) }
 {
     if key == "templates" {
@@ -94,28 +96,24 @@ fn key_leaves_out(place: Place, key: &str, value: &Value) -> Result<bool, DraftF
     if is_left_out(place, key) {
         return Ok(true);
     }
-    Err(DraftFault::BadForm)
+    Err(Failure::Refused(JsonRefusal::BadForm))
 }
 
 // Whether the list of templates holds one.
 #[tactic(auto, using(crate::proofs::Held::has_items_held))]
-fn templates_in(value: &Value) -> Result<bool, DraftFault>
+fn templates_in(value: &Value) -> Result<bool, Failure<JsonRefusal>>
     ensures { Gives (λ out. out) result (templates_in (view value.now)) }
 {
-    match value.as_array() {
-        None => Err(DraftFault::BadForm),
-        Some(items) => Ok(!items.is_empty()),
-    }
+    let items = list_in(value)?;
+    Ok(!items.is_empty())
 }
 
 // Whether the object of templates' files holds one.
-fn template_files_in(value: &Value) -> Result<bool, DraftFault>
+fn template_files_in(value: &Value) -> Result<bool, Failure<JsonRefusal>>
     ensures { Gives (λ out. out) result (template_files_in (view value.now)) }
 {
-    match value.as_object() {
-        None => Err(DraftFault::BadForm),
-        Some(members) => Ok(!members.is_empty()),
-    }
+    let members = object_in(value)?;
+    Ok(!members.is_empty())
 }
 
 fn is_known(place: Place, key: &str) -> bool

@@ -2,24 +2,20 @@
 #![tactic(auto)]
 
 mod draft;
-mod fault;
-mod fields;
 mod keys;
 pub mod laws;
-mod listed;
+mod names;
 mod receiver;
+mod refusal;
 mod route;
 mod routes;
 mod rule;
-mod tree;
 
 pub use draft::{Draft, GlobalDraft};
-pub use fault::DraftFault;
-pub use listed::Listed;
 pub use receiver::{ReceiverDraft, WebhookDraft};
+pub use refusal::DraftRefusal;
 pub use route::{Grouping, Intervals, RouteDraft};
 pub use rule::RuleDraft;
-pub use tree::Node;
 
 #[cfg(test)]
 mod tests;

@@ -3,15 +3,13 @@
 ghost use Rattle.std.specs.Prelude.{[], codes};
 ghost use Rattle.serde_json.specs.Find.{get};
 ghost use Rattle.serde_json.specs.View.{view, items_view};
-ghost use Rattle.am_draft.specs.Fields.{optional, required};
-ghost use Rattle.am_draft.specs.Outcome.{Gives};
+ghost use Rattle.am_text.specs.Outcome.{Gives};
+ghost use Rattle.am_json.specs.Reading.{optional, required};
 ghost use Rattle.am_draft.specs.Receivers.{webhook_of, webhooks_of, webhooks_in, receiver_of, receivers_of, receivers_in};
 
-use crate::fault::DraftFault;
-use crate::fields::{count_at, flag_at, text_at};
 use crate::keys::{Place, leaves_out};
-use crate::listed::Listed;
-use am_text::Text;
+use am_json::{JsonRefusal, count_at, flag_at, list_in, text_at};
+use am_text::{Failure, Listed, Text};
 use serde_json::Value;
 use std::alloc::Global;
 
@@ -44,29 +42,27 @@ pub(crate) fn receivers_at(
     alloc: Global,
     value: &Value,
     key: &str,
-) -> Result<Listed<ReceiverDraft>, DraftFault>
+) -> Result<Listed<ReceiverDraft>, Failure<JsonRefusal>>
     ensures { Gives (λ l. l) result (required receivers_in (get key.now (view value.now))) }
 {
     match value.get(key) {
-        None => Err(DraftFault::BadForm),
+        None => Err(Failure::Refused(JsonRefusal::BadForm)),
         Some(found) => receivers_in(alloc, found),
     }
 }
 
-fn receivers_in(alloc: Global, value: &Value) -> Result<Listed<ReceiverDraft>, DraftFault>
+fn receivers_in(alloc: Global, value: &Value) -> Result<Listed<ReceiverDraft>, Failure<JsonRefusal>>
     ensures { Gives (λ l. l) result (receivers_in (view value.now)) }
 {
-    match value.as_array() {
-        None => Err(DraftFault::BadForm),
-        Some(values) => Ok(Listed::from_vec(receivers_of(alloc, values)?)),
-    }
+    let values = list_in(value)?;
+    Ok(Listed::from_vec(receivers_of(alloc, values)?))
 }
 
 #[tactic(auto, unfolding(crate::specs::Receivers::receivers_of))]
-fn receivers_of(alloc: Global, values: &[Value]) -> Result<Vec<ReceiverDraft>, DraftFault>
+fn receivers_of(alloc: Global, values: &[Value]) -> Result<Vec<ReceiverDraft>, Failure<JsonRefusal>>
     ensures { Gives (λ v. v.items) result (receivers_of (items_view values.now)) }
 {
-    let mut receivers = Vec::new(alloc);
+    let mut receivers = Vec::with_capacity(alloc, values.len())?;
     for value in values {
         receivers.push(receiver_of(alloc, value)?)?;
     }
@@ -74,7 +70,7 @@ fn receivers_of(alloc: Global, values: &[Value]) -> Result<Vec<ReceiverDraft>, D
 }
 
 #[tactic(auto, unfolding(crate::specs::Receivers::receiver_of))]
-fn receiver_of(alloc: Global, value: &Value) -> Result<ReceiverDraft, DraftFault>
+fn receiver_of(alloc: Global, value: &Value) -> Result<ReceiverDraft, Failure<JsonRefusal>>
     ensures { Gives (λ r. r) result (receiver_of (view value.now)) }
 {
     let left_out = leaves_out(value, Place::Receiver)?;
@@ -87,7 +83,7 @@ fn receiver_of(alloc: Global, value: &Value) -> Result<ReceiverDraft, DraftFault
     })
 }
 
-fn webhooks_at(alloc: Global, value: &Value) -> Result<Listed<WebhookDraft>, DraftFault>
+fn webhooks_at(alloc: Global, value: &Value) -> Result<Listed<WebhookDraft>, Failure<JsonRefusal>>
     ensures { Gives (λ l. l) result (optional [] webhooks_in (get (codes "webhook_configs") (view value.now))) }
 {
     match value.get("webhook_configs") {
@@ -96,20 +92,18 @@ fn webhooks_at(alloc: Global, value: &Value) -> Result<Listed<WebhookDraft>, Dra
     }
 }
 
-fn webhooks_in(alloc: Global, value: &Value) -> Result<Listed<WebhookDraft>, DraftFault>
+fn webhooks_in(alloc: Global, value: &Value) -> Result<Listed<WebhookDraft>, Failure<JsonRefusal>>
     ensures { Gives (λ l. l) result (webhooks_in (view value.now)) }
 {
-    match value.as_array() {
-        None => Err(DraftFault::BadForm),
-        Some(values) => Ok(Listed::from_vec(webhooks_of(alloc, values)?)),
-    }
+    let values = list_in(value)?;
+    Ok(Listed::from_vec(webhooks_of(alloc, values)?))
 }
 
 #[tactic(auto, unfolding(crate::specs::Receivers::webhooks_of))]
-fn webhooks_of(alloc: Global, values: &[Value]) -> Result<Vec<WebhookDraft>, DraftFault>
+fn webhooks_of(alloc: Global, values: &[Value]) -> Result<Vec<WebhookDraft>, Failure<JsonRefusal>>
     ensures { Gives (λ v. v.items) result (webhooks_of (items_view values.now)) }
 {
-    let mut webhooks = Vec::new(alloc);
+    let mut webhooks = Vec::with_capacity(alloc, values.len())?;
     for value in values {
         webhooks.push(webhook_of(alloc, value)?)?;
     }
@@ -117,7 +111,7 @@ fn webhooks_of(alloc: Global, values: &[Value]) -> Result<Vec<WebhookDraft>, Dra
 }
 
 #[tactic(auto, unfolding(crate::specs::Receivers::webhook_of))]
-fn webhook_of(alloc: Global, value: &Value) -> Result<WebhookDraft, DraftFault>
+fn webhook_of(alloc: Global, value: &Value) -> Result<WebhookDraft, Failure<JsonRefusal>>
     ensures { Gives (λ w. w) result (webhook_of (view value.now)) }
 {
     let left_out = leaves_out(value, Place::Webhook)?;

@@ -3,15 +3,14 @@
 ghost use Rattle.std.specs.Prelude.{◌≡◌, None, codes};
 ghost use Rattle.serde_json.specs.Find.{get};
 ghost use Rattle.serde_json.specs.View.{view};
-ghost use Rattle.am_draft.specs.Fields.{optional};
-ghost use Rattle.am_draft.specs.Outcome.{Gives};
+ghost use Rattle.am_text.specs.Outcome.{Gives};
+ghost use Rattle.am_json.specs.Reading.{optional};
 ghost use Rattle.am_draft.specs.Routes.{is_all, grouped, grouping_in, intervals_of, route_of};
 
-use crate::fault::DraftFault;
-use crate::fields::{flag_at, named, texts_at, texts_in, written_at};
 use crate::keys::{Place, leaves_out};
-use crate::listed::Listed;
-use am_text::Text;
+use crate::names::named;
+use am_json::{JsonRefusal, flag_at, optional_text_at, texts_at, texts_in};
+use am_text::{Failure, Listed, Text};
 use serde_json::Value;
 use std::alloc::Global;
 
@@ -56,11 +55,15 @@ pub struct RouteDraft {
 
 /// What a route says, apart from the routes within it.
 #[tactic(auto, unfolding(crate::specs::Routes::route_of))]
-pub(crate) fn route_of(alloc: Global, value: &Value, depth: usize) -> Result<RouteDraft, DraftFault>
+pub(crate) fn route_of(
+    alloc: Global,
+    value: &Value,
+    depth: usize,
+) -> Result<RouteDraft, Failure<JsonRefusal>>
     ensures { Gives (λ r. r) result (route_of depth (view value.now)) }
 {
     let left_out = leaves_out(value, Place::Route)?;
-    let receiver = written_at(alloc, value, "receiver")?;
+    let receiver = optional_text_at(alloc, value, "receiver")?;
     let grouping = grouping_at(alloc, value)?;
     let intervals = intervals_of(alloc, value)?;
     let matchers = texts_at(alloc, value, "matchers")?;
@@ -77,12 +80,12 @@ pub(crate) fn route_of(alloc: Global, value: &Value, depth: usize) -> Result<Rou
 }
 
 #[tactic(auto, unfolding(crate::specs::Routes::intervals_of))]
-fn intervals_of(alloc: Global, value: &Value) -> Result<Intervals, DraftFault>
+fn intervals_of(alloc: Global, value: &Value) -> Result<Intervals, Failure<JsonRefusal>>
     ensures { Gives (λ i. i) result (intervals_of (view value.now)) }
 {
-    let group_wait = written_at(alloc, value, "group_wait")?;
-    let group_interval = written_at(alloc, value, "group_interval")?;
-    let repeat_interval = written_at(alloc, value, "repeat_interval")?;
+    let group_wait = optional_text_at(alloc, value, "group_wait")?;
+    let group_interval = optional_text_at(alloc, value, "group_interval")?;
+    let repeat_interval = optional_text_at(alloc, value, "repeat_interval")?;
     Ok(Intervals {
         group_wait,
         group_interval,
@@ -90,7 +93,7 @@ fn intervals_of(alloc: Global, value: &Value) -> Result<Intervals, DraftFault>
     })
 }
 
-fn grouping_at(alloc: Global, value: &Value) -> Result<Option<Grouping>, DraftFault>
+fn grouping_at(alloc: Global, value: &Value) -> Result<Option<Grouping>, Failure<JsonRefusal>>
     ensures { Gives (λ g. g) result (optional None grouping_in (get (codes "group_by") (view value.now))) }
 {
     match value.get("group_by") {
@@ -99,7 +102,7 @@ fn grouping_at(alloc: Global, value: &Value) -> Result<Option<Grouping>, DraftFa
     }
 }
 
-fn grouped(texts: Vec<Text>) -> Result<Grouping, DraftFault>
+fn grouped(texts: Vec<Text>) -> Result<Grouping, Failure<JsonRefusal>>
     ensures { Gives (λ g. g) result (grouped texts.items) }
 {
     if is_all(&texts) {

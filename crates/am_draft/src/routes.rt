@@ -1,14 +1,13 @@
 //! The tree of routes, read into one flat list.
 
-ghost use Rattle.std.specs.Prelude.{◌≡◌, ◌<◌, length};
+ghost use Rattle.std.specs.Prelude.{◌≡◌};
 ghost use Rattle.serde_json.specs.View.{view, items_view, members_view};
-ghost use Rattle.am_draft.specs.Growing.{counted, grown, grown_by_tree};
-ghost use Rattle.am_draft.specs.Outcome.{Gives};
-ghost use Rattle.am_draft.specs.Routes.{deeper, routes_below, routes_in, routes_of, tree_in};
+ghost use Rattle.am_text.specs.Outcome.{Gives};
+ghost use Rattle.am_draft.specs.Routes.{deeper, grown, grown_by_tree, routes_below, routes_in, routes_of, tree_in};
 
-use crate::fault::DraftFault;
 use crate::route::{RouteDraft, route_of};
-use crate::tree::Node;
+use am_json::JsonRefusal;
+use am_text::{Failure, Node, count_within};
 use serde_json::{Map, Value};
 use std::alloc::Global;
 
@@ -19,7 +18,7 @@ pub(crate) fn push_tree(
     value: &Value,
     depth: usize,
     routes: &mut Vec<Node<RouteDraft>>,
-) -> Result<(), DraftFault>
+) -> Result<(), Failure<JsonRefusal>>
     ensures { Gives (λ _. routes.new.items) result (grown_by_tree routes.old.items (tree_in depth (view value.now))) }
 {
     match value {
@@ -31,11 +30,11 @@ pub(crate) fn push_tree(
             count_within(routes, number);
             Ok(())
         }
-        Value::Null => Err(DraftFault::BadForm),
-        Value::Bool(_) => Err(DraftFault::BadForm),
-        Value::Number(_) => Err(DraftFault::BadForm),
-        Value::String(_) => Err(DraftFault::BadForm),
-        Value::Array(_) => Err(DraftFault::BadForm),
+        Value::Null => Err(Failure::Refused(JsonRefusal::BadForm)),
+        Value::Bool(_) => Err(Failure::Refused(JsonRefusal::BadForm)),
+        Value::Number(_) => Err(Failure::Refused(JsonRefusal::BadForm)),
+        Value::String(_) => Err(Failure::Refused(JsonRefusal::BadForm)),
+        Value::Array(_) => Err(Failure::Refused(JsonRefusal::BadForm)),
     }
 }
 
@@ -46,7 +45,7 @@ fn push_below(
     members: &Map<String, Value>,
     depth: usize,
     routes: &mut Vec<Node<RouteDraft>>,
-) -> Result<(), DraftFault>
+) -> Result<(), Failure<JsonRefusal>>
     ensures { Gives (λ _. routes.new.items) result
         (grown routes.old.items (routes_below depth (members_view members.now.entries))) }
 {
@@ -65,16 +64,16 @@ fn push_listed(
     value: &Value,
     depth: usize,
     routes: &mut Vec<Node<RouteDraft>>,
-) -> Result<(), DraftFault>
+) -> Result<(), Failure<JsonRefusal>>
     ensures { Gives (λ _. routes.new.items) result (grown routes.old.items (routes_in depth (view value.now))) }
 {
     match value {
         Value::Array(items) => push_each(alloc, items, depth, routes),
-        Value::Null => Err(DraftFault::BadForm),
-        Value::Bool(_) => Err(DraftFault::BadForm),
-        Value::Number(_) => Err(DraftFault::BadForm),
-        Value::String(_) => Err(DraftFault::BadForm),
-        Value::Object(_) => Err(DraftFault::BadForm),
+        Value::Null => Err(Failure::Refused(JsonRefusal::BadForm)),
+        Value::Bool(_) => Err(Failure::Refused(JsonRefusal::BadForm)),
+        Value::Number(_) => Err(Failure::Refused(JsonRefusal::BadForm)),
+        Value::String(_) => Err(Failure::Refused(JsonRefusal::BadForm)),
+        Value::Object(_) => Err(Failure::Refused(JsonRefusal::BadForm)),
     }
 }
 
@@ -84,7 +83,7 @@ fn push_each(
     items: &Vec<Value>,
     depth: usize,
     routes: &mut Vec<Node<RouteDraft>>,
-) -> Result<(), DraftFault>
+) -> Result<(), Failure<JsonRefusal>>
     ensures { Gives (λ _. routes.new.items) result
         (grown routes.old.items (routes_of depth (items_view items.now.items))) }
 {
@@ -99,13 +98,4 @@ fn deeper(depth: usize) -> usize
     ensures { result ≡ deeper depth }
 {
     depth.saturating_add(1)
-}
-
-// Counts all routes after the one of this number as within it.
-fn count_within(routes: &mut Vec<Node<RouteDraft>>, number: usize)
-    requires { number < length routes.old.items }
-    ensures { routes.new.items ≡ counted number routes.old.items }
-{
-    let within = routes.len() - number - 1;
-    routes[number].within = within;
 }

@@ -3,15 +3,14 @@
 ghost use Rattle.std.specs.Prelude.{[]};
 ghost use Rattle.serde_json.specs.Find.{get};
 ghost use Rattle.serde_json.specs.View.{view, items_view};
-ghost use Rattle.am_draft.specs.Fields.{optional};
-ghost use Rattle.am_draft.specs.Outcome.{Gives};
+ghost use Rattle.am_text.specs.Outcome.{Gives};
+ghost use Rattle.am_json.specs.Reading.{optional};
 ghost use Rattle.am_draft.specs.Rules.{rule_of, rules_of, rules_in};
 
-use crate::fault::DraftFault;
-use crate::fields::{names_at, texts_at};
 use crate::keys::{Place, leaves_out};
-use crate::listed::Listed;
-use am_text::Text;
+use crate::names::names_at;
+use am_json::{JsonRefusal, list_in, texts_at};
+use am_text::{Failure, Listed, Text};
 use serde_json::Value;
 use std::alloc::Global;
 
@@ -33,7 +32,7 @@ pub(crate) fn rules_at(
     alloc: Global,
     value: &Value,
     key: &str,
-) -> Result<Listed<RuleDraft>, DraftFault>
+) -> Result<Listed<RuleDraft>, Failure<JsonRefusal>>
     ensures { Gives (λ l. l) result (optional [] rules_in (get key.now (view value.now))) }
 {
     match value.get(key) {
@@ -42,20 +41,18 @@ pub(crate) fn rules_at(
     }
 }
 
-fn rules_in(alloc: Global, value: &Value) -> Result<Listed<RuleDraft>, DraftFault>
+fn rules_in(alloc: Global, value: &Value) -> Result<Listed<RuleDraft>, Failure<JsonRefusal>>
     ensures { Gives (λ l. l) result (rules_in (view value.now)) }
 {
-    match value.as_array() {
-        None => Err(DraftFault::BadForm),
-        Some(values) => Ok(Listed::from_vec(rules_of(alloc, values)?)),
-    }
+    let values = list_in(value)?;
+    Ok(Listed::from_vec(rules_of(alloc, values)?))
 }
 
 #[tactic(auto, unfolding(crate::specs::Rules::rules_of))]
-fn rules_of(alloc: Global, values: &[Value]) -> Result<Vec<RuleDraft>, DraftFault>
+fn rules_of(alloc: Global, values: &[Value]) -> Result<Vec<RuleDraft>, Failure<JsonRefusal>>
     ensures { Gives (λ v. v.items) result (rules_of (items_view values.now)) }
 {
-    let mut rules = Vec::new(alloc);
+    let mut rules = Vec::with_capacity(alloc, values.len())?;
     for value in values {
         rules.push(rule_of(alloc, value)?)?;
     }
@@ -63,7 +60,7 @@ fn rules_of(alloc: Global, values: &[Value]) -> Result<Vec<RuleDraft>, DraftFaul
 }
 
 #[tactic(auto, unfolding(crate::specs::Rules::rule_of))]
-fn rule_of(alloc: Global, value: &Value) -> Result<RuleDraft, DraftFault>
+fn rule_of(alloc: Global, value: &Value) -> Result<RuleDraft, Failure<JsonRefusal>>
     ensures { Gives (λ r. r) result (rule_of (view value.now)) }
 {
     let left_out = leaves_out(value, Place::Rule)?;

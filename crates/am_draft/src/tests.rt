@@ -1,8 +1,8 @@
 //! Documents and texts, and what is read of each.
 
 use super::*;
-use DraftFault::{BadForm, NotJson, OutOfMemory};
-use am_text::Text;
+use DraftRefusal::NotJson;
+use am_text::{Failure, Node, Text};
 use std::alloc::{AllocError, Global};
 use std::test::Fail;
 
@@ -167,7 +167,7 @@ fn framed(alloc: Global, frame: Frame, part: &str) -> Result<String, AllocError>
     Ok(text)
 }
 
-fn said(read: &Result<Draft, DraftFault>) -> &'static str {
+fn said(read: &Result<Draft, Failure<DraftRefusal>>) -> &'static str {
     match read {
         Ok(draft) => {
             if draft.has_left_out() {
@@ -176,9 +176,8 @@ fn said(read: &Result<Draft, DraftFault>) -> &'static str {
                 "read"
             }
         }
-        Err(NotJson) => "C1",
-        Err(BadForm) => "C2",
-        Err(OutOfMemory) => "memory",
+        Err(Failure::Refused(refusal)) => refusal.code(),
+        Err(Failure::OutOfMemory) => "out of memory",
     }
 }
 
@@ -390,7 +389,7 @@ fn deepest_text(rt: HostRuntime) -> Result<(), Fail> {
     assert_eq!(rt; last.item.depth, 63);
     let deeper = nested(alloc, 64, 0)?;
     let read = Draft::read_text(alloc, deeper.as_bytes()).err();
-    assert_eq!(rt; read, Some(NotJson));
+    assert_eq!(rt; read, Some(Failure::Refused(NotJson)));
     Ok(())
 }
 

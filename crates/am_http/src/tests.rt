@@ -126,6 +126,16 @@ H5 GET * HTTP/1.1¶X-Scope-OrgID: a¶¶
 H6 DELETE @ HTTP/1.1¶X-Scope-OrgID: a¶¶
 H6 PUT @ HTTP/1.1¶X-Scope-OrgID: a¶¶
 H6 get @ HTTP/1.1¶X-Scope-OrgID: a¶¶
+request GET /alertmanager/api/v2/receivers HTTP/1.1¶X-Scope-OrgID: a¶¶
+H6 POST /alertmanager/api/v2/receivers HTTP/1.1¶X-Scope-OrgID: a¶Content-Length: 0¶¶
+H6 DELETE /alertmanager/api/v2/receivers HTTP/1.1¶X-Scope-OrgID: a¶¶
+H5 GET /alertmanager/api/v2/receivers/x HTTP/1.1¶X-Scope-OrgID: a¶¶
+request GET /api/v1/alerts HTTP/1.1¶X-Scope-OrgID: a¶¶
+request DELETE /api/v1/alerts HTTP/1.1¶X-Scope-OrgID: a¶¶
+request POST /api/v1/alerts HTTP/1.1¶X-Scope-OrgID: a¶Content-Length: 2¶¶{}
+H2 POST /api/v1/alerts HTTP/1.1¶X-Scope-OrgID: a¶¶
+H6 PUT /api/v1/alerts HTTP/1.1¶X-Scope-OrgID: a¶¶
+H5 GET /alertmanager/api/v2/silences HTTP/1.1¶X-Scope-OrgID: a¶¶
 # Whether the program is ready: GET needs no tenant, and waits for its body.
 ready GET /ready HTTP/1.1¶¶
 ready GET /ready?x HTTP/1.1¶X-Scope-OrgID: a|b¶¶
@@ -154,19 +164,6 @@ fn bytes_of(alloc: Global, row: &str) -> Result<String, AllocError> {
     text.replace(alloc, "←", "\r")
 }
 
-#[test]
-fn heads(rt: HostRuntime) -> Result<(), Fail> {
-    for line in HEADS.lines() {
-        if let Some((expected, row)) = line.split_once(' ') {
-            if expected != "#" {
-                let text = bytes_of(rt.alloc(), row)?;
-                check(&rt, rt.alloc(), row, text.as_bytes(), expected)?;
-            }
-        }
-    }
-    Ok(())
-}
-
 // What two pieces come to that a text is cut into.
 fn fed_in_two(alloc: Global, text: &[u8], at: usize) -> Result<Fed, AllocError> {
     let connection = ConnectionId::new(7);
@@ -180,22 +177,31 @@ fn fed_in_two(alloc: Global, text: &[u8], at: usize) -> Result<Fed, AllocError> 
     Ok(said)
 }
 
-// Wherever a request is cut, it comes to the same.
+// A request in two pieces, cut at each byte.
+fn check_cuts(
+    rt: &impl Abort,
+    alloc: Global,
+    what: &str,
+    text: &[u8],
+    expected: &str,
+) -> Result<(), Fail> {
+    for at in 0..text.len() {
+        let said = fed_in_two(alloc, text, at)?;
+        assert_eq!(rt; name_of(&said), expected, "{what} at {at}");
+    }
+    Ok(())
+}
+
+// Each row whole, byte by byte, and in two pieces cut at each byte.
 #[test]
-fn cuts(rt: HostRuntime) -> Result<(), Fail> {
-    for (expected, row) in [
-        (
-            "request",
-            "↓POST @ HTTP/1.1¶X-Scope-OrgID: a¶Content-Length: 2¶¶[]more",
-        ),
-        ("ready", "GET /ready HTTP/1.1↓Content-Length: 3↓↓abc"),
-        ("H1", "GET @ HTTP/1.1¶X: b¶ c¶¶more"),
-        ("H6", "PUT @ HTTP/1.1¶X-Scope-OrgID: a¶¶more"),
-    ] {
-        let text = bytes_of(rt.alloc(), row)?;
-        for at in 0..text.len() {
-            let said = fed_in_two(rt.alloc(), text.as_bytes(), at)?;
-            assert_eq!(rt; name_of(&said), expected, "{row} at {at}");
+fn heads(rt: HostRuntime) -> Result<(), Fail> {
+    for line in HEADS.lines() {
+        if let Some((expected, row)) = line.split_once(' ') {
+            if expected != "#" {
+                let text = bytes_of(rt.alloc(), row)?;
+                check(&rt, rt.alloc(), row, text.as_bytes(), expected)?;
+                check_cuts(&rt, rt.alloc(), row, text.as_bytes(), expected)?;
+            }
         }
     }
     Ok(())

@@ -12,3 +12,4 @@ pub mod Whole
 pub mod Lists
 pub mod Tallies
 pub mod Reading
+pub mod NewestLemmas

@@ -11,7 +11,7 @@ use Rattle.am_item.specs.Counts.{count_of}
 use Rattle.am_item.proofs.Greatest.{by_cases}
 
 -- tests that agree at each key find the same
-lookup_agree : {K X : Type 0} (p q : K → Bool) → ((k : K) → p k ≡ q k) → (es : List (K × X)) → lookup p es ≡ lookup q es
+pub lookup_agree : {K X : Type 0} (p q : K → Bool) → ((k : K) → p k ≡ q k) → (es : List (K × X)) → lookup p es ≡ lookup q es
 lookup_agree p q h [] = refl
 lookup_agree p q h (e ∷ es) = ap (λ b. cond b (Some e.1) (lookup p es)) (h e.0) ∙ ap (cond (q e.0) (Some e.1)) (lookup_agree p q h es)
 

@@ -15,6 +15,7 @@ use am_labels::LabelSet;
 use am_text::Text;
 use std::alloc::{AllocError, Global};
 use std::collections::BTreeMap;
+use std::collections::btree_map::Entry;
 use std::marker::Model;
 
 /// What is held of one tenant: of each key the item with the greatest stamp, kind by kind, each kind in the
@@ -146,11 +147,15 @@ fn put_newest<K: Ord + Drop, V: Drop>(
     ensures err { OnErr result (IsUnchanged held.old held.new) }
     ensures ordered { IsOrdered K.cmp held.new }
 {
-    if let Some(other) = held.get(&key) {
-        if !value.stamp.exceeds(&other.stamp) {
-            return Ok(());
+    match held.entry(key)? {
+        Entry::Vacant(place) => {
+            place.insert(value);
+        }
+        Entry::Occupied(mut place) => {
+            if value.stamp.exceeds(&place.get().stamp) {
+                place.insert(value);
+            }
         }
     }
-    held.insert(key, value)?;
     Ok(())
 }

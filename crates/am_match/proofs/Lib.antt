@@ -1,5 +1,6 @@
 pub mod ReadingLemmas
 pub mod CheckingLemmas
+pub mod NarrowLemmas
 pub mod NameLemmas
 pub mod PrintingLemmas
 pub mod SpellingLemmas

@@ -13,13 +13,16 @@ use Rattle.std.proofs.Math.Seq.{take-append_seam}
 use Rattle.byteorder.specs.Endian.{big_from}
 use Rattle.byteorder.specs.Numbers.{big_from-take, big_from-lt, big_number-reads_back, length-bytes_high_first}
 use Rattle.am_labels.specs.Labels.{is_label_name}
+use Rattle.am_text.specs.Outcome.{◌>>=◌, Fails}
+use Rattle.am_text.specs.declared.failure.Failure.{Failure}
+use Rattle.am_text.specs.declared.failure.Failure.TheVariants.{Refused, OutOfMemory}
 use Rattle.am_match.specs.declared.matcher.Operator.{Operator}
 use Rattle.am_match.specs.declared.matcher.Operator.TheVariants.{Equal, NotEqual, Match, NotMatch}
-use Rattle.am_match.specs.declared.taking.TakeFault.{TakeFault}
-use Rattle.am_match.specs.declared.taking.TakeFault.TheVariants.{Short, Bad}
+use Rattle.am_match.specs.declared.refusal.TakeRefusal.{TakeRefusal}
+use Rattle.am_match.specs.declared.refusal.TakeRefusal.TheVariants.{Short, Bad}
 use Rattle.am_match.specs.Matchers.{MatcherText, IsMatcher}
 use Rattle.am_match.specs.Spelling.{operator_number, text_bytes, matcher_bytes, spelling, IsShort, Spells}
-use Rattle.am_match.specs.Taking.{Taken, ◌>>=◌, take_bytes, take_number, take_operator, take_text, take_name, take_matcher, take_several, taken}
+use Rattle.am_match.specs.Taking.{Taken, take_bytes, take_number, take_operator, take_text, take_name, take_matcher, take_several, taken}
 use Rattle.am_match.proofs.NameLemmas.{all_in_name, IsAscii-all_in_name}
 
 -- ---- what was written is taken again
@@ -160,8 +163,8 @@ abbrev took : {A : Type 0} → A × List ℕ → Taken A
 took p = Ok p
 
 -- a field that was not
-abbrev failed : {A : Type 0} → TakeFault → Taken A
-failed fault = Err fault
+abbrev failed : {A : Type 0} → TakeRefusal → Taken A
+failed refusal = Err refusal
 
 -- what was taken is one thing
 took_first : {A : Type 0} (x y : A) (xs ys : List ℕ) → took (x, xs) ≡ took (y, ys) → x ≡ y
@@ -228,7 +231,7 @@ bytes_stood n bytes text rest are e =
 then_ok : {A B : Type 0} (r : Taken A) (f : A × List ℕ → Taken B) (y : B × List ℕ) → (r >>= f) ≡ Ok y →
     (x : A × List ℕ) × (r ≡ Ok x) × (f x ≡ Ok y)
 then_ok (Ok x) f y e = (x, refl, e)
-then_ok (Err fault) f y e = absurd (let never : failed fault ≡ took y = e in cc)
+then_ok (Err refusal) f y e = absurd (let never : failed refusal ≡ took y = e in cc)
 
 -- where a test lets through, it holds
 kept_if : {A : Type 0} (test : Bool) (p q : A × List ℕ) → cond test (took p) (failed Bad) ≡ Ok q → (test ≡ true) × (p ≡ q)
@@ -422,9 +425,16 @@ same_of_taken bytes behind found ms written rest e spells whole =
     (same, omega (arith, length-append written rest, ap length whole, ap length last))
 
 -- and it was taken
-pub never_taken : (bytes : List ℕ) (fault : TakeFault) (ms : List MatcherText) (written rest : List ℕ) → taken bytes ≡ Err fault →
+never_taken : (bytes : List ℕ) (refusal : TakeRefusal) (ms : List MatcherText) (written rest : List ℕ) → taken bytes ≡ Err refusal →
     Spells written ms → bytes ≡ written ++ rest → ⊥
-never_taken bytes fault ms written rest e spells whole =
+never_taken bytes refusal ms written rest e spells whole =
     let back : taken bytes ≡ Ok (ms, rest) = ap taken whole ∙ taken_back ms written rest spells in
-    let both : failed fault ≡ took (ms, rest) = sym e ∙ back in
+    let both : failed refusal ≡ took (ms, rest) = sym e ∙ back in
     cc
+
+-- so nothing but memory fails there
+pub never_fails : (bytes : List ℕ) (failure : Failure TakeRefusal) (ms : List MatcherText) (written rest : List ℕ) →
+    Fails failure (taken bytes) → Spells written ms → bytes ≡ written ++ rest → failure ≡ OutOfMemory
+never_fails bytes OutOfMemory ms written rest fails spells whole = refl
+never_fails bytes (Refused refusal) ms written rest fails spells whole =
+    absurd (never_taken bytes refusal ms written rest fails spells whole)

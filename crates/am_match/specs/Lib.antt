@@ -8,10 +8,12 @@ pub mod Reading
 pub mod Forms
 -- what was read, as UTF-8
 pub mod InBytes
--- which fault a text of matchers gets
+-- why a text of matchers is refused
 pub mod Checking
--- the faults by their codes
-pub mod Faults
+-- why matchers that are asked give no answer
+pub mod Asking
+-- the refusals by their codes
+pub mod Refusals
 -- how matchers are printed
 pub mod Printing
 -- the bytes of matchers, as they are written

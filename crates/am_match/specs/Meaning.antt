@@ -1,9 +1,10 @@
 -- What matchers take.
-use Rattle.std.specs.Prelude.{◌≡◌, ℕ, List, Bool, not, Result, Ok, Err, IsTrue}
+use Rattle.std.specs.Prelude.{ℕ, List, Bool, not, ◌&&◌, Result, Ok, Err, if◌then◌else◌}
+use Rattle.std.specs.List.{list_all}
 use Rattle.std.specs.Str.{bytes_eq}
-use Rattle.am_pattern.specs.Taking.{IsPattern, takes}
-use Rattle.am_pattern.specs.declared.error.Build.{Build}
-use Rattle.am_pattern.specs.declared.error.Build.TheVariants.{Syntax, TooBig, OutOfMemory}
+use Rattle.am_pattern.specs.Taking.{is_pattern, takes}
+use Rattle.am_pattern.specs.declared.refusal.PatternRefusal.{PatternRefusal}
+use Rattle.am_pattern.specs.declared.refusal.PatternRefusal.TheVariants.{BadPattern}
 use Rattle.am_labels.specs.declared.Label.{Label}
 use Rattle.am_labels.specs.Sets.{value_of}
 use Rattle.am_match.specs.declared.matcher.Operator.{Operator}
@@ -21,9 +22,11 @@ passes NotMatch wanted value = not (takes wanted value)
 abbrev pub takes_labels : MatcherText → List Label → Bool
 takes_labels m labels = passes m.operator m.value (value_of m.name labels)
 
--- the answer is the meaning, memory aside: refused for no pattern alone, else whether the labels are taken
-abbrev pub IsTakingOf : MatcherText → List Label → Result Bool Build → Type 0
-IsTakingOf m labels (Ok taken) = taken ≡ takes_labels m labels
-IsTakingOf m labels (Err Syntax) = IsTrue (is_on_pattern m.operator) × ¬ IsPattern m.value
-IsTakingOf m labels (Err TooBig) = ⊥
-IsTakingOf m labels (Err OutOfMemory) = Unit {0}
+-- whether all of the matchers take the labels
+abbrev pub all_take : List MatcherText → List Label → Bool
+all_take ms labels = list_all (λ m. takes_labels m labels) ms
+
+-- what a question comes to, whatever is built: whether the labels are taken, or the refusal of what is no pattern
+abbrev pub taking_of : MatcherText → List Label → Result Bool PatternRefusal
+taking_of m labels =
+    if is_on_pattern m.operator && not (is_pattern m.value) then Err BadPattern else Ok (takes_labels m labels)

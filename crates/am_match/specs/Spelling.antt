@@ -5,8 +5,6 @@ use Rattle.std.specs.List.{flat_map}
 use Rattle.byteorder.specs.Endian.{big_bytes}
 use Rattle.am_match.specs.declared.matcher.Operator.{Operator}
 use Rattle.am_match.specs.declared.matcher.Operator.TheVariants.{Equal, NotEqual, Match, NotMatch}
-use Rattle.am_match.specs.declared.spelling.SpellFault.{SpellFault}
-use Rattle.am_match.specs.declared.spelling.SpellFault.TheVariants.{TooLong, OutOfMemory}
 use Rattle.am_match.specs.Matchers.{MatcherText, IsMatcher}
 
 -- the number of an operator
@@ -43,8 +41,3 @@ pub record Spells (bytes : List ℕ) (ms : List MatcherText) : Type 0 where
   pub bytes_are : bytes ≡ spelling ms
   pub spellable : IsSpellable ms
   pub valid : All IsMatcher ms
-
--- where writing fails: for what is too long, or for memory
-abbrev pub IsFaultBy : Type 0 → SpellFault → Type 0
-IsFaultBy Reason TooLong = Reason
-IsFaultBy Reason OutOfMemory = Unit {0}

@@ -2,22 +2,17 @@
 use Rattle.std.specs.Prelude.{ℕ, zero, suc, List, [], ◌∷◌, ◌==◌, nat_le, length, take, drop, Result, Ok, Err, if◌then◌else◌}
 use Rattle.std.specs.Str.{is_utf8}
 use Rattle.byteorder.specs.Endian.{big_number}
+use Rattle.am_text.specs.Outcome.{◌>>=◌}
 use Rattle.am_labels.specs.Labels.{is_label_name}
 use Rattle.am_match.specs.declared.matcher.Operator.{Operator}
 use Rattle.am_match.specs.declared.matcher.Operator.TheVariants.{Equal, NotEqual, Match, NotMatch}
-use Rattle.am_match.specs.declared.taking.TakeFault.{TakeFault}
-use Rattle.am_match.specs.declared.taking.TakeFault.TheVariants.{Short, Bad}
+use Rattle.am_match.specs.declared.refusal.TakeRefusal.{TakeRefusal}
+use Rattle.am_match.specs.declared.refusal.TakeRefusal.TheVariants.{Short, Bad}
 use Rattle.am_match.specs.Matchers.{MatcherText}
 
--- what was taken and the bytes behind it, or the fault
+-- what was taken and the bytes behind it, or the refusal
 abbrev pub Taken : Type 0 → Type 0
-Taken A = Result (A × List ℕ) TakeFault
-
--- one field after another, up to the first fault
-infixl 10 ◌>>=◌
-abbrev pub ◌>>=◌ : {A B : Type 0} → Taken A → (A × List ℕ → Taken B) → Taken B
-Ok taken >>= f = f taken
-Err fault >>= f = Err fault
+Taken A = Result (A × List ℕ) TakeRefusal
 
 -- so many bytes
 abbrev pub take_bytes : ℕ → List ℕ → Taken (List ℕ)

@@ -1,114 +1,75 @@
-ghost use Rattle.std.specs.Prelude.{◌≡◌, ◌⊎◌, ◌&&◌, not, All, IfOk, IfErr, OnOk, MatchResult, Ok, Err, chars, ◌∷◌, []};
+//! Patterns that are checked, and texts of matchers that are read with their patterns.
+
+ghost use Rattle.std.specs.Prelude.{◌≡◌, ◌∷◌, [], ◌&&◌, true, false, not, All, IfOk, IfErr, OnOk, MatchOption, Some, chars};
 ghost use Rattle.std.specs.List.{list_any};
-ghost use Rattle.am_pattern.specs.Taking.{IsPattern};
-ghost use Rattle.am_match.specs.Matchers.{patterns_of, is_on_pattern};
+ghost use Rattle.am_text.specs.Outcome.{Gives};
+ghost use Rattle.am_pattern.specs.Asking.{Asked};
+ghost use Rattle.am_pattern.specs.Taking.{IsPattern, is_pattern, is_shallow};
+ghost use Rattle.am_match.specs.Checking.{AreRefusedRightly, GivesUnlessBuild, IsFine, IsPatternFailure, IsTextFailure, is_short, meaning_of, pattern_refusal, patterns_in, reading_of, unless_refused};
+ghost use Rattle.am_match.specs.Matchers.{is_on_pattern, patterns_of};
 ghost use Rattle.am_match.specs.Reading.{matchers_of};
-ghost use Rattle.am_match.specs.Checking.{IsFine, is_short, IsStopOf, IsPatternFault, IsFaultOf, AreRefusedRightly, patterns_in, meaning_of};
+ghost use Rattle.am_match.specs.Refusals.{refusal_of};
 
 use crate::matcher::Matcher;
 use crate::reading::parse;
-use am_pattern::{Build, MAX_PATTERN, PatternCache};
-use std::alloc::{AllocError, Global};
-use thiserror::Error;
+use crate::refusal::MatcherRefusal;
+use am_pattern::{MAX_PATTERN, PatternCache, PatternRefusal, is_shallow_pattern};
+use am_text::Failure;
+use std::alloc::Global;
 
-/// Why a text gives no matchers, or the patterns of matchers can't be used.
-#[derive(Clone, Copy, PartialEq, Eq, Debug, Error)]
-pub enum MatchFault {
-    /// The text isn't one or more matchers.
-    #[error("M1")]
-    NoMatchers,
-    /// A pattern of at most 256 bytes isn't read, or nests too deep.
-    #[error("M2")]
-    BadPattern,
-    /// A pattern has more than 256 bytes.
-    #[error("M3")]
-    LongPattern,
-    /// The build of a pattern was refused, as for its size.
-    #[error("B2")]
-    BuildRefused,
-    /// An allocation failed.
-    #[error("out of memory")]
-    OutOfMemory,
-}
-
-impl From<AllocError> for MatchFault {
-    ghost use Rattle.std.specs.Prelude.{◌≡◌};
-    ghost use Rattle.am_match.specs.declared.checking.MatchFault.TheVariants.{OutOfMemory};
-
-    ghost from_gives = { λ _ fault. fault ≡ OutOfMemory };
-
-    fn from(_: AllocError) -> MatchFault {
-        MatchFault::OutOfMemory
-    }
-}
-
-impl From<Build> for MatchFault {
-    ghost use Rattle.std.specs.Prelude.{◌≡◌};
-    ghost use Rattle.am_match.specs.Faults.{fault_of_build};
-
-    ghost from_gives = { λ error fault. fault ≡ fault_of_build error };
-
-    fn from(error: Build) -> MatchFault {
-        match error {
-            Build::Syntax => MatchFault::BadPattern,
-            Build::TooBig => MatchFault::BuildRefused,
-            Build::OutOfMemory => MatchFault::OutOfMemory,
-        }
-    }
-}
-
-impl MatchFault {
-    ghost use Rattle.am_match.specs.Faults.{code_of};
-    ghost use Rattle.std.specs.Prelude.{option_map};
-
-    /// The code of the refusal, `M1` to `M3` or `B2`; none where memory ran out.
-    pub fn code(self) -> Option<&'static str>
-        ensures { option_map (λ code. code.now) result ≡ code_of self }
-    {
-        match self {
-            MatchFault::NoMatchers => Some("M1"),
-            MatchFault::BadPattern => Some("M2"),
-            MatchFault::LongPattern => Some("M3"),
-            MatchFault::BuildRefused => Some("B2"),
-            MatchFault::OutOfMemory => None,
-        }
-    }
-}
-
-// Builds the pattern of a matcher, where it has one that isn't too long.
-fn build_one(alloc: Global, matcher: &Matcher, cache: &mut PatternCache) -> Result<(), Build>
-    ensures fine { OnOk result (All IsFine (patterns_of (matcher.now ∷ []))) }
-    ensures refused { OnOk result (cache.new.refused ≡ cache.old.refused) }
-    ensures stop { IfErr result (IsStopOf (patterns_of (matcher.now ∷ [])) cache.old.refused cache.new.refused) }
-    ensures capacity { cache.new.capacity ≡ cache.old.capacity }
+fn refusal_from(refusal: PatternRefusal) -> MatcherRefusal
+    ensures { result ≡ refusal_of refusal }
 {
-    if !matcher.operator().is_on_pattern() {
-        return Ok(());
+    match refusal {
+        PatternRefusal::BadPattern => MatcherRefusal::BadPattern,
+        PatternRefusal::BuildRefused => MatcherRefusal::BuildRefused,
     }
-    let pattern = matcher.value();
+}
+
+/// Checks that a text that stands alone is a pattern and is built.
+///
+/// # Errors
+/// `LongPattern` where it has more than 256 bytes; such a text is never built. Else `BadPattern` where it is no pattern
+/// or nests too deep, and `BuildRefused` where its build is refused.
+pub fn check_pattern(
+    alloc: Global,
+    pattern: &str,
+    cache: &mut PatternCache,
+) -> Result<(), Failure<MatcherRefusal>>
+    ensures pattern { OnOk result (IsPattern pattern.now) }
+    ensures shallow { OnOk result (is_shallow pattern.now ≡ true) }
+    ensures read { GivesUnlessBuild (λ done. done) result (unless_refused (pattern_refusal is_shallow (pattern.now ∷ [])) tt) }
+    ensures asked { Asked result cache.old cache.new }
+    ensures failure { IfErr result (IsPatternFailure (pattern.now ∷ []) cache.old cache.new) }
+
+    // Where no build of this pattern was refused, the answer is the meaning.
+    ensures meaning { AreRefusedRightly cache.new.refused (pattern.now ∷ [])
+        → Gives (λ done. done) result (unless_refused (pattern_refusal is_pattern (pattern.now ∷ [])) tt) }
+{
     if pattern.len() > MAX_PATTERN {
-        return Ok(());
+        return Err(Failure::Refused(MatcherRefusal::LongPattern));
     }
     match cache.answer(alloc, pattern, "") {
         Ok(_) => Ok(()),
-        Err(error) => Err(error),
+        Err(Failure::Refused(refusal)) => Err(Failure::Refused(refusal_from(refusal))),
+        Err(Failure::OutOfMemory) => Err(Failure::OutOfMemory),
     }
 }
 
-// Builds the patterns of the matchers in their order, but not those that are too long.
-fn build_all(alloc: Global, matchers: &[Matcher], cache: &mut PatternCache) -> Result<(), Build>
-    ensures fine { OnOk result (All IsFine (patterns_of matchers.now)) }
-    ensures refused { OnOk result (cache.new.refused ≡ cache.old.refused) }
-    ensures stop { IfErr result (IsStopOf (patterns_of matchers.now) cache.old.refused cache.new.refused) }
-    ensures capacity { cache.new.capacity ≡ cache.old.capacity }
+// The pattern of a matcher, where it has one that isn't too long to be built.
+fn short_pattern(matcher: &Matcher) -> Option<&str>
+    ensures { MatchOption result (list_any is_short (patterns_of (matcher.now ∷ [])) ≡ false)
+        (λ p. (patterns_of (matcher.now ∷ []) ≡ p.now ∷ []) × (is_short p.now ≡ true)) }
 {
-    for matcher in matchers {
-        build_one(alloc, matcher, cache)?;
+    let pattern = matcher.value();
+    if matcher.operator().is_on_pattern() && pattern.len() <= MAX_PATTERN {
+        Some(pattern)
+    } else {
+        None
     }
-    Ok(())
 }
 
-// Whether a pattern of the matchers is too long.
+// Whether a pattern of the matchers is too long to be built.
 fn has_long_pattern(matchers: &[Matcher]) -> bool
     ensures { result ≡ list_any (λ m. is_on_pattern m.operator && not (is_short m.value)) matchers.now }
 {
@@ -116,24 +77,48 @@ fn has_long_pattern(matchers: &[Matcher]) -> bool
         && matcher.value().len() > MAX_PATTERN)
 }
 
-/// Checks that the patterns of the matchers are patterns that are built.
+// Checks the patterns of the matchers in their order, but not those that are too long.
+fn check_short_patterns(
+    alloc: Global,
+    matchers: &[Matcher],
+    cache: &mut PatternCache,
+) -> Result<(), Failure<MatcherRefusal>>
+    ensures fine { OnOk result (All IsFine (patterns_of matchers.now)) }
+    ensures asked { Asked result cache.old cache.new }
+    ensures failure { IfErr result (IsPatternFailure (patterns_of matchers.now) cache.old cache.new) }
+{
+    for matcher in matchers {
+        if let Some(pattern) = short_pattern(matcher) {
+            check_pattern(alloc, pattern, cache)?;
+        }
+    }
+    Ok(())
+}
+
+/// Checks that the patterns of the matchers are patterns and are built.
 ///
 /// # Errors
-/// The first pattern of at most 256 bytes whose build is refused decides, by `BadPattern` or `BuildRefused`. Where
-/// there is none, a longer pattern is `LongPattern`.
+/// The first pattern of at most 256 bytes that is refused decides, by `BadPattern` or `BuildRefused`. Where there is
+/// none, a longer pattern is `LongPattern`.
 pub fn check_patterns(
     alloc: Global,
     matchers: &[Matcher],
     cache: &mut PatternCache,
-) -> Result<(), MatchFault>
+) -> Result<(), Failure<MatcherRefusal>>
     ensures patterns { OnOk result (All IsPattern (patterns_of matchers.now)) }
-    ensures refused { OnOk result (cache.new.refused ≡ cache.old.refused) }
-    ensures fault { IfErr result (IsPatternFault (patterns_of matchers.now) cache.old.refused cache.new.refused) }
-    ensures capacity { cache.new.capacity ≡ cache.old.capacity }
+    ensures read { GivesUnlessBuild (λ done. done) result
+        (unless_refused (pattern_refusal is_shallow (patterns_of matchers.now)) tt) }
+    ensures asked { Asked result cache.old cache.new }
+    ensures failure { IfErr result (IsPatternFailure (patterns_of matchers.now) cache.old cache.new) }
+
+    // Where no build of these patterns was refused, the answer is the meaning; so where they are patterns, nothing but
+    // memory can fail.
+    ensures meaning { AreRefusedRightly cache.new.refused (patterns_of matchers.now)
+        → Gives (λ done. done) result (unless_refused (pattern_refusal is_pattern (patterns_of matchers.now)) tt) }
 {
-    build_all(alloc, matchers, cache)?;
+    check_short_patterns(alloc, matchers, cache)?;
     if has_long_pattern(matchers) {
-        return Err(MatchFault::LongPattern);
+        return Err(Failure::Refused(MatcherRefusal::LongPattern));
     }
     Ok(())
 }
@@ -146,21 +131,53 @@ pub fn read_matchers(
     alloc: Global,
     text: &str,
     cache: &mut PatternCache,
-) -> Result<Vec<Matcher>, MatchFault>
+) -> Result<Vec<Matcher>, Failure<MatcherRefusal>>
     ensures matchers { IfOk result (λ v. matchers_of (chars text.now) ≡ Some v.items) }
     ensures patterns { IfOk result (λ v. All IsPattern (patterns_of v.items)) }
-    ensures refused { OnOk result (cache.new.refused ≡ cache.old.refused) }
-    ensures fault { IfErr result (IsFaultOf (matchers_of (chars text.now)) cache.old.refused cache.new.refused) }
-    ensures capacity { cache.new.capacity ≡ cache.old.capacity }
+    ensures read { GivesUnlessBuild (λ v. v.items) result (reading_of (matchers_of (chars text.now))) }
+    ensures asked { Asked result cache.old cache.new }
+    ensures failure { IfErr result (IsTextFailure (matchers_of (chars text.now)) cache.old cache.new) }
 
     // Where no build of these patterns was refused, the answer is the meaning of the text.
-    ensures meaning { AreRefusedRightly cache.new.refused (patterns_in (matchers_of (chars text.now))) →
-        MatchResult result (λ v. meaning_of (matchers_of (chars text.now)) ≡ Ok v.items)
-        (λ fault. (fault ≡ MatchFault.OutOfMemory) ⊎ (meaning_of (matchers_of (chars text.now)) ≡ Err fault)) }
+    ensures meaning { AreRefusedRightly cache.new.refused (patterns_in (matchers_of (chars text.now)))
+        → Gives (λ v. v.items) result (meaning_of (matchers_of (chars text.now))) }
 {
     let Some(matchers) = parse(alloc, text)? else {
-        return Err(MatchFault::NoMatchers);
+        return Err(Failure::Refused(MatcherRefusal::NoMatchers));
     };
     check_patterns(alloc, &matchers, cache)?;
+    Ok(matchers)
+}
+
+// Checks the patterns of the matchers by the grammar alone.
+fn check_grammar(alloc: Global, matchers: &[Matcher]) -> Result<(), Failure<MatcherRefusal>>
+    ensures { Gives (λ done. done) result (unless_refused (pattern_refusal is_shallow (patterns_of matchers.now)) tt) }
+{
+    for matcher in matchers {
+        if let Some(pattern) = short_pattern(matcher) {
+            if !is_shallow_pattern(alloc, pattern)? {
+                return Err(Failure::Refused(MatcherRefusal::BadPattern));
+            }
+        }
+    }
+    if has_long_pattern(matchers) {
+        return Err(Failure::Refused(MatcherRefusal::LongPattern));
+    }
+    Ok(())
+}
+
+/// The matchers that a text gives, by the grammars of matchers and of patterns alone: no pattern is built. So a text that
+/// [`read_matchers`] has read gives the same matchers again, whatever a cache holds; their patterns are built when they
+/// are asked.
+///
+/// # Errors
+/// Those of [`read_matchers`], but for `BuildRefused`.
+pub fn reread_matchers(alloc: Global, text: &str) -> Result<Vec<Matcher>, Failure<MatcherRefusal>>
+    ensures { Gives (λ v. v.items) result (reading_of (matchers_of (chars text.now))) }
+{
+    let Some(matchers) = parse(alloc, text)? else {
+        return Err(Failure::Refused(MatcherRefusal::NoMatchers));
+    };
+    check_grammar(alloc, &matchers)?;
     Ok(matchers)
 }

@@ -5,19 +5,23 @@
 //! `\\` and `\n`, or is a run of characters without `,`, `"`, `{`, `}`, its end spaces removed; it may be empty.
 #![tactic(auto)]
 
+mod asking;
 mod checking;
 pub mod laws;
 mod matcher;
 mod printing;
 mod reading;
+mod refusal;
 mod spelling;
 mod taking;
 
-pub use checking::{MatchFault, check_patterns, read_matchers};
+pub use asking::taken_by_all;
+pub use checking::{check_pattern, check_patterns, read_matchers, reread_matchers};
 pub use matcher::{Matcher, Operator};
 pub use printing::print_matchers;
-pub use spelling::{SpellFault, spell_matchers};
-pub use taking::{TakeFault, take_matchers};
+pub use refusal::{MatcherRefusal, SpellRefusal, TakeRefusal};
+pub use spelling::spell_matchers;
+pub use taking::take_matchers;
 
 #[cfg(test)]
 mod tests;

@@ -1,12 +1,16 @@
 ghost use Rattle.std.specs.Prelude.{◌≡◌, IfOk, IfErr, IsTrue, SomeIff, IsUtf8};
 ghost use Rattle.am_labels.specs.Labels.{is_label_name};
-ghost use Rattle.am_pattern.specs.Refused.{IsCauseOf, refused_after, IsRefusedRightly};
+ghost use Rattle.am_text.specs.Outcome.{Gives};
+ghost use Rattle.am_pattern.specs.Asking.{Asked};
+ghost use Rattle.am_pattern.specs.Refused.{IsRefusedRightly};
+ghost use Rattle.am_pattern.specs.Taking.{IsPattern};
+ghost use Rattle.am_match.specs.Asking.{IsFailureOf};
 ghost use Rattle.am_match.specs.Matchers.{is_on_pattern};
-ghost use Rattle.am_match.specs.Meaning.{takes_labels, IsTakingOf};
+ghost use Rattle.am_match.specs.Meaning.{takes_labels, taking_of};
 
 use am_labels::{LabelSet, is_label_name};
-use am_pattern::{Build, PatternCache};
-use am_text::Text;
+use am_pattern::{PatternCache, PatternRefusal};
+use am_text::{Failure, Text};
 use std::alloc::{AllocError, Global};
 use std::marker::Model;
 
@@ -102,14 +106,15 @@ impl Matcher {
         alloc: Global,
         labels: &LabelSet,
         cache: &mut PatternCache,
-    ) -> Result<bool, Build>
+    ) -> Result<bool, Failure<PatternRefusal>>
         ensures value { IfOk result (λ taken. taken ≡ takes_labels self.now labels.now) }
-        ensures cause { IfErr result (λ error. IsTrue (is_on_pattern self.now.operator) × IsCauseOf self.now.value error) }
-        ensures refused { cache.new.refused ≡ refused_after cache.old.refused self.now.value result }
-        ensures capacity { cache.new.capacity ≡ cache.old.capacity }
+        ensures pattern { IfOk result (λ _. IsTrue (is_on_pattern self.now.operator) → IsPattern self.now.value) }
+        ensures asked { Asked result cache.old cache.new }
+        ensures failure { IfErr result (IsFailureOf self.now cache.old cache.new) }
 
         // Where no build of this pattern was refused, the answer is the meaning.
-        ensures meaning { IsRefusedRightly cache.new.refused self.now.value → IsTakingOf self.now labels.now result }
+        ensures meaning { IsRefusedRightly cache.new.refused self.now.value
+            → Gives (λ taken. taken) result (taking_of self.now labels.now) }
     {
         let value = labels.get(self.name());
         match self.operator {
@@ -118,7 +123,7 @@ impl Matcher {
             Operator::Match => cache.answer(alloc, self.value(), value),
             Operator::NotMatch => match cache.answer(alloc, self.value(), value) {
                 Ok(taken) => Ok(!taken),
-                Err(error) => Err(error),
+                Err(failure) => Err(failure),
             },
         }
     }

@@ -1,7 +1,12 @@
 -- What clauses see of a `PatternCache`.
 use Rattle.std.specs.Prelude.{ℕ, List}
 
--- the texts whose build was refused, the earliest first, and how many patterns it may keep
 pub record Cache : Type 0 where
+  -- the patterns whose build was refused, each once, the earliest first
   pub refused : List (List ℕ)
+  -- the patterns that it keeps built, the last asked first
+  pub kept : List (List ℕ)
+  -- how many it may keep
   pub capacity : ℕ
+  -- how many bytes the tables of those that it keeps take
+  pub size : ℕ

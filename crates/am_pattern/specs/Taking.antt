@@ -20,6 +20,15 @@ IsRead text = IsTrue (is_read text)
 unfoldable pub IsTooDeep : List ℕ → Type 0
 IsTooDeep text = IsSomeAnd (read default_config (chars text)) (λ (found, _). default_config.nest_limit < found.depth)
 
+-- what was read nests no deeper than that; nothing does, where nothing was read
+abbrev pub is_within : ℕ → Option (Nested Re × Names) → Bool
+is_within most None = false
+is_within most (Some (found, names)) = nat_le found.depth most
+
+-- the text is read, and nests no deeper than the crate builds
+unfoldable pub is_parsed : List ℕ → Bool
+is_parsed text = is_within default_config.nest_limit (read default_config (chars text))
+
 -- what was read has a match in the value; nothing has, where nothing was read
 abbrev pub found_in : Option (Nested Re × Names) → List ℕ → Bool
 found_in None value = false
@@ -40,6 +49,10 @@ IsPattern p = (length p ≤ longest_pattern) × IsRead p × IsRead (anchored p)
 -- the same as a test
 abbrev pub is_pattern : List ℕ → Bool
 is_pattern p = nat_le (length p) longest_pattern && (is_read p && is_read (anchored p))
+
+-- a pattern that nests no deeper, alone and anchored: the only texts that are built
+abbrev pub is_shallow : List ℕ → Bool
+is_shallow p = nat_le (length p) longest_pattern && (is_parsed p && is_parsed (anchored p))
 
 -- the pattern takes the value: its anchored form has a match there
 abbrev pub takes : List ℕ → List ℕ → Bool

@@ -1,5 +1,5 @@
 -- The numbers of instances, and rings of them.
-use Rattle.std.specs.Prelude.{◌≡◌, ℕ, ◌-◌, ◌≤◌, Bool, true, false, ◌&&◌, not, nat_le, ◌==◌, List, [], ◌∷◌, length, filter, map, slice_index_or}
+use Rattle.std.specs.Prelude.{◌≡◌, ℕ, ◌+◌, ◌-◌, ◌%◌, ◌^◌, ◌≤◌, Bool, true, false, ◌&&◌, not, nat_le, ◌==◌, List, [], ◌∷◌, length, filter, map, slice_index_or}
 use Rattle.std.specs.List.{list_all, list_any}
 
 -- all instances, in order of number
@@ -32,6 +32,10 @@ may_be_ring numbers =
 pub record Members : Type 0 where
   pub epoch : ℕ
   pub instances : List ℕ
+
+-- the epoch behind this one; after the greatest that 8 bytes hold it begins at 0 again
+abbrev pub next_epoch : ℕ → ℕ
+next_epoch epoch = (epoch + 1) % 2 ^ 64
 
 -- the instances at whose places a flag stands
 unfoldable pub flagged : List Bool → List ℕ

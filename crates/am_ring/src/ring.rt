@@ -1,6 +1,6 @@
-ghost use Rattle.std.specs.Prelude.{◌≡◌, ◌+◌, ◌<◌, ◌^◌, ℕ, List, MatchResult, OnErr, OnOk, None, Some, count_by, length, position, ◌==◌, if◌then◌else◌};
+ghost use Rattle.std.specs.Prelude.{◌≡◌, ℕ, List, MatchResult, OnErr, OnOk, None, Some, count_by, length, position, ◌==◌, if◌then◌else◌};
 ghost use Rattle.std.specs.List.{list_all};
-ghost use Rattle.am_ring.specs.Instances.{all_differ, flags_of, in_order, is_among, is_instance, may_be_ring};
+ghost use Rattle.am_ring.specs.Instances.{all_differ, flags_of, in_order, is_among, is_instance, may_be_ring, next_epoch};
 ghost use Rattle.am_ring.specs.Changes.{join_refusal, leave_refusal, with_instance, without};
 ghost use Rattle.am_ring.specs.Replicas.{ReplacesOne, position_of, replicas};
 
@@ -68,39 +68,37 @@ impl Ring {
         count(&self.members)
     }
 
-    /// Puts an instance into the ring, and counts the epoch up, which isn't the greatest `u64` yet.
+    /// Puts an instance into the ring, and counts the epoch up; after the greatest `u64` it begins at 0 again.
     ///
     /// # Errors
     /// [`RingRefusal::Full`] where all eight are in it, else [`RingRefusal::WrongInstance`] where the number isn't one
     /// of 1 to 8 or the instance is in it. The ring stays as it was.
     pub fn join(&mut self, number: u8) -> Result<(), RingRefusal>
-        requires { self.old.epoch + 1 < 2 ^ 64 }
-        ensures ok { OnOk result (self.new ≡ record { epoch = self.old.epoch + 1; instances = with_instance number self.old.instances }) }
+        ensures ok { OnOk result (self.new ≡ record { epoch = next_epoch self.old.epoch; instances = with_instance number self.old.instances }) }
         ensures err { OnErr result (self.new ≡ self.old) }
         ensures refusal { MatchResult result (λ _. join_refusal number self.old.instances ≡ None) (λ refusal. join_refusal number self.old.instances ≡ Some refusal) }
         ensures one { (tenant : List ℕ) → ReplacesOne tenant self.old.instances self.new.instances }
     {
         let instance = self.joining(number)?;
         self.members[instance.index()] = true;
-        self.epoch += 1;
+        self.epoch = self.epoch.wrapping_add(1);
         Ok(())
     }
 
-    /// Takes an instance out of the ring, and counts the epoch up, which isn't the greatest `u64` yet.
+    /// Takes an instance out of the ring, and counts the epoch up; after the greatest `u64` it begins at 0 again.
     ///
     /// # Errors
     /// [`RingRefusal::Small`] where only three are in it, else [`RingRefusal::WrongInstance`] where this one isn't in
     /// it. The ring stays as it was.
     pub fn leave(&mut self, number: u8) -> Result<(), RingRefusal>
-        requires { self.old.epoch + 1 < 2 ^ 64 }
-        ensures ok { OnOk result (self.new ≡ record { epoch = self.old.epoch + 1; instances = without number self.old.instances }) }
+        ensures ok { OnOk result (self.new ≡ record { epoch = next_epoch self.old.epoch; instances = without number self.old.instances }) }
         ensures err { OnErr result (self.new ≡ self.old) }
         ensures refusal { MatchResult result (λ _. leave_refusal number self.old.instances ≡ None) (λ refusal. leave_refusal number self.old.instances ≡ Some refusal) }
         ensures one { (tenant : List ℕ) → ReplacesOne tenant self.old.instances self.new.instances }
     {
         let instance = self.leaving(number)?;
         self.members[instance.index()] = false;
-        self.epoch += 1;
+        self.epoch = self.epoch.wrapping_add(1);
         Ok(())
     }
 

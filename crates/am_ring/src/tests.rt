@@ -1,24 +1,12 @@
 use super::*;
 use am_labels::place;
 use am_tenant::TenantName;
-use std::process::Abort;
 use std::test::Fail;
 
 // The numbers of the replicas of a tenant.
 fn replicas(ring: &Ring, tenant: &TenantName) -> [u8; 3] {
     let [first, second, third] = ring.replicas(tenant);
     [first.number(), second.number(), third.number()]
-}
-
-// A join or a leave, far from the greatest epoch.
-fn join(rt: &impl Abort, ring: &mut Ring, number: u8) -> Result<(), RingRefusal> {
-    assert!(rt; ring.epoch() < 100);
-    ring.join(number)
-}
-
-fn leave(rt: &impl Abort, ring: &mut Ring, number: u8) -> Result<(), RingRefusal> {
-    assert!(rt; ring.epoch() < 100);
-    ring.leave(number)
 }
 
 #[test]
@@ -38,21 +26,21 @@ fn changes(rt: HostRuntime) -> Result<(), Fail> {
     let tenant = TenantName::read(b"a")?;
     let mut ring = Ring::new(&[3, 1, 2]).ok_or("no ring")?;
     assert_eq!(rt; replicas(&ring, &tenant), [2, 1, 3]);
-    assert_eq!(rt; leave(&rt, &mut ring, 1), Err(RingRefusal::Small));
-    assert_eq!(rt; join(&rt, &mut ring, 9), Err(RingRefusal::WrongInstance));
+    assert_eq!(rt; ring.leave(1), Err(RingRefusal::Small));
+    assert_eq!(rt; ring.join(9), Err(RingRefusal::WrongInstance));
     assert_eq!(rt; ring.epoch(), 0);
-    join(&rt, &mut ring, 4)?;
+    ring.join(4)?;
     assert_eq!(rt; replicas(&ring, &tenant), [2, 4, 1]);
     let third = Instance::new(3).ok_or("no instance")?;
     assert_eq!(rt; ring.position(&tenant, third), None);
-    leave(&rt, &mut ring, 2)?;
+    ring.leave(2)?;
     assert_eq!(rt; replicas(&ring, &tenant), [4, 1, 3]);
     assert_eq!(rt; ring.position(&tenant, third), Some(2));
     assert_eq!(rt; (ring.epoch(), ring.len(), ring.contains(2)), (2, 3, false));
     for number in [2, 5, 6, 7, 8] {
-        join(&rt, &mut ring, number)?;
+        ring.join(number)?;
     }
-    assert_eq!(rt; join(&rt, &mut ring, 8), Err(RingRefusal::Full));
+    assert_eq!(rt; ring.join(8), Err(RingRefusal::Full));
     Ok(())
 }
 

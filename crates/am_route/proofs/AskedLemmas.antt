@@ -7,15 +7,15 @@ use Rattle.std.specs.Prelude.{if◌then◌else◌}
 use Rattle.am_labels.specs.declared.Label.{Label}
 use Rattle.am_match.specs.Matchers.{MatcherText}
 use Rattle.am_match.specs.Meaning.{takes_labels}
-use Rattle.am_draft.specs.declared.tree.Node.{Node}
-use Rattle.am_draft.specs.Trees.{Forest, IsTree, flat, none, tree}
+use Rattle.am_text.specs.declared.tree.Node.{Node}
+use Rattle.am_text.specs.Trees.{Forest, IsTree, flat, none, tree}
 use Rattle.am_config.specs.declared.parts.Route.{Route}
 use Rattle.am_config.specs.Configured.{HasPattern}
 use Rattle.am_route.specs.Asked.{asked_among, asked_at, asked_of}
 use Rattle.am_route.specs.Routes.{route_takes}
-use Rattle.am_route.specs.Trees.{IsForest, forest_of}
-use Rattle.am_route.proofs.FaultLemmas.{AreAmong, in_back, in_front}
-use Rattle.am_route.proofs.TreeLemmas.{forest_of-flat, head}
+use Rattle.am_draft.specs.Forests.{IsForest, forest_of}
+use Rattle.am_route.proofs.FailureLemmas.{AreAmong, in_back, in_front}
+use Rattle.am_draft.proofs.ForestLemmas.{forest_of-flat, head}
 
 -- the matcher at a place, where those before it took the labels
 module _ (labels : List Label) (ms : List MatcherText) (k : ℕ) (m : MatcherText) (within : k < length ms) (is : m ≡ get_or ms k m) where

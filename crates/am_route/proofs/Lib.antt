@@ -1,5 +1,4 @@
 pub mod AskedLemmas
-pub mod FaultLemmas
+pub mod FailureLemmas
 pub mod PlacesLemmas
 pub mod RoutesLemmas
-pub mod TreeLemmas

@@ -3,11 +3,11 @@ use Rattle.std.proofs.Common.{ℕ, ◌+◌, ◌<◌, ◌≤◌, Bool, true, fals
 use Rattle.std.proofs.lemmas.List.Elements.{All-append, All-cons, All-nil}
 use Rattle.std.specs.Prelude.{if◌then◌else◌}
 use Rattle.am_labels.specs.declared.Label.{Label}
-use Rattle.am_draft.specs.declared.tree.Node.{Node}
-use Rattle.am_draft.specs.Trees.{Forest, IsTree, flat, none, tree}
+use Rattle.am_text.specs.declared.tree.Node.{Node}
+use Rattle.am_text.specs.Trees.{Forest, IsTree, flat, none, tree}
 use Rattle.am_config.specs.declared.parts.Route.{Route}
 use Rattle.am_route.specs.Routes.{or_itself, route_takes, routes_among, routes_at}
-use Rattle.am_route.proofs.TreeLemmas.{forest_of-flat}
+use Rattle.am_draft.proofs.ForestLemmas.{forest_of-flat}
 
 -- each is below this number
 abbrev pub AreBelow : ℕ → List ℕ → Type 0

@@ -2,12 +2,12 @@
 use Rattle.std.proofs.Common.{◌≡◌, ℕ, ◌+◌, true, false, List, [], ◌∷◌, ◌++◌, length, take, drop, refl, ap, subst, append_assoc, append-nil, arith}
 use Rattle.std.specs.Prelude.{if◌then◌else◌}
 use Rattle.am_labels.specs.declared.Label.{Label}
-use Rattle.am_draft.specs.declared.tree.Node.{Node}
+use Rattle.am_text.specs.declared.tree.Node.{Node}
 use Rattle.am_config.specs.declared.parts.Route.{Route}
-use Rattle.am_route.specs.Trees.{IsForest, forest_of}
+use Rattle.am_draft.specs.Forests.{IsForest, forest_of}
 use Rattle.am_route.specs.Routes.{route_takes, routes_among, routes_at, routes_within}
-use Rattle.am_draft.specs.Trees.{IsTree, flat, none, tree}
-use Rattle.am_route.proofs.TreeLemmas.{IsHead, forest_of-flat, head}
+use Rattle.am_text.specs.Trees.{IsTree, flat, none, tree}
+use Rattle.am_draft.proofs.ForestLemmas.{IsHead, forest_of-flat, head}
 
 module _ (labels : List Label) (number : ℕ) (nodes : List (Node Route)) (node : Node Route) (behind : List (Node Route)) (e : nodes ≡ node ∷ behind) (h : IsForest nodes) where
   -- what stands at the head

@@ -3,11 +3,11 @@ use Rattle.std.specs.Prelude.{List, [], ◌∷◌, ◌++◌, if◌then◌else◌
 use Rattle.am_labels.specs.declared.Label.{Label}
 use Rattle.am_match.specs.Matchers.{MatcherText}
 use Rattle.am_match.specs.Meaning.{takes_labels}
-use Rattle.am_draft.specs.declared.tree.Node.{Node}
-use Rattle.am_draft.specs.Trees.{Forest, none, tree}
+use Rattle.am_text.specs.declared.tree.Node.{Node}
+use Rattle.am_text.specs.Trees.{Forest, none, tree}
 use Rattle.am_config.specs.declared.parts.Route.{Route}
 use Rattle.am_route.specs.Routes.{route_takes}
-use Rattle.am_route.specs.Trees.{forest_of}
+use Rattle.am_draft.specs.Forests.{forest_of}
 
 -- of matchers that are asked one after the other: those up to the first that doesn't take the labels, and that one
 unfoldable pub asked_of : List Label → List MatcherText → List MatcherText

@@ -1,16 +1,15 @@
 -- The routes of labels: a recursion on the tree of routes.
 use Rattle.std.specs.Prelude.{ℕ, ◌+◌, Bool, if◌then◌else◌, List, [], ◌∷◌, ◌++◌, length}
-use Rattle.std.specs.List.{list_all}
 use Rattle.am_labels.specs.declared.Label.{Label}
-use Rattle.am_match.specs.Meaning.{takes_labels}
-use Rattle.am_draft.specs.declared.tree.Node.{Node}
-use Rattle.am_draft.specs.Trees.{Forest, none, tree, flat}
+use Rattle.am_match.specs.Meaning.{all_take}
+use Rattle.am_text.specs.declared.tree.Node.{Node}
+use Rattle.am_text.specs.Trees.{Forest, none, tree, flat}
 use Rattle.am_config.specs.declared.parts.Route.{Route}
-use Rattle.am_route.specs.Trees.{forest_of}
+use Rattle.am_draft.specs.Forests.{forest_of}
 
 -- a route takes labels that all its matchers take
 abbrev pub route_takes : Route → List Label → Bool
-route_takes route labels = list_all (λ matcher. takes_labels matcher labels) route.matchers
+route_takes route labels = all_take route.matchers labels
 
 -- what was found below a route, or the route itself where that is nothing
 abbrev pub or_itself : ℕ → List ℕ → List ℕ

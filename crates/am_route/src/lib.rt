@@ -2,10 +2,10 @@
 #![tactic(auto)]
 
 mod id;
-pub mod laws;
 mod routing;
-#[cfg(test)]
-mod tests;
 
 pub use id::RouteId;
 pub use routing::routes_of;
+
+#[cfg(test)]
+mod tests;

@@ -1,20 +1,19 @@
 ghost use Rattle.std.specs.Prelude.{◌≡◌, ◌+◌, ◌++◌, ◌<◌, ◌≤◌, ◌^◌, All, length, IfErr, IfOk, OnOk};
-ghost use Rattle.std.specs.List.{list_all};
-ghost use Rattle.am_pattern.specs.declared.error.Build.TheVariants.{OutOfMemory};
+ghost use Rattle.am_draft.specs.Forests.{IsForest, forest_of};
+ghost use Rattle.am_pattern.specs.Asking.{Asked};
+ghost use Rattle.am_match.specs.Asking.{IsFailureAmong};
 ghost use Rattle.am_match.specs.Checking.{AreRefusedRightly};
-ghost use Rattle.am_match.specs.Meaning.{takes_labels};
 ghost use Rattle.am_match.specs.Matchers.{patterns_of};
+ghost use Rattle.am_match.specs.Meaning.{all_take};
 ghost use Rattle.am_route.specs.Asked.{asked_among, asked_at, asked_of};
-ghost use Rattle.am_route.specs.Faults.{IsAskingFault};
 ghost use Rattle.am_route.specs.Routes.{routes_among, routes_at, routes_within};
-ghost use Rattle.am_route.specs.Trees.{IsForest, forest_of};
 
 use crate::id::RouteId;
 use am_config::{Config, Route};
-use am_draft::Node;
 use am_labels::LabelSet;
 use am_match::Matcher;
-use am_pattern::{Build, PatternCache};
+use am_pattern::{PatternCache, PatternRefusal};
+use am_text::{Failure, Node};
 use std::alloc::Global;
 
 /// The routes of an alert with these labels, in the order of the tree.
@@ -25,25 +24,22 @@ use std::alloc::Global;
 ///
 /// # Errors
 ///
-/// Want of memory, which leaves what the cache keeps as refused. Any other is that of [`Matcher::matches`] for
-/// a matcher that is asked on the way of these labels, and the cache then keeps its pattern as refused.
+/// Those of [`Matcher::matches`] for a matcher that is asked on the way of these labels.
 pub fn routes_of(
     alloc: Global,
     config: &Config,
     labels: &LabelSet,
     cache: &mut PatternCache,
-) -> Result<Vec<RouteId>, Build>
+) -> Result<Vec<RouteId>, Failure<PatternRefusal>>
     ensures routes { IfOk result (λ found. found.items ≡ routes_at labels.now config.now.routes) }
     ensures places { IfOk result (λ found. All (λ id. id < length config.now.routes) found.items) }
     ensures some { IfOk result (λ found. 0 < length found.items) }
-    ensures kept { OnOk result (cache.new.refused ≡ cache.old.refused) }
-    ensures fault { IfErr result (λ error.
-        IsAskingFault (asked_at labels.now config.now.routes) cache.old.refused error cache.new.refused) }
+    ensures asked { Asked result cache.old cache.new }
+    ensures failure { IfErr result (IsFailureAmong (asked_at labels.now config.now.routes) cache.old cache.new) }
 
-    // Where no build of a pattern that is asked was refused, only want of memory is left.
+    // Where no build of a pattern that is asked was refused, nothing but memory can fail.
     ensures meaning { AreRefusedRightly cache.new.refused (patterns_of (asked_at labels.now config.now.routes))
-        → IfErr result (λ error. error ≡ OutOfMemory) }
-    ensures capacity { cache.new.capacity ≡ cache.old.capacity }
+        → IfErr result (λ failure. failure ≡ Failure.OutOfMemory) }
 {
     let mut found = Vec::new(alloc);
     if let Some((_root, within)) = config.routes().split_first() {
@@ -62,15 +58,13 @@ fn walk(
     labels: &LabelSet,
     cache: &mut PatternCache,
     found: &mut Vec<RouteId>,
-) -> Result<(), Build>
+) -> Result<(), Failure<PatternRefusal>>
     requires forest { IsForest nodes.now }
     requires few { first + length nodes.now ≤ 2 ^ 62 }
     ensures routes { OnOk result (found.new.items
         ≡ found.old.items ++ routes_among labels.now first (forest_of nodes.now)) }
-    ensures kept { OnOk result (cache.new.refused ≡ cache.old.refused) }
-    ensures fault { IfErr result (λ error.
-        IsAskingFault (asked_among labels.now (forest_of nodes.now)) cache.old.refused error cache.new.refused) }
-    ensures capacity { cache.new.capacity ≡ cache.old.capacity }
+    ensures asked { Asked result cache.old cache.new }
+    ensures failure { IfErr result (IsFailureAmong (asked_among labels.now (forest_of nodes.now)) cache.old cache.new) }
 {
     let mut rest = nodes;
     let mut number = first;
@@ -97,15 +91,13 @@ fn enter(
     labels: &LabelSet,
     cache: &mut PatternCache,
     found: &mut Vec<RouteId>,
-) -> Result<(), Build>
+) -> Result<(), Failure<PatternRefusal>>
     requires forest { IsForest within.now }
     requires few { number + 1 + length within.now ≤ 2 ^ 62 }
     ensures routes { OnOk result (found.new.items
         ≡ found.old.items ++ routes_within labels.now number (forest_of within.now)) }
-    ensures kept { OnOk result (cache.new.refused ≡ cache.old.refused) }
-    ensures fault { IfErr result (λ error.
-        IsAskingFault (asked_among labels.now (forest_of within.now)) cache.old.refused error cache.new.refused) }
-    ensures capacity { cache.new.capacity ≡ cache.old.capacity }
+    ensures asked { Asked result cache.old cache.new }
+    ensures failure { IfErr result (IsFailureAmong (asked_among labels.now (forest_of within.now)) cache.old cache.new) }
 {
     let before = found.len();
     walk(alloc, within, number + 1, labels, cache, found)?;
@@ -121,12 +113,10 @@ fn takes_all(
     matchers: &[Matcher],
     labels: &LabelSet,
     cache: &mut PatternCache,
-) -> Result<bool, Build>
-    ensures value { IfOk result (λ taken. taken ≡ list_all (λ matcher. takes_labels matcher labels.now) matchers.now) }
-    ensures kept { OnOk result (cache.new.refused ≡ cache.old.refused) }
-    ensures fault { IfErr result (λ error.
-        IsAskingFault (asked_of labels.now matchers.now) cache.old.refused error cache.new.refused) }
-    ensures capacity { cache.new.capacity ≡ cache.old.capacity }
+) -> Result<bool, Failure<PatternRefusal>>
+    ensures value { IfOk result (λ taken. taken ≡ all_take matchers.now labels.now) }
+    ensures asked { Asked result cache.old cache.new }
+    ensures failure { IfErr result (IsFailureAmong (asked_of labels.now matchers.now) cache.old cache.new) }
 {
     for matcher in matchers {
         if !matcher.matches(alloc, labels, cache)? {

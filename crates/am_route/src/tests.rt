@@ -8,7 +8,7 @@ use std::test::Fail;
 
 // The numbers of the routes of these labels.
 fn numbers(alloc: Global, text: &str, pairs: &[(&str, &str)]) -> Result<Vec<usize>, Fail> {
-    let mut cache = PatternCache::new(alloc, 16);
+    let mut cache = PatternCache::new(alloc, 16, [0; 16])?;
     let config = Config::read_text(alloc, text.as_bytes(), &mut cache)?;
     let mut labels = Vec::new(alloc);
     for (name, value) in pairs {

@@ -79,7 +79,9 @@ room_by Alerts method body held moment maker fit some = room_alerts method body 
 room_by AlertGroups method body held moment maker fit some = absurd (omega arith)
 room_by Silences method body held moment maker fit some = absurd (omega arith)
 room_by (Silence id) method body held moment maker fit some = absurd (omega arith)
-room_by Receivers method body held moment maker fit some = absurd (omega arith)
+room_by Receivers Get body held moment maker fit some = absurd (omega arith)
+room_by Receivers Post body held moment maker fit some = absurd (omega arith)
+room_by Receivers Delete body held moment maker fit some = absurd (omega arith)
 room_by Configuration method body held moment maker fit some = absurd (omega arith)
 
 -- the counts of a decision that fit have room

@@ -9,7 +9,7 @@ use Rattle.am_item.specs.declared.item.Alert.{Alert}
 use Rattle.am_item.specs.declared.stamp.Stamped.{Stamped}
 use Rattle.am_json.specs.Written.{labels_data}
 
--- the receivers of every alert: the one of the default configuration
+-- the receivers of the default configuration, which every alert has
 abbrev pub receivers_data : Data
 receivers_data = array (item (object (member (codes "name") (string (codes "default")) no_members)) no_items)
 
@@ -40,3 +40,7 @@ alerts_data alerts = array (items_of (map alert_data alerts))
 -- the bytes of a list of alerts
 unfoldable pub alerts_text : List (Stamped Alert) → List ℕ
 alerts_text alerts = compact_text (alerts_data alerts)
+
+-- the bytes of the list of receivers
+unfoldable pub receivers_text : List ℕ
+receivers_text = compact_text receivers_data

@@ -16,7 +16,7 @@ use Rattle.am_alert.specs.Held.{firing}
 use Rattle.am_alert.specs.Made.{made, counts_fit}
 use Rattle.am_alert.specs.Posted.{code_of, posted}
 use Rattle.am_world.specs.declared.decision.Decided.{Decided}
-use Rattle.am_world.specs.AlertJson.{alerts_text}
+use Rattle.am_world.specs.AlertJson.{alerts_text, receivers_text}
 
 -- the items that are stored, and the status and the body of the reply
 pub record Decision : Type 0 where
@@ -31,6 +31,10 @@ resolve_timeout = 300000
 -- the alerts that fire are listed
 abbrev pub listed : List Item → ℕ → Decision
 listed held moment = record { items = []; status = 200; body = alerts_text (firing moment held) }
+
+-- the receivers are listed
+abbrev pub receivers_listed : Decision
+receivers_listed = record { items = []; status = 200; body = receivers_text }
 
 -- alerts are stored as items
 abbrev pub stored : List Item → ℕ → Maker → List Alert → Decision
@@ -52,13 +56,20 @@ alerts_decided Get body held moment maker = listed held moment
 alerts_decided Post body held moment maker = stored_or_refused held moment maker (posted moment resolve_timeout body)
 alerts_decided Delete body held moment maker = refused 405 (codes "H6")
 
--- by what the request speaks of; the front lets no path through that isn't brought
+-- the receivers: GET lists them. (The front lets no other method through.)
+abbrev pub receivers_decided : Method → Decision
+receivers_decided Get = receivers_listed
+receivers_decided Post = refused 405 (codes "H6")
+receivers_decided Delete = refused 405 (codes "H6")
+
+-- by what the request speaks of. No configuration can be stored yet, so its path is as if there were none; the front
+-- lets no request of the others through.
 abbrev pub decided_by : Endpoint → Method → List ℕ → List Item → ℕ → Maker → Decision
 decided_by Alerts method body held moment maker = alerts_decided method body held moment maker
 decided_by AlertGroups method body held moment maker = refused 404 (codes "H5")
 decided_by Silences method body held moment maker = refused 404 (codes "H5")
 decided_by (Silence id) method body held moment maker = refused 404 (codes "H5")
-decided_by Receivers method body held moment maker = refused 404 (codes "H5")
+decided_by Receivers method body held moment maker = receivers_decided method
 decided_by Configuration method body held moment maker = refused 404 (codes "H5")
 
 -- the decision on a request, from the items held of its tenant, the moment, and who makes items

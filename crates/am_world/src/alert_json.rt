@@ -3,7 +3,7 @@
 ghost use Rattle.std.specs.Prelude.{◌≡◌, ◌++◌, codes, IfOk, OnOk, map};
 ghost use Rattle.am_alert.specs.HeldAlert.{held_alert};
 ghost use Rattle.am_json.specs.Written.{data_tokens, member_tokens};
-ghost use Rattle.am_world.specs.AlertJson.{status_data, receivers_data, alert_data, alerts_data, alerts_text};
+ghost use Rattle.am_world.specs.AlertJson.{status_data, receivers_data, receivers_text, alert_data, alerts_data, alerts_text};
 
 use am_alert::HeldAlert;
 use am_json::JsonWriter;
@@ -17,6 +17,15 @@ pub fn alerts_json(alloc: Global, alerts: &[HeldAlert<'_>]) -> Result<Octets, Al
 {
     let mut text = JsonWriter::new(alloc);
     put_alerts(&mut text, alerts)?;
+    Ok(text.finish())
+}
+
+/// The JSON list of the receivers: the one of the default configuration.
+pub fn receivers_json(alloc: Global) -> Result<Octets, AllocError>
+    ensures { IfOk result (λ o. o ≡ receivers_text) }
+{
+    let mut text = JsonWriter::new(alloc);
+    put_receivers(&mut text)?;
     Ok(text.finish())
 }
 
@@ -40,6 +49,7 @@ fn put_alert(text: &mut JsonWriter, alert: &HeldAlert<'_>) -> Result<(), AllocEr
     text.fingerprint_member("fingerprint", alert.labels)?;
     text.text_member("generatorURL", &details.generator_url)?;
     text.labels_member("labels", alert.labels)?;
+    text.key("receivers")?;
     put_receivers(text)?;
     text.moment_member("startsAt", details.starts_at)?;
     put_status(text)?;
@@ -48,9 +58,8 @@ fn put_alert(text: &mut JsonWriter, alert: &HeldAlert<'_>) -> Result<(), AllocEr
 }
 
 fn put_receivers(text: &mut JsonWriter) -> Result<(), AllocError>
-    ensures { OnOk result (text.new ≡ text.old ++ member_tokens (codes "receivers") receivers_data) }
+    ensures { OnOk result (text.new ≡ text.old ++ data_tokens receivers_data) }
 {
-    text.key("receivers")?;
     text.begin_array()?;
     text.begin_object()?;
     text.key("name")?;

@@ -3,9 +3,9 @@
 ghost use Rattle.std.specs.Prelude.{ℕ, List, Result};
 ghost use Rattle.am_alert.specs.Posted.{posted};
 ghost use Rattle.am_alert.specs.declared.maker.Maker.{Maker};
-ghost use Rattle.am_world.specs.Decision.{Decides, decided, listed, refused, resolve_timeout, stored_or_refused};
+ghost use Rattle.am_world.specs.Decision.{Decides, decided, listed, receivers_listed, refused, resolve_timeout, stored_or_refused};
 
-use crate::alert_json::alerts_json;
+use crate::alert_json::{alerts_json, receivers_json};
 use am_alert::{AlertBook, Maker, items_of_post, read_posted};
 use am_http::{Endpoint, Method, Request, refusal_body};
 use am_item::{Fault, Held, Item};
@@ -42,10 +42,13 @@ pub fn decide(
             Method::Post => store(alloc, request.body.as_slice(), held, moment, maker),
             Method::Delete => refuse(alloc, 405, "H6"),
         },
+        Endpoint::Receivers => match request.method {
+            Method::Get => list_receivers(alloc),
+            Method::Post | Method::Delete => refuse(alloc, 405, "H6"),
+        },
         Endpoint::AlertGroups
         | Endpoint::Silences
         | Endpoint::Silence(_)
-        | Endpoint::Receivers
         | Endpoint::Configuration => refuse(alloc, 404, "H5"),
     }
 }
@@ -60,6 +63,17 @@ fn list(alloc: Global, held: &Held, moment: Moment) -> Result<Decided, Fault>
         items: Vec::new(alloc),
         status: 200,
         body,
+    })
+}
+
+// The receivers.
+fn list_receivers(alloc: Global) -> Result<Decided, Fault>
+    ensures { Decides result receivers_listed }
+{
+    Ok(Decided {
+        items: Vec::new(alloc),
+        status: 200,
+        body: receivers_json(alloc)?,
     })
 }
 

@@ -63,6 +63,7 @@ impl Instance {
     }
 
     /// Stops the instance for a fault, as a crash does: it is down, and all that it had is lost. It takes no memory.
+    #[tactic(auto, unfolding(crate::specs::Places::local_in, am_item::specs::Book::items_of, am_item::specs::Counts::count_of))]
     pub fn stop(&mut self, alloc: Global, fault: Fault)
         ensures cause { self.new.cause ≡ Some fault }
         ensures up { self.new.up ≡ false }

@@ -1,16 +1,12 @@
 //! Whole scenarios. What they must print was computed apart from this program.
 
+mod isolation;
+mod streams;
+
 use crate::play::{Played, play};
-use am_http::ConnectionId;
-use am_text::Octets;
-use am_world::event::{Event, Output};
 use am_world::setup::Setup;
-use am_world::theorem::run_both;
-use am_world::world::World;
 use serde_json::Value;
 use std::alloc::Global;
-use std::io;
-use std::io::{BufReader, Read, Write};
 use std::test::Fail;
 
 // One alert is posted and read back.
@@ -146,6 +142,20 @@ faults 0
 "#,
 );
 
+// The receivers are listed; a path doesn't take each method, and no configuration can be stored.
+const RECEIVERS: (&str, &str) = (
+    r#"at 1750000000000
+call r 1 a GET /alertmanager/api/v2/receivers
+call p 1 a POST /alertmanager/api/v2/receivers "{}"
+call c 1 a POST /api/v1/alerts "{}"
+"#,
+    r#"reply r "HTTP/1.1 200 OK\r\nContent-Type: application/json\r\nContent-Length: 20\r\nConnection: close\r\n\r\n[{\"name\":\"default\"}]"
+reply p "HTTP/1.1 405 Method Not Allowed\r\nContent-Type: application/json\r\nContent-Length: 13\r\nConnection: close\r\n\r\n{\"code\":\"H6\"}"
+reply c "HTTP/1.1 404 Not Found\r\nContent-Type: application/json\r\nContent-Length: 13\r\nConnection: close\r\n\r\n{\"code\":\"H5\"}"
+faults 0
+"#,
+);
+
 // The request that reads the alerts of the tenant `a`.
 const READ: &str =
     "GET /alertmanager/api/v2/alerts HTTP/1.1\r\nHost: amring\r\nX-Scope-OrgID: a\r\nContent-Length: 0\r\n\r\n";
@@ -173,6 +183,7 @@ fn scenarios(rt: HostRuntime) -> Result<(), Fail> {
         POSTED_TWICE,
         MANY_LABELS,
         OPENED_AGAIN,
+        RECEIVERS,
     ] {
         let (end, written) = played(rt.alloc(), scenario.as_bytes())?;
         assert_eq!(rt; end, Played::All, "{scenario}");
@@ -208,103 +219,6 @@ fn a_request_may_be_cut_anywhere(rt: HostRuntime) -> Result<(), Fail> {
         let (end, written) = played(alloc, scenario.as_bytes())?;
         assert_eq!(rt; end, Played::All, "pieces of {size}");
         assert!(rt; written.as_slice() == wanted.as_bytes(), "pieces of {size}");
-    }
-    Ok(())
-}
-
-/// A writer with room for so many bytes, which takes at most seven in a call and fails once it is full.
-#[derive(Drop)]
-struct Narrow {
-    taken: Vec<u8>,
-    room: usize,
-}
-
-impl Write for Narrow {
-    fn write(&mut self, bytes: &[u8]) -> io::Result<usize> {
-        let count = bytes.len().min(7).min(self.room);
-        if count == 0 {
-            return Err(io::ErrorKind::BrokenPipe.into());
-        }
-        self.taken.extend_from_slice(&bytes[..count])?;
-        self.room -= count;
-        Ok(count)
-    }
-
-    fn flush(&mut self) -> io::Result<()> {
-        Ok(())
-    }
-}
-
-#[test]
-fn a_writer_fails(rt: HostRuntime) -> Result<(), Fail> {
-    let alloc = rt.alloc();
-    let (scenario, wanted) = POSTED_TWICE;
-    for room in 0..wanted.len() + 2 {
-        let setup = setup()?;
-        let mut writer = Narrow {
-            taken: Vec::new(alloc),
-            room,
-        };
-        let mut errors = Vec::new(alloc);
-        let ended = play(alloc, setup, scenario.as_bytes(), &mut writer, &mut errors).is_ok();
-        assert_eq!(rt; ended, wanted.len() <= room, "room for {room}");
-        let written = room.min(wanted.len());
-        assert!(rt;
-            writer.taken.as_slice() == &wanted.as_bytes()[..written],
-            "room for {room}"
-        );
-    }
-    Ok(())
-}
-
-/// A reader that gives at most seven bytes in a call, and fails once it has given them all.
-#[derive(Drop)]
-struct Broken<'a> {
-    rest: &'a [u8],
-}
-
-impl<'a> Read for Broken<'a> {
-    fn read(&mut self, buf: &mut [u8]) -> io::Result<usize> {
-        let count = self.rest.len().min(buf.len()).min(7);
-        if count == 0 {
-            return Err(io::ErrorKind::ConnectionReset.into());
-        }
-        buf[..count].copy_from_slice(&self.rest[..count]);
-        self.rest = &self.rest[count..];
-        Ok(count)
-    }
-}
-
-#[test]
-fn a_reader_fails(rt: HostRuntime) -> Result<(), Fail> {
-    let alloc = rt.alloc();
-    let (scenario, wanted) = POSTED_TWICE;
-    for length in 0..scenario.len() + 1 {
-        let read = std::str::from_utf8(&scenario.as_bytes()[..length])?;
-        let setup = setup()?;
-        let mut written = Vec::new(alloc);
-        let reader = BufReader::new(
-            alloc,
-            Broken {
-                rest: read.as_bytes(),
-            },
-        )?;
-        match play(alloc, setup, reader, &mut written, &mut Vec::new(alloc)) {
-            Ok(_) => return Err("a scenario without an end was played".into()),
-            Err(fault) => assert_eq!(rt; fault.kind(), io::ErrorKind::ConnectionReset),
-        }
-        // The replies of the lines that were read whole.
-        let (lines, _) = read.rsplit_once('\n').unwrap_or(("", ""));
-        let calls = lines
-            .lines()
-            .filter(|line| line.starts_with("call"))
-            .count();
-        let mut replies = String::new(alloc);
-        for reply in wanted.lines().take(calls) {
-            replies.push_str(reply)?;
-            replies.push('\n')?;
-        }
-        assert!(rt; written.as_slice() == replies.as_bytes(), "{length} bytes");
     }
     Ok(())
 }
@@ -427,148 +341,5 @@ faults 0
 "#;
     assert_eq!(rt; end, Played::All);
     assert!(rt; written.as_slice() == wanted.as_bytes());
-    Ok(())
-}
-
-/// The lines that open connections, and then those that give each one's request, in pieces of its own size,
-/// with a piece of each request in turn.
-fn push_in_turns(
-    alloc: Global,
-    lines: &mut String,
-    requests: &[(&str, &str, usize)],
-) -> Result<(), Fail> {
-    for (connection, _, _) in requests {
-        lines.push_str(format!(in alloc; "open {connection} 1\n")?.as_str())?;
-    }
-    for turn in 0..200 {
-        for (connection, text, size) in requests {
-            if let Some(piece) = text.as_bytes().chunks((*size).max(1)).nth(turn) {
-                push_pieces(alloc, lines, connection, std::str::from_utf8(piece)?, *size)?;
-            }
-        }
-    }
-    Ok(())
-}
-
-/// The lines that name no connection, or one whose name begins with that of the tenant and a dash.
-fn lines_of(alloc: Global, lines: &str, tenant: &str) -> Result<String, Fail> {
-    let begin = format!(in alloc; "{tenant}-")?;
-    let mut kept = String::new(alloc);
-    for line in lines.lines() {
-        let connection = line.split(' ').nth(1).unwrap_or("");
-        if !connection.contains('-') || connection.starts_with(begin.as_str()) {
-            kept.push_str(line)?;
-            kept.push_str("\n")?;
-        }
-    }
-    Ok(kept)
-}
-
-const POST_A: &str =
-    "POST /alertmanager/api/v2/alerts HTTP/1.1\r\nX-Scope-OrgID: a\r\nContent-Length: 24\r\n\r\n[{\"labels\":{\"a\":\"b\"}}]  ";
-
-const POST_B: &str =
-    "POST /alertmanager/api/v2/alerts HTTP/1.1\r\nX-Scope-OrgID: b\r\nContent-Length: 51\r\n\r\n[{\"labels\":{\"a\":\"b\"},\"annotations\":{\"team\":\"b\"}}]  ";
-
-const POST_C: &str =
-    "POST /alertmanager/api/v2/alerts HTTP/1.1\r\nX-Scope-OrgID: c\r\nContent-Length: 15\r\n\r\n[{\"labels\":{}}]";
-
-const READ_B: &str = "GET /alertmanager/api/v2/alerts HTTP/1.1\r\nX-Scope-OrgID: b\r\n\r\n";
-
-const READ_C: &str = "GET /alertmanager/api/v2/alerts HTTP/1.1\r\nX-Scope-OrgID: c\r\n\r\n";
-
-#[test]
-fn tenants_are_alone(rt: HostRuntime) -> Result<(), Fail> {
-    let alloc = rt.alloc();
-    let mut scenario = String::from_str(alloc, "at 1750000000000\ntick\n")?;
-    let posts = [
-        ("a-post", POST_A, 5),
-        ("b-post", POST_B, 7),
-        ("c-post", POST_C, 6),
-    ];
-    push_in_turns(alloc, &mut scenario, posts.as_slice())?;
-    scenario.push_str("at 1750000000500\ntick\n")?;
-    let others = [
-        ("c-read", READ_C, 4),
-        ("b-again", POST_B, 9),
-        ("a-read", READ, 3),
-    ];
-    push_in_turns(alloc, &mut scenario, others.as_slice())?;
-    let last = [("b-read", READ_B, 8), ("a-again", READ, 11)];
-    push_in_turns(alloc, &mut scenario, last.as_slice())?;
-    let (_, together) = played(alloc, scenario.as_bytes())?;
-    let together = String::from_utf8_lossy(alloc, together.as_slice())?;
-    assert_eq!(rt; together.as_str().lines().count(), 9);
-    for tenant in ["a", "b", "c"] {
-        let scenario = lines_of(alloc, scenario.as_str(), tenant)?;
-        let (end, alone) = played(alloc, scenario.as_bytes())?;
-        let among = lines_of(alloc, together.as_str(), tenant)?;
-        assert_eq!(rt; end, Played::All, "tenant {tenant}");
-        assert!(rt; among.as_bytes() == alone.as_slice(), "tenant {tenant}");
-    }
-    Ok(())
-}
-
-/// A whole request that comes at once on a connection of its own.
-fn asked(
-    alloc: Global,
-    events: &mut Vec<Event>,
-    connection: u64,
-    request: &str,
-) -> Result<(), Fail> {
-    let connection = ConnectionId::new(connection);
-    events.push(Event::Open {
-        connection,
-        instance: 1,
-    })?;
-    events.push(Event::Bytes {
-        connection,
-        moment: 1_750_000_000_000,
-        piece: Octets::read(alloc, request.as_bytes())?,
-    })?;
-    Ok(())
-}
-
-/// The reply on a connection.
-fn reply_on(world: &World, connection: u64) -> Option<&[u8]> {
-    world.outputs().iter().find_map(|output| {
-        let Output::Reply {
-            connection: answered,
-            bytes,
-        } = output;
-        (*answered == ConnectionId::new(connection)).then_some(bytes.as_slice())
-    })
-}
-
-#[test]
-fn equal_views_give_equal_outputs(rt: HostRuntime) -> Result<(), Fail> {
-    let alloc = rt.alloc();
-    let mut events = Vec::new(alloc);
-    asked(alloc, &mut events, 0, POST_A)?;
-    asked(alloc, &mut events, 1, READ)?;
-    let mut among = Vec::new(alloc);
-    asked(alloc, &mut among, 2, POST_B)?;
-    asked(alloc, &mut among, 0, POST_A)?;
-    asked(alloc, &mut among, 3, READ_B)?;
-    asked(alloc, &mut among, 1, READ)?;
-    let (world, other) = run_both(
-        alloc,
-        setup()?,
-        events.as_slice(),
-        setup()?,
-        among.as_slice(),
-    )?;
-    assert_eq!(rt; world.outputs().len(), 2);
-    assert_eq!(rt; other.outputs().len(), 4);
-    for connection in 0..2 {
-        assert!(rt;
-            reply_on(&world, connection).is_some(),
-            "connection {connection}"
-        );
-        assert!(rt;
-            reply_on(&world, connection) == reply_on(&other, connection),
-            "connection {connection}"
-        );
-    }
     Ok(())
 }

@@ -1,6 +1,6 @@
 use Rattle.std.proofs.Common.{◌≡◌, drop}
 use Rattle.am_config.specs.Completing.{webhooks_of}
-use Rattle.am_config.proofs.Fronts.{with_front}
+use Rattle.am_text.proofs.OutcomeLemmas.{with_front}
 use Rattle.am_config.proofs.completing.webhooks_of.Given as goal
 
 abbrev pub invariant-loop-draft : goal.invariant-loop-draft

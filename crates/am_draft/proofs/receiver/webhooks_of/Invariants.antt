@@ -1,7 +1,7 @@
 use Rattle.std.proofs.Common.{◌≡◌, drop}
 use Rattle.serde_json.specs.View.{items_view}
 use Rattle.am_draft.specs.Receivers.{webhooks_of}
-use Rattle.am_draft.proofs.Fronts.{with_front}
+use Rattle.am_text.proofs.OutcomeLemmas.{with_front}
 use Rattle.am_draft.proofs.receiver.webhooks_of.Given as goal
 
 abbrev pub invariant-loop-value : goal.invariant-loop-value

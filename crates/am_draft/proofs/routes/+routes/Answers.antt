@@ -13,4 +13,4 @@ push_tree-returns-in_ok-push_below-in-Object t c =
     let is = rw number at c.count_within.ensures in
     rw seen
     (tree_grown c.args.depth (members_view c.in-Object.members.entries) c.args.routes.now.items
-    c.in_ok-item-in-Object.item c.push_below.new.routes.items c.count_within.new.routes.items own below is)
+    c.in_ok-item-in-Object.item c.push_below.new.routes.items c.count_within.new.nodes.items own below is)

@@ -1,7 +1,6 @@
 use Rattle.std.proofs.Common.{◌≡◌, drop}
 use Rattle.serde_json.specs.View.{items_view, members_view}
-use Rattle.am_draft.specs.Growing.{grown}
-use Rattle.am_draft.specs.Routes.{routes_below, routes_of}
+use Rattle.am_draft.specs.Routes.{grown, routes_below, routes_of}
 use Rattle.am_draft.proofs.routes.+routes.Given as goal
 
 abbrev pub invariant-push_each-loop-item : goal.invariant-push_each-loop-item

@@ -1,16 +1,12 @@
-use Rattle.std.proofs.Common.{◌∙◌, ap, inl, inr, ⊎_elim}
+use Rattle.std.proofs.Common.{◌∙◌}
 use Rattle.std.proofs.lemmas.Result.{err_from_is_err_and}
-use Rattle.am_match.proofs.TakingLemmas.{before, several-none, several-stops, several-more}
+use Rattle.am_match.proofs.TakingLemmas.{several-none, several-fails, several-more}
 use Rattle.am_match.proofs.taking.read_several.Goals as goal
 
 pub returns-in_err-matcher : goal.returns-in_err-matcher
 returns-in_err-matcher c =
     let p = err_from_is_err_and c.from_residual.result c.from_residual.ensures.1 in
-    rw (p.1, p.2)
-    (⊎_elim (λ memory. inl memory)
-    (λ stop. inr (c.several.invariant
-    ∙ ap (before c.several.matchers.items) (several-stops _ _ _ c.several-test.true stop)))
-    c.in_err-matcher.ensures)
+    rw (p.1, p.2, c.several.invariant) (several-fails _ _ _ _ c.several-test.true c.in_err-matcher.ensures)
 
 pub several-preserved : goal.several-preserved
 several-preserved c =

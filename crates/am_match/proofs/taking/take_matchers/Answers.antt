@@ -1,6 +1,6 @@
-use Rattle.std.proofs.Common.{ap, sym, ◌∙◌, Ok, length, length-append, arith, ⊎_elim}
+use Rattle.std.proofs.Common.{ap, sym, ◌∙◌, Ok, length, length-append, arith}
 use Rattle.am_match.specs.Spelling.{spelling}
-use Rattle.am_match.proofs.RoundTrip.{taken_spells, front_cut, same_of_taken, never_taken}
+use Rattle.am_match.proofs.RoundTrip.{taken_spells, front_cut, same_of_taken, never_fails}
 use Rattle.am_match.proofs.taking.take_matchers.Goals as goal
 
 pub overflow_sub-result : goal.overflow_sub-result
@@ -24,5 +24,4 @@ returns-in-Ok-clause-written c =
 
 pub returns-in-Err-clause-written : goal.returns-in-Err-clause-written
 returns-in-Err-clause-written c =
-    λ ms written rest spells e. ⊎_elim (λ memory. memory)
-    (λ stop. absurd (never_taken c.args.bytes.now _ ms written rest stop spells e)) c.in-Err.ensures
+    λ ms written rest spells e. never_fails c.args.bytes.now _ ms written rest c.in-Err.ensures spells e

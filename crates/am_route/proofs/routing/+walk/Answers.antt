@@ -1,9 +1,10 @@
-use Rattle.std.proofs.Common.{rules, ◌≡◌, ◌∙◌, true, false, arith, sym}
+use Rattle.std.proofs.Common.{◌≡◌, ◌∙◌, true, false, arith, sym}
 use Rattle.am_route.specs.Routes.{route_takes}
 use Rattle.am_route.specs.Asked.{asked_among, asked_of}
-use Rattle.am_route.specs.Trees.{forest_of}
+use Rattle.am_draft.specs.Forests.{forest_of}
 use Rattle.am_route.proofs.AskedLemmas.{below_asked, later_asked, own_asked, passed_asked}
-use Rattle.am_route.proofs.FaultLemmas.{AreAmong, fault_of_part, handed_on}
+use Rattle.am_pattern.proofs.AskingLemmas.{grows-stays, grows-trans, stays-trans}
+use Rattle.am_route.proofs.FailureLemmas.{AreAmong, asked_on, failure_of_part, handed_on}
 use Rattle.am_route.proofs.RoutesLemmas.{head_of, passed, routes_none, taken_last, taken_on}
 use Rattle.am_route.proofs.routing.+walk.Goals as goal
 use Rattle.am_route.proofs.routing.+walk.Goals.{walk-then-branch+in_ok-enter+else-not-node, walk-else-branch}
@@ -46,8 +47,12 @@ walk-sibling-preserved t c =
             rw (w.found-is, split.back)
             (passed c.args.labels.now c.sibling.number c.sibling.rest.now c.in-Some.node.now c.in-Some.behind.now c.in-Some.ensures.cases.0 c.sibling.invariant.forest takes c.sibling.found.items ∙ c.sibling.invariant.routes)
       ];
-      kept = elim c.if-branch.branch [ walk-then-branch+in_ok-enter+else-not-node w ↦ search rules | walk-else-branch w ↦ search rules ];
-      capacity = elim c.if-branch.branch [ walk-then-branch+in_ok-enter+else-not-node w ↦ search rules | walk-else-branch w ↦ search rules ];
+      stays =
+          let first = stays-trans c.args.cache.now c.sibling.cache c.takes_all.new.cache c.sibling.invariant.stays c.in_ok-takes_all.ensures.asked in
+          elim c.if-branch.branch [
+            | walk-then-branch+in_ok-enter+else-not-node w ↦ rw w.cache-is (stays-trans c.args.cache.now c.takes_all.new.cache w.enter.new.cache first w.in_ok-enter.ensures.asked)
+            | walk-else-branch w ↦ rw w.cache-is first
+          ];
     }
 
 pub walk-returns-then-not-node-clause-routes : goal.walk-returns-then-not-node-clause-routes
@@ -60,19 +65,32 @@ pub walk-returns-in_default-clause-routes : goal.walk-returns-in_default-clause-
 walk-returns-in_default-clause-routes t c =
     sym (routes_none c.args.labels.now c.sibling.number c.sibling.rest.now c.sibling.found.items c.in_default.ensures.cases) ∙ c.sibling.invariant.routes
 
-pub walk-returns-in_err-takes_all-clause-fault : goal.walk-returns-in_err-takes_all-clause-fault
-walk-returns-in_err-takes_all-clause-fault t c =
+pub walk-returns-in_err-takes_all-clause-failure : goal.walk-returns-in_err-takes_all-clause-failure
+walk-returns-in_err-takes_all-clause-failure t c =
     let own = asked_of c.args.labels.now c.in-Some.node.now.item.matchers in
     let all = asked_among c.args.labels.now (forest_of c.args.nodes.now) in
     let among : AreAmong own all = λ matcher at. c.sibling.invariant.asked matcher (own_asked c.args.labels.now c.sibling.rest.now c.in-Some.node.now c.in-Some.behind.now c.in-Some.ensures.cases.0 c.sibling.invariant.forest matcher at) in
     handed_on _ c.from_residual.result c.in_err-takes_all.field-0.0 c.from_residual.ensures.1
-    (fault_of_part own all c.args.cache.now.refused c.takes_all.new.cache.refused c.in_err-takes_all.field-0.0 among (rw (c.as_slice.ensures, c.sibling.invariant.kept) at c.in_err-takes_all.ensures.fault))
+    (failure_of_part own all c.args.cache.now c.sibling.cache c.takes_all.new.cache c.in_err-takes_all.field-0.0 among c.sibling.invariant.stays (rw c.as_slice.ensures at c.in_err-takes_all.ensures.failure))
 
-pub walk-returns-in_err-enter-clause-fault : goal.walk-returns-in_err-enter-clause-fault
-walk-returns-in_err-enter-clause-fault t c =
+pub walk-returns-in_err-takes_all-clause-asked : goal.walk-returns-in_err-takes_all-clause-asked
+walk-returns-in_err-takes_all-clause-asked t c =
+    asked_on c.from_residual.result c.in_err-takes_all.field-0.0 c.args.cache.now c.takes_all.new.cache c.from_residual.ensures.1
+    (grows-trans c.args.cache.now c.sibling.cache c.takes_all.new.cache
+    (grows-stays c.args.cache.now c.sibling.cache c.sibling.invariant.stays) c.in_err-takes_all.ensures.asked)
+
+pub walk-returns-in_err-enter-clause-failure : goal.walk-returns-in_err-enter-clause-failure
+walk-returns-in_err-enter-clause-failure t c =
     let takes : route_takes c.in-Some.node.now.item c.args.labels.now ≡ true = rw (← c.as_slice.ensures) (sym c.in_ok-takes_all.ensures.value ∙ c.if-branch.true) in
     let among : AreAmong (asked_among c.args.labels.now (forest_of c.split_at.result.0.now)) (asked_among c.args.labels.now (forest_of c.args.nodes.now)) =
     rw c.split_at.ensures.front (λ matcher at. c.sibling.invariant.asked matcher (below_asked c.args.labels.now c.sibling.rest.now c.in-Some.node.now c.in-Some.behind.now c.in-Some.ensures.cases.0 c.sibling.invariant.forest takes matcher at)) in
-    let old : c.takes_all.new.cache.refused ≡ c.args.cache.now.refused = c.in_ok-takes_all.ensures.kept ∙ c.sibling.invariant.kept in
+    let stays = stays-trans c.args.cache.now c.sibling.cache c.takes_all.new.cache c.sibling.invariant.stays c.in_ok-takes_all.ensures.asked in
     handed_on _ c.from_residual-in_err-enter.result c.in_err-enter.field-0.0 c.from_residual-in_err-enter.ensures.1
-    (fault_of_part (asked_among c.args.labels.now (forest_of c.split_at.result.0.now)) (asked_among c.args.labels.now (forest_of c.args.nodes.now)) c.args.cache.now.refused c.enter.new.cache.refused c.in_err-enter.field-0.0 among (rw old at c.in_err-enter.ensures.fault))
+    (failure_of_part (asked_among c.args.labels.now (forest_of c.split_at.result.0.now)) (asked_among c.args.labels.now (forest_of c.args.nodes.now)) c.args.cache.now c.takes_all.new.cache c.enter.new.cache c.in_err-enter.field-0.0 among stays c.in_err-enter.ensures.failure)
+
+pub walk-returns-in_err-enter-clause-asked : goal.walk-returns-in_err-enter-clause-asked
+walk-returns-in_err-enter-clause-asked t c =
+    let stays = stays-trans c.args.cache.now c.sibling.cache c.takes_all.new.cache c.sibling.invariant.stays c.in_ok-takes_all.ensures.asked in
+    asked_on c.from_residual-in_err-enter.result c.in_err-enter.field-0.0 c.args.cache.now c.enter.new.cache c.from_residual-in_err-enter.ensures.1
+    (grows-trans c.args.cache.now c.takes_all.new.cache c.enter.new.cache
+    (grows-stays c.args.cache.now c.takes_all.new.cache stays) c.in_err-enter.ensures.asked)

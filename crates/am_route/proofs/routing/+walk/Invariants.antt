@@ -1,8 +1,9 @@
 use Rattle.std.proofs.Common.{◌≡◌, ◌+◌, ◌*◌, ◌++◌, ◌≤◌, ◌^◌, length}
+use Rattle.am_pattern.specs.Asking.{Stays}
 use Rattle.am_route.specs.Asked.{asked_among}
 use Rattle.am_route.specs.Routes.{routes_among}
-use Rattle.am_route.specs.Trees.{IsForest, forest_of}
-use Rattle.am_route.proofs.FaultLemmas.{AreAmong}
+use Rattle.am_draft.specs.Forests.{IsForest, forest_of}
+use Rattle.am_route.proofs.FailureLemmas.{AreAmong}
 use Rattle.am_route.proofs.routing.+walk.Given as goal
 
 abbrev pub decreases-enter : goal.decreases-enter
@@ -19,8 +20,7 @@ invariant-walk-sibling l =
       asked : AreAmong (asked_among l.labels (forest_of l.rest)) (asked_among l.labels (forest_of l.nodes));
       shorter : length l.rest ≤ length l.nodes;
       routes : l.found.items ++ routes_among l.labels l.number (forest_of l.rest) ≡ l.fn.found.items ++ routes_among l.labels l.first (forest_of l.nodes);
-      kept : l.cache.refused ≡ l.fn.cache.refused;
-      capacity : l.cache.capacity ≡ l.fn.cache.capacity;
+      stays : Stays l.fn.cache l.cache;
     }
 
 abbrev pub decreases-walk-sibling : goal.decreases-walk-sibling

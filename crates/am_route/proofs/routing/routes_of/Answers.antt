@@ -1,12 +1,13 @@
 use Rattle.std.proofs.Common.{◌∙◌, sym}
 use Rattle.am_route.proofs.AskedLemmas.{asked_of_tree, patterns_asked_at}
-use Rattle.am_route.proofs.FaultLemmas.{error_left, handed_on}
+use Rattle.am_match.specs.Asking.{IsFailureAmong}
+use Rattle.am_match.proofs.NarrowLemmas.{memory_alone}
+use Rattle.am_route.proofs.FailureLemmas.{handed_on, patterns_had}
 use Rattle.am_route.proofs.PlacesLemmas.{places_at, some_at}
 use Rattle.am_route.proofs.RoutesLemmas.{no_empty_tree, routes_of_tree}
 use Rattle.am_route.proofs.routing.routes_of.Goals as goal
 use Rattle.am_route.proofs.routing.routes_of.Goals.{in-Some+in_ok-enter, in_default}
 use Rattle.am_route.specs.Asked.{asked_at}
-use Rattle.am_route.specs.Faults.{IsAskingFault}
 
 pub returns-clause-routes : goal.returns-clause-routes
 returns-clause-routes c =
@@ -28,18 +29,19 @@ returns-clause-some c =
     rw (returns-clause-routes c) (some_at c.args.labels.now c.args.config.now.routes c.routes.ensures.tree)
 
 -- what is asked below the root is all that is asked
-fault_is : (c : goal.After-drop-found) → IsAskingFault (asked_at c.args.labels.now c.args.config.now.routes) c.args.cache.now.refused c.in_err-enter.field-0.0 c.enter.new.cache.refused
-fault_is c =
+failure_is : (c : goal.After-drop-found) → IsFailureAmong (asked_at c.args.labels.now c.args.config.now.routes) c.args.cache.now c.enter.new.cache c.in_err-enter.field-0.0
+failure_is c =
     let first = sym c.routes.ensures.routes ∙ c.in-Some.ensures.cases.0 in
     rw (← asked_of_tree c.args.labels.now c.args.config.now.routes c.in-Some._root.now c.in-Some.within.now first c.routes.ensures.tree)
-    c.in_err-enter.ensures.fault
+    c.in_err-enter.ensures.failure
 
-pub returns-in_err-enter-clause-fault : goal.returns-in_err-enter-clause-fault
-returns-in_err-enter-clause-fault c =
-    handed_on _ c.from_residual.result c.in_err-enter.field-0.0 c.from_residual.ensures.1 (fault_is c)
+pub returns-in_err-enter-clause-failure : goal.returns-in_err-enter-clause-failure
+returns-in_err-enter-clause-failure c =
+    handed_on _ c.from_residual.result c.in_err-enter.field-0.0 c.from_residual.ensures.1 (failure_is c)
 
 pub returns-in_err-enter-clause-meaning : goal.returns-in_err-enter-clause-meaning
 returns-in_err-enter-clause-meaning c rightly =
+    let asked = asked_at c.args.labels.now c.args.config.now.routes in
     handed_on _ c.from_residual.result c.in_err-enter.field-0.0 c.from_residual.ensures.1
-    (error_left (asked_at c.args.labels.now c.args.config.now.routes) c.args.cache.now.refused c.enter.new.cache.refused c.in_err-enter.field-0.0
-    (patterns_asked_at c.args.labels.now c.args.config.now.routes c.routes.ensures.tree c.routes.ensures.configured.patterns) (fault_is c) rightly)
+    (memory_alone asked c.args.cache.now c.enter.new.cache c.in_err-enter.field-0.0 (failure_is c)
+    (patterns_had asked (patterns_asked_at c.args.labels.now c.args.config.now.routes c.routes.ensures.tree c.routes.ensures.configured.patterns)) rightly)

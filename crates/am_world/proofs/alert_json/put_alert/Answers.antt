@@ -13,7 +13,8 @@ returns c =
     after c.moment_member.new.self _ _ c.in_ok-fingerprint_member.ensures (
     after c.fingerprint_member.new.self _ _ c.in_ok-text_member.ensures (
     after c.text_member.new.self _ _ c.in_ok-labels_member.ensures (
-    after c.labels_member.new.self _ _ c.in_ok-put_receivers.ensures (
+    after c.labels_member.new.self _ _ c.in_ok-key.ensures (
+    after c.key.new.self _ _ c.in_ok-put_receivers.ensures (
     after c.put_receivers.new.text _ _ c.in_ok-moment_member-2.ensures (
     after c.moment_member-2.new.self _ _ c.in_ok-put_status.ensures (
-    after c.put_status.new.text _ _ c.in_ok-moment_member-3.ensures e)))))))))) c.end_object.ensures
+    after c.put_status.new.text _ _ c.in_ok-moment_member-3.ensures e))))))))))) c.end_object.ensures

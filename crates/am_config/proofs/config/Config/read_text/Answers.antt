@@ -1,12 +1,20 @@
-use Rattle.std.proofs.Common.{Ok}
-use Rattle.am_config.proofs.Judgements.{meant, text_of}
+use Rattle.std.proofs.Common.{rules}
+use Rattle.am_draft.specs.Drafts.{draft_in}
+use Rattle.am_config.proofs.Judgements.{meant, result_meant, text_of}
 use Rattle.am_config.proofs.config.Config.read_text.Goals as goal
+
+pub returns-clause-again : goal.returns-clause-again
+returns-clause-again c = search rules
+
+pub returns-clause-failure : goal.returns-clause-failure
+returns-clause-failure c = search rules
+
+pub returns-clause-ok : goal.returns-clause-ok
+returns-clause-ok c = result_meant (draft_in c.args.text.now) c.judged.result (returns-clause-again c)
+
+pub returns-clause-text : goal.returns-clause-text
+returns-clause-text c = text_of c.args.text.now c.judged.result (returns-clause-again c)
 
 pub returns-clause-meaning : goal.returns-clause-meaning
 returns-clause-meaning c =
-    rw c.in_ok-draft.ensures.draft
-    (meant c.args.cache.now.refused c.judged.new.cache.refused (Ok c.in_ok-draft.draft) c.judged.result c.judged.ensures.ok c.judged.ensures.fault)
-
-pub returns-clause-text : goal.returns-clause-text
-returns-clause-text c =
-    rw (← c.in_ok-draft.ensures.text) (text_of c.in_ok-draft.draft c.judged.result c.judged.ensures.ok)
+    meant c.args.cache.now c.judged.new.cache (draft_in c.args.text.now) c.judged.result (returns-clause-ok c) (returns-clause-failure c)

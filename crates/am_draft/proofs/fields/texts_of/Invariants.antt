@@ -1,9 +1,0 @@
-use Rattle.std.proofs.Common.{◌≡◌, drop}
-use Rattle.serde_json.specs.View.{items_view}
-use Rattle.am_draft.specs.Fields.{texts_of}
-use Rattle.am_draft.proofs.Fronts.{with_front}
-use Rattle.am_draft.proofs.fields.texts_of.Given as goal
-
-abbrev pub invariant-loop-value : goal.invariant-loop-value
-invariant-loop-value l =
-    with_front l.texts.items (texts_of (items_view (drop l.value-index l.values))) ≡ texts_of (items_view l.values)

@@ -1,8 +1,0 @@
-use Rattle.std.proofs.Common.{◌-◌, arith}
-use Rattle.am_draft.proofs.Counted.{counted_set}
-use Rattle.am_draft.proofs.routes.count_within.Goals as goal
-
-pub returns : goal.returns
-returns c =
-    counted_set c.args.routes.now.items c.args.number c.index_mut.result.now (c.len.result - c.args.number - 1)
-    (omega (arith, c.len.ensures, c.requires)) c.index_mut.ensures.value

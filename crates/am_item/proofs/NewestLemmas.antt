@@ -1,0 +1,34 @@
+-- What a map holds of its keys, once a value stands under one of them.
+use Rattle.std.proofs.Common.{◌≡◌, Bool, true, false, cond, List, Option, Some, Ordering, refl, sym, ap, ◌∙◌}
+use Rattle.std.specs.BTreeMap.{BTreeMap, get, is_at}
+use Rattle.std.specs.Map.{lookup}
+use Rattle.std.specs.Cmp.{Equal-is, IsTotalOrder}
+use Rattle.std.specs.Ordering.{is_eq, is_gt}
+use Rattle.std.proofs.lemmas.Bool.{cond-true}
+use Rattle.am_item.specs.Newest.{newest}
+use Rattle.am_item.specs.Stamp.{stamp_cmp}
+use Rattle.am_item.specs.declared.stamp.Stamped.{Stamped}
+use Rattle.am_item.proofs.Tallies.{lookup_agree}
+
+-- a value with a greater stamp takes the place of the one that is held
+pub newest_exceeds : {V : Type 0} (held value : Stamped V) → is_gt (stamp_cmp value.stamp held.stamp) ≡ true → newest (Some held) value ≡ Some value
+newest_exceeds held value exceeds = cond-true _ (Some value) (Some held) exceeds
+
+module _ {K V : Type 0} {cmp : K → K → Ordering} (total : IsTotalOrder cmp) where
+  under : (b : Bool) (x y z : Option (Stamped V)) → (b ≡ true → x ≡ y) → cond b x z ≡ cond b y z
+  under true x y z same = same refl
+  under false x y z same = refl
+
+  -- equal keys find the same
+  get_equal : (m : BTreeMap K (Stamped V)) (k q : K) → is_at (cmp k) q ≡ true → get cmp m k ≡ get cmp m q
+  get_equal m k q at = lookup_agree (is_at (cmp k)) (is_at (cmp q)) (λ x. ap is_eq (total.congr k q x ((Equal-is (cmp k q)).0 at))) m.entries
+
+  -- a value that is written under a key and is the newest there is the newest under each equal key
+  pub newest_written : (m : BTreeMap K (Stamped V)) (entries : List (K × Stamped V)) (written : BTreeMap K (Stamped V)) (key : K) (value : Stamped V)
+      → newest (get cmp m key) value ≡ Some value
+      → ((q : K) → get cmp written q ≡ cond (is_at (cmp key) q) (Some value) (get cmp m q)) → entries ≡ written.entries
+      → (q : K) → lookup (is_at (cmp q)) entries ≡ cond (is_at (cmp key) q) (newest (get cmp m q) value) (get cmp m q)
+  newest_written m entries written key value best gets is q =
+      ap (lookup (is_at (cmp q))) is ∙ gets q
+      ∙ under (is_at (cmp key) q) (Some value) (newest (get cmp m q) value) (get cmp m q)
+        (λ at. sym best ∙ ap (λ o. newest o value) (get_equal m key q at))

@@ -1,0 +1,47 @@
+-- Which patterns a cache keeps built, and what they take.
+use Rattle.std.specs.Prelude.{◌≡◌, ℕ, ◌+◌, ◌^◌, ◌<◌, ◌≤◌, true, ◌∷◌, List, All, Bool, Result, Ok, Err, map, take, length}
+use Rattle.std.specs.List.{sum_by}
+use Rattle.std.specs.Set.{remove_key}
+use Rattle.std.specs.Str.{bytes_eq}
+use Rattle.am_text.specs.declared.failure.Failure.{Failure}
+use Rattle.am_pattern.specs.declared.refusal.PatternRefusal.{PatternRefusal}
+use Rattle.am_pattern.specs.Taking.{anchored, is_shallow}
+
+-- of these texts the first `capacity`, once p was asked: p is the first, and the others follow as they stood
+abbrev pub asked_first : ℕ → List (List ℕ) → List ℕ → List (List ℕ)
+asked_first capacity texts p = take capacity (p ∷ remove_key (bytes_eq p) texts)
+
+-- the patterns that are kept after an answer: an error changes nothing
+abbrev pub kept_after : ℕ → List (List ℕ) → List ℕ → Result Bool (Failure PatternRefusal) → List (List ℕ)
+kept_after capacity texts p (Ok _) = asked_first capacity texts p
+kept_after capacity texts p (Err _) = texts
+
+-- how many bytes the tables of one built pattern may take
+abbrev pub largest : ℕ
+largest = 2 ^ 20 + 24
+
+-- what a regex was built of, and how many bytes its tables take
+pub record Compiled : Type 0 where
+  pub source : List ℕ
+  pub size : ℕ
+
+module _ {K : Type 0} (text : K → List ℕ) where
+  -- the texts of the entries
+  abbrev pub texts_of : List (K × Compiled) → List (List ℕ)
+  texts_of entries = map (λ e. text e.0) entries
+
+  -- a regex was built for the text that is its key
+  pub record IsBuiltFor (e : K × Compiled) : Type 0 where
+    pub shallow : is_shallow (text e.0) ≡ true
+    pub source : e.1.source ≡ anchored (text e.0)
+    pub small : e.1.size ≤ largest
+
+  -- each was, and there are no more than fit
+  pub record IsSound (entries : List (K × Compiled)) (capacity : ℕ) : Type 0 where
+    pub built : All IsBuiltFor entries
+    pub fits : length entries ≤ capacity
+    pub room : 0 < capacity
+
+-- how many bytes their tables take
+abbrev pub size_of : {K : Type 0} → List (K × Compiled) → ℕ
+size_of entries = sum_by (λ e. e.1.size) entries

@@ -1,0 +1,14 @@
+pub mod Compiled
+pub mod RowLists
+pub mod Statements
+pub mod Latest
+pub mod Spelled
+pub mod Kept
+pub mod Stores
+pub mod Calls
+pub mod Reached
+pub mod Gone
+pub mod Commits
+pub mod Readings
+pub mod Puts
+pub mod RowsOf

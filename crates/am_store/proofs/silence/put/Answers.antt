@@ -1,0 +1,55 @@
+use Rattle.std.proofs.Common.{◌≡◌, [], ◌∷◌, true, false, sym, ap, subst, ◌∙◌}
+use Rattle.std.specs.List.{list_any}
+use Rattle.std.proofs.lemmas.Result.{on_ok_weaker}
+use Rattle.sqlite.specs.declared.types.Value.TheVariants.{Text}
+use Rattle.sqlite.specs.Held.{state}
+use Rattle.am_store.specs.Reading.{reached}
+use Rattle.am_store.specs.Rows.{IsStore, id_text}
+use Rattle.am_store.specs.Steps.{TakesOut}
+use Rattle.am_store.specs.Stored.{SilenceWords, silence_text, stamped}
+use Rattle.am_store.specs.Where.{hit, of_silence}
+use Rattle.am_store.proofs.Calls.{clean_before}
+use Rattle.am_store.proofs.Reached.{silence_reached}
+use Rattle.am_store.proofs.Stores.{silence_stores, stays}
+use Rattle.am_store.proofs.silence.put.Goals as goal
+
+pub returns-then-branch-clause-ok : goal.returns-then-branch-clause-ok
+returns-then-branch-clause-ok g c clean store =
+    let old = state g.S.Store c.args.tx.now.conn.now in
+    let new = state g.S.Store c.stamps.new.tx.conn.now in
+    let got = c.in_ok-rows.ensures.ok clean store in
+    let told = silence_reached old.now store c.args.tenant.now c.args.stamp.now c.in_ok-rows.rows.items c.args.silence.now.id c.text_of-id.ensures.back (rw c.text_of-id.ensures.text at got.1) in
+    let yes_it_is : list_any (reached c.args.stamp.now) c.in_ok-rows.rows.items ≡ true =
+    ap (list_any (reached c.args.stamp.now)) (sym c.deref-2.ensures.value) ∙ sym c.in_ok-is_reached.ensures ∙ c.if-branch.true in
+    stays old.now new.now c.args.tenant.now (stamped c.args.stamp.now (SilenceWords (silence_text c.args.silence.now))) store got.0.0.now_is (told ∙ yes_it_is)
+
+pub returns-clause-ok : goal.returns-clause-ok
+returns-clause-ok g c clean store =
+    let old = state g.S.Store c.args.tx.now.conn.now in
+    let read = state g.S.Store c.stamps.new.tx.conn.now in
+    let mid = state g.S.Store c.take_out.new.tx.conn.now in
+    let new = state g.S.Store c.put_in.new.tx.conn.now in
+    let clean_mid = clean_before mid new _ c.put_in.ensures.survives clean in
+    let clean_read = clean_before read mid _ c.take_out.ensures.survives clean_mid in
+    let got = c.in_ok-rows.ensures.ok clean_read store in
+    let same = got.0.0.now_is in
+    let told = silence_reached old.now store c.args.tenant.now c.args.stamp.now c.in_ok-rows.rows.items c.args.silence.now.id c.text_of-id.ensures.back (rw c.text_of-id.ensures.text at got.1) in
+    let none : list_any (reached c.args.stamp.now) c.in_ok-rows.rows.items ≡ false =
+    ap (list_any (reached c.args.stamp.now)) (sym c.deref-2.ensures.value) ∙ sym c.in_ok-is_reached.ensures ∙ c.if-branch.false in
+    let out : TakesOut 3 (hit of_silence (Text c.args.tenant.now ∷ Text (id_text c.args.silence.now.id) ∷ [])) old.now mid.now =
+    subst (λ db. TakesOut 3 (hit of_silence (Text c.args.tenant.now ∷ Text (id_text c.args.silence.now.id) ∷ [])) db mid.now) same (rw c.text_of-id.ensures.text at (c.in_ok-take_out.ensures.ok clean_mid (subst IsStore (sym same) store))) in
+    on_ok_weaker c.put_in.result
+    (λ put. silence_stores old.now mid.now new.now c.args.tenant.now c.args.stamp.now (silence_text c.args.silence.now) store c.put_in.ensures.name c.requires.stamp c.requires.silence out put (told ∙ none))
+    (c.put_in.ensures.ok clean out.schema)
+
+pub returns-then-branch-clause-inside : goal.returns-then-branch-clause-inside
+returns-then-branch-clause-inside g c clean store = λ was. (c.in_ok-rows.ensures.ok clean store).0.0.mode ∙ was
+
+pub returns-clause-inside : goal.returns-clause-inside
+returns-clause-inside g c clean store =
+    let read = state g.S.Store c.stamps.new.tx.conn.now in
+    let mid = state g.S.Store c.take_out.new.tx.conn.now in
+    let new = state g.S.Store c.put_in.new.tx.conn.now in
+    let clean_mid = clean_before mid new _ c.put_in.ensures.survives clean in
+    let clean_read = clean_before read mid _ c.take_out.ensures.survives clean_mid in
+    on_ok_weaker c.put_in.result (λ go was. go (c.in_ok-take_out.ensures.inside clean_mid (c.in_ok-rows.ensures.inside clean_read store was))) (c.put_in.ensures.inside clean)

@@ -1,0 +1,10 @@
+pub mod Codes
+pub mod Tables
+pub mod Texts
+pub mod Where
+pub mod Apart
+pub mod Stored
+pub mod Rows
+pub mod Reading
+pub mod Steps
+pub mod Kept

@@ -1,0 +1,34 @@
+-- How rows are read.
+use Rattle.std.specs.Prelude.{◌≡◌, ◌+◌, ℕ, pos, Bool, not, List, Some}
+use Rattle.sqlite.specs.declared.types.Value.TheVariants.{Int}
+use Rattle.sqlite.specs.Order.{Row, column}
+use Rattle.am_item.specs.declared.stamp.Stamp.{Stamp}
+use Rattle.am_item.specs.Stamp.{stamp_cmp}
+use Rattle.std.specs.Ordering.{is_gt}
+use Rattle.am_item.specs.declared.item.Item.{Item}
+use Rattle.am_store.specs.Rows.{IsConfig, IsSilenceRow, IsStamp, config_in, silence_in, stamp_at}
+use Rattle.am_store.specs.Stored.{stored_item}
+
+-- from this place on four columns hold a stamp
+pub record HasStamp (row : Row) (at : ℕ) (s : Stamp) : Type 0 where
+  pub moment : column row at ≡ Int (pos s.moment)
+  pub instance : column row (at + 1) ≡ Int (pos s.instance)
+  pub incarnation : column row (at + 2) ≡ Int (pos s.incarnation)
+  pub count : column row (at + 3) ≡ Int (pos s.count)
+  pub stamp : IsStamp s
+
+-- the stamp doesn't exceed that of the row's first four columns
+abbrev pub reached : Stamp → Row → Bool
+reached stamp row = not (is_gt (stamp_cmp stamp (stamp_at row 0)))
+
+-- the row is that of a configuration of this tenant, which is this item
+pub record ReadsConfig (row : Row) (tenant : List ℕ) (item : Item) : Type 0 where
+  pub is : IsConfig row
+  pub tenant_is : (config_in row).0 ≡ tenant
+  pub item_is : stored_item item ≡ Some (config_in row).1
+
+-- the row is that of a silence of this tenant, which is this item
+pub record ReadsSilence (row : Row) (tenant : List ℕ) (item : Item) : Type 0 where
+  pub is : IsSilenceRow row
+  pub tenant_is : (silence_in row).0 ≡ tenant
+  pub item_is : stored_item item ≡ Some (silence_in row).1

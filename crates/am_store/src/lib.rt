@@ -1,0 +1,18 @@
+//! The store of an instance: the configurations and silences of its tenants, kept in a database.
+//!
+//! Two parts are missing. Nothing opens a database as a store, which is to make the tables of a blank one, and to
+//! refuse one with another schema or with rows that are no items. And nothing lists the tenants of a store.
+#![tactic(auto)]
+
+mod commit;
+mod config;
+mod numbers;
+mod reading;
+mod refusal;
+mod rows;
+mod silence;
+mod stamps;
+mod store;
+
+pub use refusal::StoreRefusal;
+pub use store::Store;

@@ -1,0 +1,156 @@
+//! The store.
+
+ghost use Rattle.std.specs.Prelude.{◌≡◌, All, IfOk, IsTrue, OnErr, OnOk};
+ghost use Rattle.std.specs.List.Sorted.{IsPermutation};
+ghost use Rattle.sqlite.specs.Held.{state};
+ghost use Rattle.sqlite.specs.State.{HasCleanDisk, Survives};
+ghost use Rattle.am_item.specs.Key.{SilenceKey};
+ghost use Rattle.am_share.specs.Pairs.{things_of};
+ghost use Rattle.am_store.specs.Rows.{IsFit, IsStore, pairs_in};
+ghost use Rattle.am_store.specs.Steps.{Commits, Empties, IsSame, Leaves, Removes, Stores};
+ghost use Rattle.am_store.specs.Stored.{stored_items};
+
+use crate::refusal::{StoreRefusal, failure_of};
+use crate::{commit, rows};
+use am_item::{Item, SilenceId};
+use am_share::{ShareRefusal, Shared};
+use am_tenant::TenantName;
+use am_text::Failure;
+use sqlite::{Alter, Connection};
+use std::alloc::Global;
+use std::marker::Model;
+
+/// The configurations and silences of all tenants, in a database. What is said of it holds as long as the disk has
+/// returned what was written; and of a call that a failure of the disk shut it in, only what a crash may leave.
+pub struct Store<S: Alter> {
+    conn: Connection<S>,
+}
+
+impl<S: Alter> Model for Store<S> {
+    ghost use Rattle.sqlite.specs.Held.{Held, held_code};
+    ghost use Rattle.std.specs.Prelude.{◌≡◌, false};
+
+    ghost Value = { Held S };
+
+    ghost coded = { held_code S.code };
+
+    ghost view = { λ store. store.conn };
+
+    ghost invariant = { λ store. store.conn.in_transaction ≡ false };
+}
+
+impl<S: Alter> Store<S> {
+    /// The store's connection, as it is.
+    pub fn into_connection(self) -> Connection<S>
+        ensures { result ≡ self }
+    {
+        let Store { conn } = self;
+        conn
+    }
+
+    /// Puts items of a tenant and commits them, all or none: a configuration or silence takes its key's place, unless
+    /// one is there whose stamp is no smaller. Alerts and sent entries are passed over. Other tenants' rows stay.
+    ///
+    /// # Errors
+    /// `F2`, or out of memory. All rows stay; where it shut the store, they are as before or as committed.
+    pub fn put(
+        &mut self,
+        alloc: Global,
+        tenant: &TenantName,
+        items: &[Item],
+    ) -> Result<(), Failure<StoreRefusal>>
+        requires { All IsFit items.now }
+        ensures put { HasCleanDisk (state S.Store self.new) → IsStore (state S.Store self.old).now
+            → OnOk result (Commits (Stores tenant.now (stored_items items.now)) (state S.Store self.old)
+            (state S.Store self.new)) }
+        ensures err { HasCleanDisk (state S.Store self.new) → IsStore (state S.Store self.old).now
+            → IsTrue (state S.Store self.new).is_open
+            → OnErr result (IsSame (state S.Store self.old) (state S.Store self.new)) }
+        ensures crash { Survives (state S.Store self.old) (state S.Store self.new)
+            (Leaves (Stores tenant.now (stored_items items.now)) (state S.Store self.old)) }
+    {
+        match commit::put(alloc, &mut self.conn, tenant, items) {
+            Ok(()) => Ok(()),
+            Err(error) => Err(failure_of(error)),
+        }
+    }
+
+    /// What is stored of a tenant, configuration and silences, each row once, in any order.
+    ///
+    /// # Errors
+    /// `F2`, `F3` for a row that is no item of a tenant, or out of memory.
+    pub fn rows_of(
+        &mut self,
+        alloc: Global,
+        tenant: &TenantName,
+    ) -> Result<Vec<Item>, Failure<StoreRefusal>>
+        ensures rows { HasCleanDisk (state S.Store self.new) → IsStore (state S.Store self.old).now
+            → IfOk result (λ items. IsPermutation (things_of tenant.now (pairs_in (state S.Store self.old).now.trees))
+            (stored_items items.items)) }
+        ensures same { HasCleanDisk (state S.Store self.new) → IsStore (state S.Store self.old).now
+            → OnOk result ((state S.Store self.new).now ≡ (state S.Store self.old).now) }
+    {
+        rows::rows_of(alloc, &mut self.conn, tenant)
+    }
+
+    /// Drops a silence of a tenant, and commits that. All other rows stay.
+    ///
+    /// # Errors
+    /// As of [`Store::put`].
+    pub fn drop_silence(
+        &mut self,
+        tenant: &TenantName,
+        id: &SilenceId,
+    ) -> Result<(), Failure<StoreRefusal>>
+        ensures dropped { HasCleanDisk (state S.Store self.new) → IsStore (state S.Store self.old).now
+            → OnOk result (Commits (Removes tenant.now (SilenceKey id.now)) (state S.Store self.old)
+            (state S.Store self.new)) }
+        ensures err { HasCleanDisk (state S.Store self.new) → IsStore (state S.Store self.old).now
+            → IsTrue (state S.Store self.new).is_open
+            → OnErr result (IsSame (state S.Store self.old) (state S.Store self.new)) }
+        ensures crash { Survives (state S.Store self.old) (state S.Store self.new)
+            (Leaves (Removes tenant.now (SilenceKey id.now)) (state S.Store self.old)) }
+    {
+        match commit::drop_silence(&mut self.conn, tenant, id) {
+            Ok(()) => Ok(()),
+            Err(error) => Err(failure_of(error)),
+        }
+    }
+
+    /// Drops all rows of a tenant, and commits that. Other tenants' rows stay.
+    ///
+    /// # Errors
+    /// As of [`Store::put`].
+    pub fn drop_tenant(&mut self, tenant: &TenantName) -> Result<(), Failure<StoreRefusal>>
+        ensures dropped { HasCleanDisk (state S.Store self.new) → IsStore (state S.Store self.old).now
+            → OnOk result (Commits (Empties tenant.now) (state S.Store self.old) (state S.Store self.new)) }
+        ensures err { HasCleanDisk (state S.Store self.new) → IsStore (state S.Store self.old).now
+            → IsTrue (state S.Store self.new).is_open
+            → OnErr result (IsSame (state S.Store self.old) (state S.Store self.new)) }
+        ensures crash { Survives (state S.Store self.old) (state S.Store self.new)
+            (Leaves (Empties tenant.now) (state S.Store self.old)) }
+    {
+        match commit::drop_tenant(&mut self.conn, tenant) {
+            Ok(()) => Ok(()),
+            Err(error) => Err(failure_of(error)),
+        }
+    }
+}
+
+impl<S: Alter> Shared for Store<S> {
+    ghost use Rattle.am_store.specs.Kept.{Stands};
+    ghost use Rattle.am_store.specs.Stored.{Stored};
+
+    ghost Thing = { Stored };
+
+    ghost pairs = { λ store. pairs_in (state S.Store store).now.trees };
+
+    ghost stands = { Stands S.Store };
+
+    fn drop_tenant(&mut self, tenant: &TenantName) -> Result<(), Failure<ShareRefusal>> {
+        match self.drop_tenant(tenant) {
+            Ok(()) => Ok(()),
+            Err(failure) => Err(failure.refuse_as(ShareRefusal::Database)),
+        }
+    }
+}

@@ -1,0 +1,10 @@
+pub mod Numbers
+pub mod Several
+pub mod Rising
+pub mod Written
+pub mod Tenants
+pub mod Framed
+pub mod FieldsAgain
+pub mod LabelsAgain
+pub mod ItemsAgain
+pub mod MessagesAgain

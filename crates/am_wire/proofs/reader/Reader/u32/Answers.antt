@@ -1,0 +1,7 @@
+use Rattle.am_wire.proofs.Numbers.{found_4}
+use Rattle.am_wire.proofs.reader.Reader.u32.Goals as goal
+
+pub returns-clause-found : goal.returns-clause-found
+returns-clause-found c =
+    found_4 c.args.self.now c.in_ok-field.field.now c.bytes.new.self c.read_u32.result c.in_ok-field.ensures.bytes
+    c.in_ok-field.ensures.found c.in_ok-field.ensures.length c.read_u32.ensures

@@ -1,0 +1,23 @@
+//! The bytes of messages between instances.
+#![tactic(auto)]
+
+mod decoding;
+mod encoding;
+mod kinds;
+pub mod laws;
+mod message;
+mod read_items;
+mod read_labels;
+mod reader;
+mod refusal;
+mod write_fields;
+mod write_items;
+mod write_labels;
+
+pub use decoding::decode;
+pub use encoding::encode;
+pub use message::{Body, Message};
+pub use refusal::{EncodeRefusal, WireRefusal};
+
+#[cfg(test)]
+mod tests;

@@ -1,9 +1,0 @@
-use Rattle.std.proofs.Common.{refl}
-use Rattle.am_item.specs.Book.{items_of}
-use Rattle.am_item.specs.Counts.{count_of}
-use Rattle.am_world.specs.Places.{local_in}
-use Rattle.am_world.proofs.instance.Instance.stop.Goals as goal
-
-pub returns-clause-local : goal.returns-clause-local
-unfolding local_in items_of count_of
-returns-clause-local c t = rw (c.new.ensures, c.new-2.ensures) refl
