@@ -7,7 +7,7 @@ use Rattle.am_text.specs.Moment.{greatest_moment}
 use Rattle.am_labels.specs.declared.Label.{Label}
 use Rattle.am_labels.specs.Labels.{labels_cmp}
 use Rattle.am_item.specs.declared.fault.Fault.{Fault}
-use Rattle.am_item.specs.declared.fault.Fault.TheVariants.{CountsExhausted, OutOfMemory}
+use Rattle.am_item.specs.declared.fault.Fault.TheVariants.{CountsExhausted, OutOfMemory, PatternNotBuilt}
 use Rattle.am_item.specs.declared.item.Alert.{Alert}
 use Rattle.am_item.specs.declared.item.Item.{Item}
 use Rattle.am_item.specs.declared.item.Thing.TheVariants as thing
@@ -72,3 +72,4 @@ abbrev pub MakesItems : Result (Vec Item) Fault → List Item → Type 0
 MakesItems (Ok v) items = (v.items ≡ items) × (counts_fit items ≡ true)
 MakesItems (Err CountsExhausted) items = counts_fit items ≡ false
 MakesItems (Err OutOfMemory) items = Unit {0}
+MakesItems (Err PatternNotBuilt) items = ⊥

@@ -13,6 +13,9 @@ pub enum Fault {
     /// A count of a tenant would pass [`crate::GREATEST_COUNT`].
     #[error("no count is left")]
     CountsExhausted,
+    /// A pattern that a tenant's stored configuration uses was refused its build.
+    #[error("a stored pattern was not built")]
+    PatternNotBuilt,
 }
 
 impl From<AllocError> for Fault {

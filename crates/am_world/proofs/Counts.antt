@@ -23,6 +23,7 @@ pub counted_after : {A : Type 0} (fault : Fault) (result : Result A Fault) (deci
 counted_after fault (Ok x) decision is known = absurd is
 counted_after faults.CountsExhausted (Err e) decision is known = rw is known
 counted_after faults.OutOfMemory (Err e) decision is known = rw is tt
+counted_after faults.PatternNotBuilt (Err e) decision is known = absurd known
 
 -- a fault that is handed on
 pub counted_same : {A : Type 0} (fault : Fault) (result : Result A Fault) (fit : Bool) → IsErrAnd result (λ e. e ≡ fault) →
@@ -30,6 +31,7 @@ pub counted_same : {A : Type 0} (fault : Fault) (result : Result A Fault) (fit :
 counted_same fault (Ok x) fit is known = absurd is
 counted_same faults.CountsExhausted (Err e) fit is known = rw is known
 counted_same faults.OutOfMemory (Err e) fit is known = rw is tt
+counted_same faults.PatternNotBuilt (Err e) fit is known = absurd known
 
 -- ---- room for the stamps of a decision
 

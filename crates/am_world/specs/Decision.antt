@@ -10,7 +10,7 @@ use Rattle.am_item.specs.declared.item.Alert.{Alert}
 use Rattle.am_item.specs.declared.item.Item.{Item}
 use Rattle.am_alert.specs.declared.refusal.PostedRefusal.{PostedRefusal}
 use Rattle.am_item.specs.declared.fault.Fault.{Fault}
-use Rattle.am_item.specs.declared.fault.Fault.TheVariants.{CountsExhausted, OutOfMemory}
+use Rattle.am_item.specs.declared.fault.Fault.TheVariants.{CountsExhausted, OutOfMemory, PatternNotBuilt}
 use Rattle.am_alert.specs.declared.maker.Maker.{Maker}
 use Rattle.am_alert.specs.Held.{firing}
 use Rattle.am_alert.specs.Made.{made, counts_fit}
@@ -85,3 +85,4 @@ abbrev pub Decides : Result Decided Fault → Decision → Type 0
 Decides (Ok d) decision = (decision_of d ≡ decision) × (counts_fit decision.items ≡ true)
 Decides (Err CountsExhausted) decision = counts_fit decision.items ≡ false
 Decides (Err OutOfMemory) decision = Unit {0}
+Decides (Err PatternNotBuilt) decision = ⊥

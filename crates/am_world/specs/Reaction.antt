@@ -11,7 +11,7 @@ use Rattle.am_http.specs.declared.request.Request.{Request}
 use Rattle.am_item.specs.declared.item.Item.{Item}
 use Rattle.am_item.specs.Best.{all_joined}
 use Rattle.am_item.specs.declared.fault.Fault.{Fault}
-use Rattle.am_item.specs.declared.fault.Fault.TheVariants.{OutOfMemory, CountsExhausted}
+use Rattle.am_item.specs.declared.fault.Fault.TheVariants.{OutOfMemory, CountsExhausted, PatternNotBuilt}
 use Rattle.am_tenant.specs.Names.{same}
 use Rattle.am_world.specs.declared.event.Output.{Output}
 use Rattle.am_world.specs.declared.event.Output.TheVariants.{Reply}
@@ -123,3 +123,4 @@ abbrev pub Counted : {A : Type 0} → Result A Fault → Bool → Type 0
 Counted (Ok x) fit = fit ≡ true
 Counted (Err CountsExhausted) fit = fit ≡ false
 Counted (Err OutOfMemory) fit = Unit {0}
+Counted (Err PatternNotBuilt) fit = ⊥
