@@ -31,4 +31,4 @@ module _ {K V : Type 0} {cmp : K → K → Ordering} (total : IsTotalOrder cmp) 
   newest_written m entries written key value best gets is q =
       ap (lookup (is_at (cmp q))) is ∙ gets q
       ∙ under (is_at (cmp key) q) (Some value) (newest (get cmp m q) value) (get cmp m q)
-        (λ at. sym best ∙ ap (λ o. newest o value) (get_equal m key q at))
+      (λ at. sym best ∙ ap (λ o. newest o value) (get_equal m key q at))

@@ -16,5 +16,5 @@ returns-then-exceeds-clause-put g c =
     let entry = c.in_ok-place.ensures in
     newest_written g.met.K.Ord.total c.args.held.now _ (map_with_value c.in_ok-place.field-0 c.args.value) c.args.key c.args.value
     (ap (λ o. newest o c.args.value) (sym entry.value ∙ ap entry_value c.in-Occupied.is ∙ c.get.ensures)
-      ∙ newest_exceeds c.get.result.now c.args.value (sym c.exceeds.ensures ∙ c.if-exceeds.true))
+    ∙ newest_exceeds c.get.result.now c.args.value (sym c.exceeds.ensures ∙ c.if-exceeds.true))
     (entry.update.0 c.args.value).0 (search rules)
