@@ -2,10 +2,12 @@
 #![tactic(auto)]
 
 mod allowance;
+mod book;
 pub mod laws;
 mod limits;
 
 pub use allowance::Allowance;
+pub use book::LimitBook;
 pub use limits::Limits;
 
 #[cfg(test)]

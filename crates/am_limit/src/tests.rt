@@ -1,4 +1,5 @@
-use crate::{Allowance, Limits};
+use crate::{Allowance, LimitBook, Limits};
+use am_tenant::TenantName;
 use am_text::Moment;
 use std::test::Fail;
 
@@ -38,5 +39,21 @@ fn another_limit_keeps_what_was_used(rt: HostRuntime) -> Result<(), Fail> {
     assert!(rt; !allowance.take(moment));
     allowance.set_limit(0);
     assert!(rt; !allowance.take(Moment::greatest()));
+    Ok(())
+}
+
+#[test]
+fn each_tenant_has_limits(rt: HostRuntime) -> Result<(), Fail> {
+    let first = TenantName::read(b"a")?;
+    let second = TenantName::read(b"b")?;
+    let mut book = LimitBook::new(rt.alloc());
+    assert_eq!(rt; book.of(&first), Limits::default());
+    let mut limits = Limits::default();
+    for alerts in [2, 3] {
+        limits.alerts = alerts;
+        book.set(rt.alloc(), &first, limits)?;
+        assert_eq!(rt; book.of(&first), limits);
+    }
+    assert_eq!(rt; book.of(&second), Limits::default());
     Ok(())
 }

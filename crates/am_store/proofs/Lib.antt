@@ -1,4 +1,5 @@
 pub mod Compiled
+pub mod CompiledOpening
 pub mod RowLists
 pub mod Statements
 pub mod Latest
@@ -9,6 +10,11 @@ pub mod Calls
 pub mod Reached
 pub mod Gone
 pub mod Commits
+pub mod Resting
+pub mod Founding
+pub mod Rising
+pub mod Tested
+pub mod Checks
 pub mod Readings
 pub mod Puts
 pub mod RowsOf

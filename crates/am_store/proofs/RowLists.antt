@@ -72,7 +72,7 @@ is_eq-reverse Less = refl
 is_eq-reverse Equal = refl
 is_eq-reverse Greater = refl
 
-same_id-sym : (a b : Row) → same_id a b ≡ same_id b a
+pub same_id-sym : (a b : Row) → same_id a b ≡ same_id b a
 same_id-sym a b = ap is_eq (value_cmp_total.antisymm (rowid a) (rowid b)) ∙ is_eq-reverse _
 
 same_id-self : (a : Row) → same_id a a ≡ true

@@ -8,3 +8,4 @@ pub mod Rows
 pub mod Reading
 pub mod Steps
 pub mod Kept
+pub mod Opening

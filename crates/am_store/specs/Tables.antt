@@ -8,6 +8,7 @@ use Rattle.sqlite.specs.Table.{Table}
 use Rattle.sqlite.specs.Schema.{Schema}
 use Rattle.sqlite.specs.Change.{created}
 use Rattle.sqlite_schema.specs.declared.schema.Column.{Column}
+use Rattle.sqlite_schema.specs.declared.schema.Index.{Index}
 use Rattle.sqlite_value.specs.declared.keys.Order.{Order}
 use Rattle.sqlite_value.specs.Keys.{plain}
 
@@ -47,6 +48,17 @@ table_of name tree columns primary uniques orders = record {
   is_counted = false;
 }
 
+-- the index of a key
+abbrev pub index_of : List ℕ → ℕ → ℕ → List ℕ → Index
+index_of name tree table columns = record {
+  name = name;
+  tree = tree;
+  table = table;
+  columns = columns;
+  order = plain;
+  is_unique = true;
+}
+
 -- the version: one row with 1
 abbrev pub version : ℕ → Table
 version tree = table_of (codes "version") tree (column_of (codes "n") Integer true ∷ []) [] [] []
@@ -78,6 +90,19 @@ silence tree = table_of (codes "silence") tree silence_columns (1 ∷ 2 ∷ []) 
 abbrev pub no_schema : Schema
 no_schema = record { tables = []; indexes = []; views = [] }
 
+-- one table, and two
+abbrev pub one_table : Schema
+one_table = created no_schema (version 0)
+
+abbrev pub two_tables : Schema
+two_tables = created one_table (config 0)
+
 -- the three tables: their rows lie in the trees 0, 1 and 3, the keys of the last two in 2 and 4
 abbrev pub store_schema : Schema
-store_schema = created (created (created no_schema (version 0)) (config 0)) (silence 0)
+store_schema = record {
+  tables = version 0 ∷ config 1 ∷ silence 3 ∷ [];
+  indexes =
+    index_of (codes "sqlite_autoindex_config_1") 2 1 (1 ∷ [])
+    ∷ index_of (codes "sqlite_autoindex_silence_1") 4 3 (1 ∷ 2 ∷ []) ∷ [];
+  views = [];
+}

@@ -36,3 +36,21 @@ select_config = codes "SELECT rowid, tenant, body, moment, instance, incarnation
 
 abbrev pub select_silences : List ℕ
 select_silences = codes "SELECT rowid, tenant, id, starts, ends, kept, author, comment, matchers, moment, instance, incarnation, count FROM silence WHERE tenant = ?1 ORDER BY id"
+
+abbrev pub insert_version : List ℕ
+insert_version = codes "INSERT INTO version VALUES (?1)"
+
+abbrev pub select_version : List ℕ
+select_version = codes "SELECT rowid, n FROM version"
+
+abbrev pub select_all_configs : List ℕ
+select_all_configs = codes "SELECT rowid, tenant, body, moment, instance, incarnation, count FROM config ORDER BY rowid"
+
+abbrev pub select_all_silences : List ℕ
+select_all_silences = codes "SELECT rowid, tenant, id, starts, ends, kept, author, comment, matchers, moment, instance, incarnation, count FROM silence ORDER BY rowid"
+
+abbrev pub select_config_tenants : List ℕ
+select_config_tenants = codes "SELECT tenant FROM config"
+
+abbrev pub select_silence_tenants : List ℕ
+select_silence_tenants = codes "SELECT DISTINCT tenant FROM silence"

@@ -38,3 +38,11 @@ config_stamp = col 1 3 ∷ col 1 4 ∷ col 1 5 ∷ col 1 6 ∷ []
 
 abbrev pub silence_stamp : List Term
 silence_stamp = col 1 9 ∷ col 1 10 ∷ col 1 11 ∷ col 1 12 ∷ []
+
+-- the rowid and the number of a version
+abbrev pub columns2 : List Term
+columns2 = col 1 0 ∷ col 1 1 ∷ []
+
+-- the tenant
+abbrev pub columns1 : List Term
+columns1 = col 1 1 ∷ []

@@ -7,9 +7,12 @@
 mod commit;
 mod config;
 mod numbers;
+mod opening;
+mod query;
 mod reading;
 mod refusal;
 mod rows;
+mod schema;
 mod silence;
 mod stamps;
 mod store;

@@ -23,7 +23,7 @@ use std::str;
 use uuid::Uuid;
 
 // A column that isn't read is that of a row that is no item, unless memory ran out.
-fn or_foreign<T>(read: Result<T, Error>) -> Result<T, Failure<StoreRefusal>>
+pub(crate) fn or_foreign<T>(read: Result<T, Error>) -> Result<T, Failure<StoreRefusal>>
     ensures { MatchResult read (λ value. result ≡ Ok value) (λ _. IsErr result) }
 {
     match read {

@@ -1,6 +1,7 @@
 //! Why a store does not do what it is asked.
 
 ghost use Rattle.std.specs.Prelude.{◌≡◌, Some};
+ghost use Rattle.am_text.specs.Outcome.{ForRefused};
 ghost use Rattle.am_store.specs.Codes.{code_of};
 
 use am_text::Failure;
@@ -40,7 +41,9 @@ impl fmt::Display for StoreRefusal {
 impl Error for StoreRefusal {}
 
 // What a call of the database that failed is told as.
-pub(crate) fn failure_of(error: DatabaseError) -> Failure<StoreRefusal> {
+pub(crate) fn failure_of(error: DatabaseError) -> Failure<StoreRefusal>
+    ensures { ForRefused result (λ refusal. refusal ≡ StoreRefusal.Database) }
+{
     match error {
         DatabaseError::SqliteFailure(ErrorCode::OutOfMemory) => Failure::OutOfMemory,
         _ => Failure::Refused(StoreRefusal::Database),

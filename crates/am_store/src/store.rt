@@ -1,17 +1,18 @@
 //! The store.
 
-ghost use Rattle.std.specs.Prelude.{◌≡◌, All, IfOk, IsTrue, OnErr, OnOk};
+ghost use Rattle.std.specs.Prelude.{◌≡◌, false, All, IfErr, IfOk, IsTrue, MatchResult, OnErr, OnOk};
 ghost use Rattle.std.specs.List.Sorted.{IsPermutation};
 ghost use Rattle.sqlite.specs.Held.{state};
 ghost use Rattle.sqlite.specs.State.{HasCleanDisk, Survives};
 ghost use Rattle.am_item.specs.Key.{SilenceKey};
 ghost use Rattle.am_share.specs.Pairs.{things_of};
+ghost use Rattle.am_store.specs.Opening.{LeavesNew, Opens};
 ghost use Rattle.am_store.specs.Rows.{IsFit, IsStore, pairs_in};
 ghost use Rattle.am_store.specs.Steps.{Commits, Empties, IsSame, Leaves, Removes, Stores};
 ghost use Rattle.am_store.specs.Stored.{stored_items};
 
 use crate::refusal::{StoreRefusal, failure_of};
-use crate::{commit, rows};
+use crate::{commit, opening, rows};
 use am_item::{Item, SilenceId};
 use am_share::{ShareRefusal, Shared};
 use am_tenant::TenantName;
@@ -40,6 +41,32 @@ impl<S: Alter> Model for Store<S> {
 }
 
 impl<S: Alter> Store<S> {
+    /// Opens a database as a store. One without tables gets those of schema 1 and its version in one transaction; of
+    /// one that has tables, each row is tested, and nothing is written.
+    ///
+    /// # Errors
+    /// `F3` where the database has tables and is no store; `F2` where a call of the database was refused; or out of
+    /// memory. The connection is handed back and nothing was written; where a failure shut it, a crash leaves what was
+    /// there before, or a store in which nothing is stored.
+    pub fn open(
+        alloc: Global,
+        mut conn: Connection<S>,
+    ) -> Result<Store<S>, (Failure<StoreRefusal>, Connection<S>)>
+        requires { conn.in_transaction ≡ false }
+        ensures opened { IfOk result (λ store. HasCleanDisk (state S.Store store)
+            → Opens (state S.Store conn) (state S.Store store)) }
+        ensures err { IfErr result (λ e. HasCleanDisk (state S.Store e.1) → IsTrue (state S.Store e.1).is_open
+            → IsSame (state S.Store conn) (state S.Store e.1)) }
+        ensures crash { MatchResult result
+            (λ store. Survives (state S.Store conn) (state S.Store store) (LeavesNew (state S.Store conn)))
+            (λ e. Survives (state S.Store conn) (state S.Store e.1) (LeavesNew (state S.Store conn))) }
+    {
+        match opening::open(alloc, &mut conn) {
+            Ok(()) => Ok(Store { conn }),
+            Err(failure) => Err((failure, conn)),
+        }
+    }
+
     /// The store's connection, as it is.
     pub fn into_connection(self) -> Connection<S>
         ensures { result ≡ self }

@@ -3,11 +3,14 @@ use Rattle.std.proofs.Common.{◌≡◌, ◌∙◌, inl, inr, ℕ, ◌+◌, ◌-
 use Rattle.std.proofs.lemmas.List.{append-nil}
 use Rattle.std.proofs.lemmas.Bool.{cases_Bool}
 use Rattle.std.proofs.lemmas.Bool.Decides.{nat_tests}
+use Rattle.am_limit.specs.Books.{limits_of}
+use Rattle.am_limit.specs.declared.limits.Limits as limit
 use Rattle.am_world.specs.declared.event.Event.{Event}
+use Rattle.am_world.specs.declared.event.Event.TheVariants.{Limits}
 use Rattle.am_world.specs.declared.instance.Instance.{Instance}
 use Rattle.am_world.specs.declared.world.World.{World}
 use Rattle.am_world.specs.Moments.{clock_after}
-use Rattle.am_world.specs.Places.{IsDownAt, SameElsewhere, cause_at, incarnation_at, incarnation_where, numbers, roster_of}
+use Rattle.am_world.specs.Places.{IsDownAt, SameElsewhere, cause_at, incarnation_at, instance_at, incarnation_where, numbers, roster_of}
 use Rattle.am_world.specs.Refusal.{refusal}
 use Rattle.am_world.specs.Roster.{roster_after}
 use Rattle.am_world.specs.Simulation.{Faulted, fault_count, faults_of, put_out, works}
@@ -33,8 +36,8 @@ one_fault i =
 
 pub faulted_at : (w w' : World) (e : Event) (i : ℕ) → refusal w e ≡ None → works w e i ≡ true → IsDownAt i w'.instances → IsSome (cause_at i w'.instances) →
     SameElsewhere i w.instances w'.instances → ((j : ℕ) → incarnation_at j w'.instances ≡ (roster_after e (roster_of w.instances)).incarnation j) →
-    put_out w' ≡ put_out w → fault_count w' ≡ min (fault_count w + 1) (2 ^ 64 - 1) → w'.clock ≡ clock_after e w.clock → Faulted w e w'
-faulted_at w w' e i taken worked down cause others incarnations outputs counted clock =
+    put_out w' ≡ put_out w → fault_count w' ≡ min (fault_count w + 1) (2 ^ 64 - 1) → w'.clock ≡ clock_after e w.clock → w'.limits ≡ w.limits → Faulted w e w'
+faulted_at w w' e i taken worked down cause others incarnations outputs counted clock limits =
     let itself : nat_eq i i ≡ true = grind (arith, nat_tests) in
     record {
       taken = taken;
@@ -53,7 +56,29 @@ faulted_at w w' e i taken worked down cause others incarnations outputs counted 
       silent = λ all. refl;
       counted = counted ∙ ap (λ n. min (fault_count w + n) (2 ^ 64 - 1)) (sym (one_fault i));
       clock = clock;
+      limits = λ t. ap (limits_of t) limits;
     }
+
+-- new limits that find no memory: nothing has changed, and one fault is counted
+pub faulted_limits : (w w' : World) (tenant : List ℕ) (limits : limit.Limits) → w'.instances ≡ w.instances → put_out w' ≡ put_out w →
+    fault_count w' ≡ min (fault_count w + 1) (2 ^ 64 - 1) → w'.clock ≡ w.clock → ((t : List ℕ) → limits_of t w'.limits ≡ limits_of t w.limits) →
+    Faulted w (Limits tenant limits) w'
+faulted_limits w w' tenant limits instances outputs counted clock same = record {
+  taken = refl;
+  stopped = λ i. false;
+  worked = λ i never. absurd cc;
+  some = λ none i. refl;
+  down = λ i never. absurd cc;
+  causes = λ i never. absurd cc;
+  others = λ i idle. ap (instance_at i) instances;
+  incarnations = λ i. ap (incarnation_at i) instances;
+  outs = [];
+  appended = outputs ∙ sym (append-nil (put_out w));
+  silent = λ all. refl;
+  limits = same;
+  counted = counted;
+  clock = clock;
+}
 
 -- incarnations stay, of the instance that stopped and of all others
 pub incarnations_stay : (i : ℕ) (xs ys : List Instance) → incarnation_at i ys ≡ incarnation_at i xs → SameElsewhere i xs ys →

@@ -4,7 +4,7 @@ use Rattle.std.proofs.lemmas.List.{append-nil}
 use Rattle.std.proofs.lemmas.Bool.{cases_Bool}
 use Rattle.std.proofs.lemmas.Bool.Decides.{nat_tests}
 use Rattle.am_world.specs.declared.event.Event.{Event}
-use Rattle.am_world.specs.declared.event.Event.TheVariants.{Open, Bytes, Tick}
+use Rattle.am_world.specs.declared.event.Event.TheVariants.{Open, Bytes, Close, Limits, Tick}
 use Rattle.am_world.specs.declared.event.Refused.{Refused}
 use Rattle.am_world.specs.declared.event.Refused.TheVariants.{MomentRefused}
 use Rattle.am_world.specs.declared.instance.Instance.{Instance}
@@ -12,11 +12,14 @@ use Rattle.am_world.specs.declared.world.World.{World}
 use Rattle.am_world.specs.Moments.{clock_after, last_moment}
 use Rattle.am_world.specs.Outputs.{front_told}
 use Rattle.am_world.specs.Places.{IsReadOnce, SameElsewhere, bytes_at, incarnation_at, local_at, roster_of, up_at}
-use Rattle.am_world.specs.PrivateCluster.{Course, PrivateCluster, Ticked, after_all, course, fits_all, told_all, unchanged}
+use Rattle.am_world.specs.PrivateCluster.{Course, Limited, PrivateCluster, Ticked, after_all, course, fits_all, local_of, told_all, unchanged}
 use Rattle.am_world.specs.Reaction.{output_of}
 use Rattle.am_world.specs.Roster.{IsSameRoster, Roster, roster_after}
-use Rattle.am_world.specs.Simulation.{Follows, IsAsAlone, Kept, Premises, Stands, bytes_read, fault_count, put_out}
-use Rattle.am_world.specs.View.{Reading, Seen, AskedAs, FrontAnswered, Watch, adds, look, watch}
+use Rattle.am_limit.specs.Books.{limits_of}
+use Rattle.am_limit.specs.declared.limits.Limits as limit
+use Rattle.am_tenant.specs.Names.{same}
+use Rattle.am_world.specs.Simulation.{Follows, IsAsAlone, Kept, Premises, Stands, bytes_read, fault_count, limits_after, put_out}
+use Rattle.am_world.specs.View.{Reading, Seen, AskedAs, FrontAnswered, Shut, Watch, adds, look, watch}
 use Rattle.am_world.proofs.Faults.{incarnations_stay}
 
 pub same_again : (r : Roster) → IsSameRoster r r
@@ -28,16 +31,18 @@ roster_then a b c first next = record { up = λ i. first.up i ∙ next.up i; inc
 -- the new world has of instances, tenants and the clock what the old one has
 pub record SameParts (w w' : World) : Type 0 where
   pub clock : w'.clock ≡ w.clock
+  pub limits : w'.limits ≡ w.limits
   pub roster : IsSameRoster (roster_of w'.instances) (roster_of w.instances)
   pub local : (t : List ℕ) (i : ℕ) → local_at t i w'.instances ≡ local_at t i w.instances
 
 pub same_itself : (w : World) → SameParts w w
-same_itself w = record { clock = refl; roster = same_again (roster_of w.instances); local = λ t i. refl }
+same_itself w = record { clock = refl; limits = refl; roster = same_again (roster_of w.instances); local = λ t i. refl }
 
 pub stands_same : (t : List ℕ) (w w' : World) (p : PrivateCluster) → SameParts w w' → Stands t w p → Stands t w' p
 stands_same t w w' p e s = record {
   tenant = s.tenant;
   clock = e.clock ∙ s.clock;
+  limits = ap (limits_of t) e.limits ∙ s.limits;
   roster = roster_then _ _ _ e.roster s.roster;
   local = λ i. e.local t i ∙ s.local i;
 }
@@ -54,6 +59,7 @@ once_read None i j one other = absurd cc
 once_read (Some (Reading k bytes)) i j one other = one_of i j k bytes one other
 once_read (Some (AskedAs t)) i j one other = absurd cc
 once_read (Some FrontAnswered) i j one other = absurd cc
+once_read (Some Shut) i j one other = absurd cc
 
 pub read_once : (v : Watch) (w : World) (c : ℕ) → Follows v w → IsReadOnce c w.instances
 read_once v w c f i j one other = once_read (look c v.table) i j (rw (f.reading c i) at one) (rw (f.reading c j) at other)
@@ -87,6 +93,7 @@ kept_open w w' c i up reading same outputs faults = record {
   owned = λ v f u later. refl;
   roster = same.roster;
   clock = same.clock;
+  limits = λ t. ap (limits_of t) same.limits;
   faults = faults;
 }
 
@@ -95,8 +102,8 @@ pub kept_nothing : (w : World) (e : Event) → ((v : Watch) → Follows v w → 
     ((t : List ℕ) (v : Watch) (p : PrivateCluster) → Premises t v p w e →
     (after_all p (adds t v e) ≡ p) × (told_all p (adds t v e) ≡ []) × (fits_all p (adds t v e) ≡ true)) →
     ((v : Watch) → Follows v w → front_told v e ≡ []) → IsSameRoster (roster_of w.instances) (roster_after e (roster_of w.instances)) →
-    w.clock ≡ clock_after e w.clock → Kept w e w
-kept_nothing w e unchanged nothing unsaid roster clock = record {
+    w.clock ≡ clock_after e w.clock → ((t : List ℕ) (limits : limit.Limits) → limits ≡ limits_after e t limits) → Kept w e w
+kept_nothing w e unchanged nothing unsaid roster clock limits = record {
   follows = λ v f. rw (unchanged v f) f;
   outs = [];
   appended = sym (append-nil (put_out w));
@@ -109,18 +116,19 @@ kept_nothing w e unchanged nothing unsaid roster clock = record {
   owned = λ v f u later. refl;
   roster = roster;
   clock = clock;
+  limits = λ t. limits t (limits_of t w.limits);
   faults = refl;
 }
 
 pub kept_not_up : (w : World) (c i : ℕ) → up_at i w.instances ≡ false → Kept w (Open c i) w
 unfolding watch adds front_told
 kept_not_up w c i down = kept_nothing w (Open c i) (λ v f. rw (sym (f.roster.up i) ∙ down) refl) (λ t v p given. (refl, refl, refl)) (λ v f. refl)
-    (same_again (roster_of w.instances)) refl
+    (same_again (roster_of w.instances)) refl (λ t limits. refl)
 
 pub kept_late_bytes : (w : World) (c m : ℕ) (piece : List ℕ) → nat_lt last_moment m ≡ true → Kept w (Bytes c m piece) w
 unfolding watch adds front_told
 kept_late_bytes w c m piece late = kept_nothing w (Bytes c m piece) (λ v f. rw late refl) (λ t v p given. rw late (refl, refl, refl)) (λ v f. rw late refl)
-    (same_again (roster_of w.instances)) refl
+    (same_again (roster_of w.instances)) refl (λ t limits. refl)
 
 -- what a tick is to a private cluster
 tick_course : (b : Bool) (p : PrivateCluster) (m : ℕ) → (nat_lt last_moment m || nat_lt m p.clock) ≡ b →
@@ -138,16 +146,16 @@ kept_refused_tick w m refused = kept_nothing w (Tick m) (λ v f. refl)
     (λ t v p given.
     let same : course p (Ticked m) ≡ unchanged p = tick_course true p m (rw (← given.stands.clock) refused) in
     (ap (λ (q : Course). q.cluster) same, ap (λ (q : Course). map (output_of p.tenant) q.said ++ []) same, ap (λ (q : Course). q.fits && true) same))
-    (λ v f. refl) (same_again (roster_of w.instances)) (rw refused refl)
+    (λ v f. refl) (same_again (roster_of w.instances)) (rw refused refl) (λ t limits. refl)
 
 -- the later of two moments
 pub max_later : (m clock : ℕ) → clock ≤ m → max m clock ≡ m
 max_later m clock h = omega arith
 
 pub kept_tick : (w w' : World) (m : ℕ) → (nat_lt last_moment m || nat_lt m w.clock) ≡ false → w'.clock ≡ m → w'.instances ≡ w.instances →
-    put_out w' ≡ put_out w → fault_count w' ≡ fault_count w → Kept w (Tick m) w'
+    w'.limits ≡ w.limits → put_out w' ≡ put_out w → fault_count w' ≡ fault_count w → Kept w (Tick m) w'
 unfolding watch adds front_told
-kept_tick w w' m allowed clock instances outputs faults = record {
+kept_tick w w' m allowed clock instances limits outputs faults = record {
   follows = λ v f. record { reading = rw instances f.reading; roster = rw instances f.roster };
   outs = [];
   appended = outputs ∙ sym (append-nil (put_out w));
@@ -155,7 +163,13 @@ kept_tick w w' m allowed clock instances outputs faults = record {
       let ticked : course p (Ticked m) ≡ unchanged (record p { clock = m }) = tick_course false p m (rw (← given.stands.clock) allowed) in
       record {
         stands = rw (ap (λ (q : Course). q.cluster) ticked)
-            (record { tenant = given.stands.tenant; clock = clock; roster = rw instances given.stands.roster; local = rw instances given.stands.local });
+            (record {
+              tenant = given.stands.tenant;
+              clock = clock;
+              limits = ap (limits_of t) limits ∙ given.stands.limits;
+              roster = rw instances given.stands.roster;
+              local = rw instances given.stands.local;
+            });
         told = λ u later. sym (ap (λ (q : Course). map (output_of p.tenant) q.said ++ []) ticked);
         fits = ap (λ (q : Course). q.fits && true) ticked;
       };
@@ -163,6 +177,47 @@ kept_tick w w' m allowed clock instances outputs faults = record {
   owned = λ v f u later. refl;
   roster = rw instances (same_again (roster_of w.instances));
   clock = rw allowed clock;
+  limits = λ t. ap (limits_of t) limits;
+  faults = faults;
+}
+
+-- what new limits of a tenant are to a private cluster
+limited_course : (p : PrivateCluster) (limits : limit.Limits) → course p (Limited limits) ≡ unchanged (record p { limits = limits })
+unfolding course
+limited_course p limits = refl
+
+-- the tenant's cluster gets them, and no other
+limited_alone : (b : Bool) (t : List ℕ) (w' : World) (p : PrivateCluster) (limits : limit.Limits) →
+    limits_of t w'.limits ≡ (if b then limits else p.limits) → p.tenant ≡ t → w'.clock ≡ p.clock →
+    IsSameRoster (roster_of w'.instances) p.roster → ((i : ℕ) → local_at t i w'.instances ≡ local_of (p.at i)) →
+    Stands t w' (after_all p (if b then Limited limits ∷ [] else []))
+    × (told_all p (if b then Limited limits ∷ [] else []) ≡ []) × (fits_all p (if b then Limited limits ∷ [] else []) ≡ true)
+unfolding course
+limited_alone true t w' p limits has tenant clock roster local =
+    (record { tenant = tenant; clock = clock; limits = has; roster = roster; local = local }, refl, refl)
+limited_alone false t w' p limits has tenant clock roster local =
+    (record { tenant = tenant; clock = clock; limits = has; roster = roster; local = local }, refl, refl)
+
+limits_then : (b : Bool) (limits old own : limit.Limits) → old ≡ own → (if b then limits else old) ≡ (if b then limits else own)
+limits_then b limits old own e = rw e refl
+
+pub kept_limits : (w w' : World) (tenant : List ℕ) (limits : limit.Limits) →
+    ((t : List ℕ) → limits_of t w'.limits ≡ (if same t tenant then limits else limits_of t w.limits)) → w'.clock ≡ w.clock →
+    w'.instances ≡ w.instances → put_out w' ≡ put_out w → fault_count w' ≡ fault_count w → Kept w (Limits tenant limits) w'
+unfolding watch adds front_told
+kept_limits w w' tenant limits set clock instances outputs faults = record {
+  follows = λ v f. record { reading = rw instances f.reading; roster = rw instances f.roster };
+  outs = [];
+  appended = outputs ∙ sym (append-nil (put_out w));
+  tenants = λ t v p given.
+      let own = limited_alone (same t tenant) t w' p limits (set t ∙ limits_then (same t tenant) limits _ _ given.stands.limits)
+      given.stands.tenant (clock ∙ given.stands.clock) (rw instances given.stands.roster) (rw instances given.stands.local) in
+      record { stands = own.0; told = λ u later. sym own.1; fits = own.2 };
+  front = λ v f u later. refl;
+  owned = λ v f u later. refl;
+  roster = rw instances (same_again (roster_of w.instances));
+  clock = clock;
+  limits = set;
   faults = faults;
 }
 

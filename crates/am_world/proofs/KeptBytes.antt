@@ -11,6 +11,7 @@ use Rattle.am_http.specs.declared.request.Fed.{Fed}
 use Rattle.am_http.specs.declared.request.Fed.TheVariants as fed
 use Rattle.am_http.specs.declared.request.Request.{Request}
 use Rattle.am_item.specs.declared.item.Item.{Item}
+use Rattle.am_limit.specs.Books.{limits_of}
 use Rattle.am_tenant.specs.Names.{same}
 use Rattle.am_tenant.proofs.Same.{same_tells}
 use Rattle.am_world.specs.declared.event.Event.TheVariants.{Bytes}
@@ -27,7 +28,7 @@ use Rattle.am_world.specs.Reaction.{Brought, Here, Local, Reaction, asked, broug
 use Rattle.am_world.specs.Roster.{IsSameRoster, put_at}
 use Rattle.am_world.specs.Simulation.{Follows, IsAsAlone, Kept, Later, Premises, Stands, bytes_read, fault_count, put_out}
 use Rattle.am_world.specs.Taking.{Takes, taken_at}
-use Rattle.am_world.specs.View.{AskedAs, FrontAnswered, Reading, Seen, Table, Watch, adds, asked_by, asked_on, look, noted, seen_as, watch}
+use Rattle.am_world.specs.View.{AskedAs, FrontAnswered, Reading, Seen, Shut, Table, Watch, adds, asked_by, asked_on, look, noted, seen_as, watch}
 use Rattle.am_world.proofs.Kept.{SameParts, itself, kept_nothing, roster_then, same_again, stands_same}
 
 -- ---- what is read
@@ -44,12 +45,13 @@ reading_there n None bytes e = cc
 reading_there n (Some (Reading i before)) bytes e = read_there n i before bytes e
 reading_there n (Some (AskedAs tenant)) bytes e = cc
 reading_there n (Some FrontAnswered) bytes e = cc
+reading_there n (Some Shut) bytes e = cc
 
-seen_reading : (v : Watch) (w : World) (n c : ℕ) (before : List ℕ) → Follows v w → bytes_at c n w.instances ≡ Some before → look c v.table ≡ Some (Reading n before)
+pub seen_reading : (v : Watch) (w : World) (n c : ℕ) (before : List ℕ) → Follows v w → bytes_at c n w.instances ≡ Some before → look c v.table ≡ Some (Reading n before)
 seen_reading v w n c before f here = reading_there n (look c v.table) before (sym here ∙ f.reading c n)
 
 -- a connection that no instance reads takes no piece
-read_itself : (i : ℕ) (before : List ℕ) → (if nat_eq i i then Some before else None) ≡ None → ⊥
+pub read_itself : (i : ℕ) (before : List ℕ) → (if nat_eq i i then Some before else None) ≡ None → ⊥
 read_itself i before e = let never = rw (itself i) at e in cc
 
 noted_unread : (s : Option Seen) (c : ℕ) (piece : List ℕ) (v : Table) → ((i : ℕ) → bytes_read i s ≡ None) → noted c piece s v ≡ v
@@ -57,20 +59,23 @@ noted_unread None c piece v unread = refl
 noted_unread (Some (Reading i before)) c piece v unread = absurd (read_itself i before (unread i))
 noted_unread (Some (AskedAs tenant)) c piece v unread = refl
 noted_unread (Some FrontAnswered) c piece v unread = refl
+noted_unread (Some Shut) c piece v unread = refl
 
 asked_unread : (s : Option Seen) (t : List ℕ) (c m : ℕ) (piece : List ℕ) → ((i : ℕ) → bytes_read i s ≡ None) → asked_on t c m piece s ≡ []
 asked_unread None t c m piece unread = refl
 asked_unread (Some (Reading i before)) t c m piece unread = absurd (read_itself i before (unread i))
 asked_unread (Some (AskedAs tenant)) t c m piece unread = refl
 asked_unread (Some FrontAnswered) t c m piece unread = refl
+asked_unread (Some Shut) t c m piece unread = refl
 
 answered_unread : (s : Option Seen) (c : ℕ) (piece : List ℕ) → ((i : ℕ) → bytes_read i s ≡ None) → answered_on c piece s ≡ []
 answered_unread None c piece unread = refl
 answered_unread (Some (Reading i before)) c piece unread = absurd (read_itself i before (unread i))
 answered_unread (Some (AskedAs tenant)) c piece unread = refl
 answered_unread (Some FrontAnswered) c piece unread = refl
+answered_unread (Some Shut) c piece unread = refl
 
-unread_anywhere : (v : Watch) (w : World) (c : ℕ) → Follows v w → ((i : ℕ) → bytes_at c i w.instances ≡ None) → (i : ℕ) → bytes_read i (look c v.table) ≡ None
+pub unread_anywhere : (v : Watch) (w : World) (c : ℕ) → Follows v w → ((i : ℕ) → bytes_at c i w.instances ≡ None) → (i : ℕ) → bytes_read i (look c v.table) ≡ None
 unread_anywhere v w c f unread i = sym (f.reading c i) ∙ unread i
 
 -- ---- bytes that are refused
@@ -107,6 +112,7 @@ kept_unread_bytes w c m piece unread = kept_nothing w (Bytes c m piece)
     (λ v f. front_unread v w c m piece unread f)
     (same_again (roster_of w.instances))
     refl
+    (λ t limits. refl)
 
 -- ---- bytes that are taken
 
@@ -193,6 +199,7 @@ pub record Reacts (t : List ℕ) (n : ℕ) (w w' : World) (reaction : Reaction) 
   pub here : local_at t n w'.instances ≡ local_after reaction (local_at t n w.instances)
   pub others : (j : ℕ) → nat_eq j n ≡ false → local_at t j w'.instances ≡ local_at t j w.instances
   pub clock : w'.clock ≡ w.clock
+  pub limits : w'.limits ≡ w.limits
   pub roster : IsSameRoster (roster_of w'.instances) (roster_of w.instances)
 
 stands_reacts : (t : List ℕ) (n m : ℕ) (w w' : World) (p : PrivateCluster) (reaction : Reaction) → Reacts t n w w' reaction → Stands t w p →
@@ -200,6 +207,7 @@ stands_reacts : (t : List ℕ) (n m : ℕ) (w w' : World) (p : PrivateCluster) (
 stands_reacts t n m w w' p reaction r s = record {
   tenant = s.tenant;
   clock = r.clock ∙ s.clock;
+  limits = ap (limits_of t) r.limits ∙ s.limits;
   roster = roster_then _ _ _ r.roster s.roster;
   local = λ j. elim (cases_Bool (nat_eq j n)) [
     | inl h ↦
@@ -222,11 +230,13 @@ unfolding course
 asked_course t n c m r w p s = rw (← here_same t n m w p s, s.local n) refl
 
 -- a tenant of whom nothing changed
-stands_kept : (t : List ℕ) (w w' : World) (p : PrivateCluster) → w'.clock ≡ w.clock → IsSameRoster (roster_of w'.instances) (roster_of w.instances) →
+stands_kept : (t : List ℕ) (w w' : World) (p : PrivateCluster) → w'.clock ≡ w.clock → w'.limits ≡ w.limits →
+    IsSameRoster (roster_of w'.instances) (roster_of w.instances) →
     ((j : ℕ) → local_at t j w'.instances ≡ local_at t j w.instances) → Stands t w p → Stands t w' p
-stands_kept t w w' p clock roster local s = record {
+stands_kept t w w' p clock limits roster local s = record {
   tenant = s.tenant;
   clock = clock ∙ s.clock;
+  limits = ap (limits_of t) limits ∙ s.limits;
   roster = roster_then _ _ _ roster s.roster;
   local = λ j. local j ∙ s.local j;
 }
@@ -261,31 +271,32 @@ then_seen told n c bytes v = record { table = (c, seen_as n bytes told) ∷ v.ta
 -- the tenant that asked
 asked_alone : (t : List ℕ) (n c m : ℕ) (r : Request) (bytes : List ℕ) (v : Watch) (w w' : World) (p : PrivateCluster) → t ≡ r.tenant → Stands t w p →
     local_at t n w'.instances ≡ local_after (asked (here_in (effective m w.clock) n w.instances) c r (local_at t n w.instances)) (local_at t n w.instances) →
-    SameElsewhere n w.instances w'.instances → w'.clock ≡ w.clock → IsSameRoster (roster_of w'.instances) (roster_of w.instances) →
-    Stands t w' (after p (Asked c n m r))
+    SameElsewhere n w.instances w'.instances → w'.clock ≡ w.clock → w'.limits ≡ w.limits →
+    IsSameRoster (roster_of w'.instances) (roster_of w.instances) → Stands t w' (after p (Asked c n m r))
 unfolding local_at
-asked_alone t n c m r bytes v w w' p own s here others clock roster =
+asked_alone t n c m r bytes v w w' p own s here others clock limits roster =
     let reaction : Reaction = asked (here_in (effective m w.clock) n w.instances) c r (local_at t n w.instances) in
-    let reacts : Reacts t n w w' reaction = record { here = here; others = λ j h. ap (local_where t) (others j h); clock = clock; roster = roster } in
+    let reacts : Reacts t n w w' reaction = record { here = here; others = λ j h. ap (local_where t) (others j h); clock = clock; limits = limits; roster = roster } in
     rw (ap (λ (q : Course). q.cluster) (asked_course t n c m r w p s)) (stands_reacts t n (effective m p.clock) w w' p reaction reacts s)
 
 stands_bytes : (told : Fed) (t : List ℕ) (n c m : ℕ) (bytes : List ℕ) (v : Watch) (w w' : World) (p : PrivateCluster) → Stands t w p →
     ((s : List ℕ) → local_at s n w'.instances ≡ (brings told n c m w).local s) → SameElsewhere n w.instances w'.instances →
-    w'.clock ≡ w.clock → IsSameRoster (roster_of w'.instances) (roster_of w.instances) → Stands t w' (after_all p (asked_by t c n m told))
-stands_bytes fed.Waits t n c m bytes v w w' p s local others clock roster =
-    stands_kept t w w' p clock roster (local_everywhere t n w.instances w'.instances (local t) others) s
-stands_bytes (fed.Refused reason) t n c m bytes v w w' p s local others clock roster =
-    stands_kept t w w' p clock roster (local_everywhere t n w.instances w'.instances (local t) others) s
-stands_bytes fed.Ready t n c m bytes v w w' p s local others clock roster =
-    stands_kept t w w' p clock roster (local_everywhere t n w.instances w'.instances (local t) others) s
-stands_bytes (fed.Request r) t n c m bytes v w w' p s local others clock roster = elim (same_tells t r.tenant) [
+    w'.clock ≡ w.clock → w'.limits ≡ w.limits → IsSameRoster (roster_of w'.instances) (roster_of w.instances) →
+    Stands t w' (after_all p (asked_by t c n m told))
+stands_bytes fed.Waits t n c m bytes v w w' p s local others clock limits roster =
+    stands_kept t w w' p clock limits roster (local_everywhere t n w.instances w'.instances (local t) others) s
+stands_bytes (fed.Refused reason) t n c m bytes v w w' p s local others clock limits roster =
+    stands_kept t w w' p clock limits roster (local_everywhere t n w.instances w'.instances (local t) others) s
+stands_bytes fed.Ready t n c m bytes v w w' p s local others clock limits roster =
+    stands_kept t w w' p clock limits roster (local_everywhere t n w.instances w'.instances (local t) others) s
+stands_bytes (fed.Request r) t n c m bytes v w w' p s local others clock limits roster = elim (same_tells t r.tenant) [
   | inl e ↦
       let here = rw (e.0) at (local t)
       ∙ ap (λ k. local_after (asked (here_in (effective m w.clock) n w.instances) c r (local_at k n w.instances)) (local_at t n w.instances)) (sym e.1) in
-      rw (e.0) (asked_alone t n c m r bytes v w w' p e.1 s here others clock roster)
+      rw (e.0) (asked_alone t n c m r bytes v w w' p e.1 s here others clock limits roster)
   | inr e ↦
       let here = rw (e.0) at (local t) in
-      rw (e.0) (stands_kept t w w' p clock roster (local_everywhere t n w.instances w'.instances here others) s)
+      rw (e.0) (stands_kept t w w' p clock limits roster (local_everywhere t n w.instances w'.instances here others) s)
 ]
 
 told_asked : (t : List ℕ) (n c m : ℕ) (r : Request) (w : World) (p : PrivateCluster) → t ≡ r.tenant → Stands t w p →
@@ -377,9 +388,9 @@ roster_taken n c bytes m xs ys takes = record {
 pub kept_bytes : (w w' : World) (n c m : ℕ) (before piece : List ℕ) → nat_lt last_moment m ≡ false → bytes_at c n w.instances ≡ Some before →
     Takes n c (before ++ piece) (effective m w.clock) w.instances w'.instances →
     put_out w' ≡ put_out w ++ (taken_at n c (before ++ piece) (effective m w.clock) w.instances).outputs →
-    (taken_at n c (before ++ piece) (effective m w.clock) w.instances).fits ≡ true → w'.clock ≡ w.clock → fault_count w' ≡ fault_count w →
-    Kept w (Bytes c m piece) w'
-kept_bytes w w' n c m before piece allowed here takes outputs fit clock faults =
+    (taken_at n c (before ++ piece) (effective m w.clock) w.instances).fits ≡ true → w'.clock ≡ w.clock → w'.limits ≡ w.limits →
+    fault_count w' ≡ fault_count w → Kept w (Bytes c m piece) w'
+kept_bytes w w' n c m before piece allowed here takes outputs fit clock limits faults =
     let bytes = before ++ piece in
     let told = verdict bytes in
     let roster = roster_taken n c bytes (effective m w.clock) w.instances w'.instances takes in
@@ -393,7 +404,7 @@ kept_bytes w w' n c m before piece allowed here takes outputs fit clock faults =
       tenants = λ t v p given.
           let adds_here = gives t v w n c m before piece allowed here given.follows in
           record {
-            stands = rw adds_here (stands_bytes told t n c m bytes v w w' p given.stands takes.local takes.others clock roster);
+            stands = rw adds_here (stands_bytes told t n c m bytes v w w' p given.stands takes.local takes.others clock limits roster);
             told = λ u later. rw adds_here
                 (told_bytes told t n c m bytes v u w p given.stands (rw (sees v w n c m before piece allowed here given.follows) at later));
             fits = rw adds_here (fits_bytes told t n c m w p given.stands fit);
@@ -403,5 +414,6 @@ kept_bytes w w' n c m before piece allowed here takes outputs fit clock faults =
       owned = λ v f u later. owned_bytes told n c m bytes v u w (rw (sees v w n c m before piece allowed here f) at later);
       roster = roster;
       clock = clock;
+      limits = λ t. ap (limits_of t) limits;
       faults = faults;
     }

@@ -3,6 +3,7 @@ mod Faults
 mod InstancesLemmas
 mod Kept
 mod KeptBytes
+mod KeptClose
 mod LocalLemmas
 mod Opening
 mod RefusalSeen

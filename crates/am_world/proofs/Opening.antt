@@ -4,6 +4,7 @@ use Rattle.std.proofs.lemmas.Bool.{cases_Bool}
 use Rattle.std.proofs.lemmas.Bool.Decides.{nat_tests}
 use Rattle.am_http.specs.Connections.{bytes_of}
 use Rattle.am_item.specs.Best.{best}
+use Rattle.am_limit.specs.Books.{limits_of}
 use Rattle.am_world.specs.declared.instance.Instance.{Instance}
 use Rattle.am_world.specs.declared.world.World.{World}
 use Rattle.am_world.specs.Places.{AreNumbered, bytes_at, bytes_where, incarnation_at, incarnation_where, instance_at, local_at, local_in, local_where, roster_of, up_at, up_where}
@@ -86,7 +87,7 @@ pub follows_opening : (origin : Origin) (w : World) → IsSameRoster (roster_of 
     ((c i : ℕ) → bytes_at c i w.instances ≡ None) → Follows (first_watch origin) w
 follows_opening origin w roster unread = record { reading = λ c i. unread c i; roster = roster }
 
-pub stands_opening : (origin : Origin) (t : List ℕ) (w : World) → w.clock ≡ 0 → IsSameRoster (roster_of w.instances) (opened_roster origin) →
+pub stands_opening : (origin : Origin) (t : List ℕ) (w : World) → w.clock ≡ 0 → w.limits ≡ [] → IsSameRoster (roster_of w.instances) (opened_roster origin) →
     ((s : List ℕ) (i : ℕ) → local_at s i w.instances ≡ blank) → Stands t w (opened origin t)
-unfolding best
-stands_opening origin t w clock roster local = record { tenant = refl; clock = clock; roster = roster; local = λ i. local t i }
+unfolding best limits_of
+stands_opening origin t w clock limits roster local = record { tenant = refl; clock = clock; limits = rw limits refl; roster = roster; local = λ i. local t i }

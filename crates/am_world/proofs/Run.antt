@@ -7,7 +7,7 @@ use Rattle.std.proofs.lemmas.List.{append-nil, append_assoc}
 use Rattle.std.proofs.lemmas.List.Elements.{filter-append}
 use Rattle.std.proofs.lemmas.List.Folds.{list_all-append}
 use Rattle.am_world.specs.declared.event.Event.{Event}
-use Rattle.am_world.specs.declared.event.Event.TheVariants.{Open, Bytes, Tick}
+use Rattle.am_world.specs.declared.event.Event.TheVariants.{Open, Bytes, Close, Limits, Tick}
 use Rattle.am_world.specs.declared.event.Output.{Output}
 use Rattle.am_world.specs.declared.world.World.{World}
 use Rattle.am_world.specs.Moments.{last_moment}
@@ -17,7 +17,7 @@ use Rattle.am_world.specs.Roster.{roster_after}
 use Rattle.am_world.specs.Runs.{Alone, Broken, Headline, Isolated, Prefixes, Run, RunPremises, added}
 use Rattle.am_world.specs.Setup.{Origin}
 use Rattle.am_world.specs.Simulation.{Faulted, Follows, Kept, Later, Opens, Premises, Stands, Step, fault_count, put_out}
-use Rattle.am_world.specs.View.{AskedAs, FrontAnswered, Reading, Seen, Table, Watch, adds, first_watch, look, names_once, noted, opens_new, table_after, view, watch, watch_all}
+use Rattle.am_world.specs.View.{AskedAs, FrontAnswered, Reading, Seen, Shut, Table, Watch, adds, first_watch, left, look, names_once, noted, opens_new, table_after, view, watch, watch_all}
 
 -- ---- what was decided of a connection stays decided
 
@@ -57,6 +57,14 @@ later_noted v c piece None e = table_itself v
 later_noted v c piece (Some (Reading i before)) e = later_entry v c _ (Some (Reading i before)) e (λ t h. cc) (λ h. cc)
 later_noted v c piece (Some (AskedAs tenant)) e = table_itself v
 later_noted v c piece (Some FrontAnswered) e = table_itself v
+later_noted v c piece (Some Shut) e = table_itself v
+
+later_left : (v : Table) (c : ℕ) (s : Option Seen) → look c v ≡ s → LaterTable v (left c s v)
+later_left v c None e = table_itself v
+later_left v c (Some (Reading i before)) e = later_entry v c _ (Some (Reading i before)) e (λ t h. cc) (λ h. cc)
+later_left v c (Some (AskedAs tenant)) e = table_itself v
+later_left v c (Some FrontAnswered) e = table_itself v
+later_left v c (Some Shut) e = table_itself v
 
 later_table : (v : Watch) (e : Event) → opens_new v e → LaterTable v.table (table_after v e)
 later_table v (Open c i) new =
@@ -69,6 +77,8 @@ later_table v (Bytes c moment piece) new =
       | true ↦ table_itself v.table
       | false ↦ later_noted v.table c piece (look c v.table) refl
     ]
+later_table v (Close c) new = later_left v.table c (look c v.table) refl
+later_table v (Limits tenant limits) new = table_itself v.table
 later_table v (Tick moment) new = table_itself v.table
 
 later_watch : (v : Watch) (e : Event) → opens_new v e → Later v (watch v e)

@@ -18,6 +18,7 @@ forgets_stands : (t : List ℕ) (w w' : World) (p : PrivateCluster) → Forgets 
 forgets_stands t w w' p e s = record {
   tenant = s.tenant;
   clock = e.clock ∙ s.clock;
+  limits = rw e.limits s.limits;
   roster = rw e.instances s.roster;
   local = rw e.instances s.local;
 }

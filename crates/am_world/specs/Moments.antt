@@ -1,7 +1,7 @@
 -- moments of events
 use Rattle.std.specs.Prelude.{ℕ, Bool, ◌||◌, nat_lt, max, if◌then◌else◌}
 use Rattle.am_world.specs.declared.event.Event.{Event}
-use Rattle.am_world.specs.declared.event.Event.TheVariants.{Open, Bytes, Tick}
+use Rattle.am_world.specs.declared.event.Event.TheVariants.{Open, Bytes, Close, Limits, Tick}
 
 -- the last moment that an event may tell, in milliseconds
 abbrev pub last_moment : ℕ
@@ -23,4 +23,6 @@ is_refused_tick moment clock = is_too_late moment || nat_lt moment clock
 abbrev pub clock_after : Event → ℕ → ℕ
 clock_after (Open c i) clock = clock
 clock_after (Bytes c moment piece) clock = clock
+clock_after (Close c) clock = clock
+clock_after (Limits tenant limits) clock = clock
 clock_after (Tick moment) clock = if is_refused_tick moment clock then clock else moment

@@ -7,24 +7,25 @@ use Rattle.am_http.specs.declared.request.Fed.TheVariants as fed
 use Rattle.am_http.specs.Replies.{ready_reply}
 use Rattle.am_tenant.specs.Names.{same}
 use Rattle.am_world.specs.declared.event.Event.{Event}
-use Rattle.am_world.specs.declared.event.Event.TheVariants.{Open, Bytes, Tick}
+use Rattle.am_world.specs.declared.event.Event.TheVariants.{Open, Bytes, Close, Limits, Tick}
 use Rattle.am_world.specs.declared.event.Output.{Output}
 use Rattle.am_world.specs.declared.event.Output.TheVariants.{Reply}
 use Rattle.am_world.specs.Moments.{is_too_late}
 use Rattle.am_world.specs.Reaction.{refusal_reply}
-use Rattle.am_world.specs.View.{Seen, Reading, AskedAs, FrontAnswered, Watch, look, watch}
+use Rattle.am_world.specs.View.{Seen, Reading, AskedAs, FrontAnswered, Shut, Watch, look, watch}
 
 -- an output is a tenant's, or the front's, which no tenant sees
 pub data Owner : Type 0 where
   Tenant : (name : List ℕ) → Owner
   Front : Owner
 
--- whose replies on a connection are; a connection that isn't decided has none
+-- whose replies on a connection are; one that isn't decided, or that its client left, has none
 abbrev pub replier : Option Seen → Option Owner
 replier None = None
 replier (Some (Reading i bytes)) = None
 replier (Some (AskedAs tenant)) = Some (Tenant tenant)
 replier (Some FrontAnswered) = Some Front
+replier (Some Shut) = None
 
 -- whose an output is, by what is known of its connection
 unfoldable pub owner : Watch → Output → Option Owner
@@ -65,11 +66,14 @@ answered_on c piece None = []
 answered_on c piece (Some (Reading i before)) = answered_by c (verdict (before ++ piece))
 answered_on c piece (Some (AskedAs tenant)) = []
 answered_on c piece (Some FrontAnswered) = []
+answered_on c piece (Some Shut) = []
 
 -- what the front says at an event: a function of the bytes of connections alone
 unfoldable pub front_told : Watch → Event → List Output
 front_told v (Open c i) = []
 front_told v (Bytes c moment piece) = if is_too_late moment then [] else answered_on c piece (look c v.table)
+front_told v (Close c) = []
+front_told v (Limits tenant limits) = []
 front_told v (Tick moment) = []
 
 -- .. and at all events

@@ -3,6 +3,8 @@ use Rattle.std.specs.Prelude.{ℕ, Bool, true, ◌&&◌, List, [], ◌∷◌, �
 use Rattle.am_http.specs.declared.request.Request.{Request}
 use Rattle.am_item.specs.declared.item.Item.{Item}
 use Rattle.am_item.specs.Best.{best}
+use Rattle.am_limit.specs.declared.limits.Limits.{Limits}
+use Rattle.am_limit.specs.Limits.{default_limits}
 use Rattle.am_world.specs.declared.event.Output.{Output}
 use Rattle.am_world.specs.declared.event.Refused.{Refused}
 use Rattle.am_world.specs.declared.event.Refused.TheVariants.{MomentRefused}
@@ -15,6 +17,8 @@ use Rattle.am_world.specs.Setup.{Origin}
 pub data Happening : Type 0 where
   -- a whole request of the tenant came over the connection to the instance, at an event with this moment of its own
   Asked : (connection instance moment : ℕ) (request : Request) → Happening
+  -- the tenant got these limits
+  Limited : (limits : Limits) → Happening
   -- the clock was told this moment
   Ticked : (moment : ℕ) → Happening
 
@@ -32,6 +36,7 @@ pub record PrivateInstance : Type 0 where
 pub record PrivateCluster : Type 0 where
   pub tenant : List ℕ
   pub clock : ℕ
+  pub limits : Limits
   pub roster : Roster
   pub at : ℕ → PrivateInstance
 
@@ -46,6 +51,7 @@ abbrev pub opened : Origin → List ℕ → PrivateCluster
 opened origin tenant = record {
   tenant = tenant;
   clock = 0;
+  limits = default_limits;
   roster = opened_roster origin;
   at = λ i. record { accepted = []; ledger = no_ledger };
 }
@@ -87,12 +93,14 @@ react reaction moment i p =
 -- why it is refused
 abbrev pub refusal_of : PrivateCluster → Happening → Option Refused
 refusal_of p (Asked connection i moment request) = None
+refusal_of p (Limited limits) = None
 refusal_of p (Ticked moment) = if is_refused_tick moment p.clock then Some MomentRefused else None
 
 -- what happens where it isn't refused
 abbrev pub handled : PrivateCluster → Happening → Course
 handled p (Asked connection i moment request) =
     react (λ here local. asked here connection request local) (effective moment p.clock) i p
+handled p (Limited limits) = unchanged (record p { limits = limits })
 handled p (Ticked moment) = unchanged (record p { clock = moment })
 
 -- what is refused changes nothing

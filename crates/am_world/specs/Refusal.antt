@@ -1,13 +1,13 @@
 -- when an event is refused, and by which code
 use Rattle.std.specs.Prelude.{ℕ, Bool, true, false, is_some, codes, List, Option, None, Some, if◌then◌else◌}
 use Rattle.am_world.specs.declared.event.Event.{Event}
-use Rattle.am_world.specs.declared.event.Event.TheVariants.{Open, Bytes, Tick}
+use Rattle.am_world.specs.declared.event.Event.TheVariants.{Open, Bytes, Close, Limits, Tick}
 use Rattle.am_world.specs.declared.event.Refused.{Refused}
 use Rattle.am_world.specs.declared.event.Refused.TheVariants.{MomentRefused, InstanceNotUp, NotReading}
 use Rattle.am_world.specs.declared.world.World.{World}
 use Rattle.am_world.specs.Moments.{is_too_late, is_refused_tick}
 use Rattle.am_world.specs.Places.{up_at, reader_of}
-use Rattle.am_world.specs.View.{Seen, Reading, AskedAs, FrontAnswered, Watch, look}
+use Rattle.am_world.specs.View.{Seen, Reading, AskedAs, FrontAnswered, Shut, Watch, look}
 
 -- the moment is looked at first
 abbrev pub refusal : World → Event → Option Refused
@@ -15,14 +15,17 @@ refusal w (Open c i) = if up_at i w.instances then None else Some InstanceNotUp
 refusal w (Bytes c moment piece) =
     if is_too_late moment then Some MomentRefused
     else if is_some (reader_of c w.instances) then None else Some NotReading
+refusal w (Close c) = if is_some (reader_of c w.instances) then None else Some NotReading
+refusal w (Limits tenant limits) = None
 refusal w (Tick moment) = if is_refused_tick moment w.clock then Some MomentRefused else None
 
--- a connection that is neither unknown nor decided
+-- a connection that is neither unknown nor decided, nor left by its client
 abbrev pub is_read : Option Seen → Bool
 is_read None = false
 is_read (Some (Reading i bytes)) = true
 is_read (Some (AskedAs tenant)) = false
 is_read (Some FrontAnswered) = false
+is_read (Some Shut) = false
 
 -- the same by what happened before alone: what is known from the events, and the last tick
 abbrev pub refusal_seen : Watch → ℕ → Event → Option Refused
@@ -30,6 +33,8 @@ refusal_seen v clock (Open c i) = if v.roster.up i then None else Some InstanceN
 refusal_seen v clock (Bytes c moment piece) =
     if is_too_late moment then Some MomentRefused
     else if is_read (look c v.table) then None else Some NotReading
+refusal_seen v clock (Close c) = if is_read (look c v.table) then None else Some NotReading
+refusal_seen v clock (Limits tenant limits) = None
 refusal_seen v clock (Tick moment) = if is_refused_tick moment clock then Some MomentRefused else None
 
 -- the code of a refused event

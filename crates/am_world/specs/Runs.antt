@@ -72,6 +72,7 @@ pub record Forgets (w w' : World) : Type 0 where
   pub outputs : put_out w' ≡ []
   pub clock : w'.clock ≡ w.clock
   pub instances : w'.instances ≡ w.instances
+  pub limits : w'.limits ≡ w.limits
   pub faults : fault_count w' ≡ fault_count w
 
 -- of all that was put out since the opening, each tenant's outputs are those of its private cluster, which sees what the

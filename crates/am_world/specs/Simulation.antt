@@ -1,9 +1,12 @@
 -- that the world stands for the private cluster of every tenant at once, and that each event keeps it so
 use Rattle.std.specs.Prelude.{ℕ, ◌≡◌, ◌⊎◌, ◌==◌, if◌then◌else◌, ◌+◌, ◌^◌, ◌-◌, Bool, true, false, is_some, List, [], ◌++◌, Option, None, Some, IsSome, length, filter, min, max}
 use Rattle.am_world.specs.declared.event.Event.{Event}
-use Rattle.am_world.specs.declared.event.Event.TheVariants.{Open, Bytes, Tick}
+use Rattle.am_world.specs.declared.event.Event.TheVariants as event
 use Rattle.am_world.specs.declared.event.Output.{Output}
 use Rattle.am_world.specs.declared.world.World.{World}
+use Rattle.am_limit.specs.Books.{limits_of}
+use Rattle.am_limit.specs.declared.limits.Limits.{Limits}
+use Rattle.am_tenant.specs.Names.{same}
 use Rattle.am_world.specs.Moments.{clock_after}
 use Rattle.am_world.specs.Outputs.{outputs_of, front_outputs, front_told, are_owned}
 use Rattle.am_world.specs.Places.{numbers, instance_at, local_at, bytes_at, cause_at, up_at, incarnation_at, roster_of, IsDownAt}
@@ -11,7 +14,7 @@ use Rattle.am_world.specs.PrivateCluster.{PrivateCluster, local_of, opened, afte
 use Rattle.am_world.specs.Refusal.{refusal}
 use Rattle.am_world.specs.Roster.{IsSameRoster, roster_after}
 use Rattle.am_world.specs.Setup.{Origin}
-use Rattle.am_world.specs.View.{Seen, Reading, AskedAs, FrontAnswered, Watch, first_watch, look, watch, adds, opens_new}
+use Rattle.am_world.specs.View.{Seen, Reading, AskedAs, FrontAnswered, Shut, Watch, first_watch, look, watch, adds, opens_new}
 
 -- what a world has put out so far, and how many faults came
 abbrev pub put_out : World → List Output
@@ -28,6 +31,7 @@ bytes_read i None = None
 bytes_read i (Some (Reading j bytes)) = if i == j then Some bytes else None
 bytes_read i (Some (AskedAs tenant)) = None
 bytes_read i (Some FrontAnswered) = None
+bytes_read i (Some Shut) = None
 
 -- what is known from the events is so in the world
 pub record Follows (v : Watch) (w : World) : Type 0 where
@@ -38,6 +42,7 @@ pub record Follows (v : Watch) (w : World) : Type 0 where
 pub record Stands (t : List ℕ) (w : World) (p : PrivateCluster) : Type 0 where
   pub tenant : p.tenant ≡ t
   pub clock : w.clock ≡ p.clock
+  pub limits : limits_of t w.limits ≡ p.limits
   pub roster : IsSameRoster (roster_of w.instances) p.roster
   pub local : (i : ℕ) → local_at t i w.instances ≡ local_of (p.at i)
 
@@ -70,6 +75,14 @@ pub record IsAsAlone (t : List ℕ) (v : Watch) (p : PrivateCluster) (e : Event)
   pub told : (u : Watch) → Later (watch v e) u → outputs_of t u outs ≡ told_all p (adds t v e)
   pub fits : fits_all p (adds t v e) ≡ true
 
+-- a tenant's limits after an event
+abbrev pub limits_after : Event → List ℕ → Limits → Limits
+limits_after (event.Open c i) t limits = limits
+limits_after (event.Bytes c moment piece) t limits = limits
+limits_after (event.Close c) t limits = limits
+limits_after (event.Limits tenant new) t limits = if same t tenant then new else limits
+limits_after (event.Tick moment) t limits = limits
+
 -- an event that was handled, or refused: for every tenant at once. What is put out is each tenant's, as its cluster says,
 -- or the front's, as the bytes of the connections say, and nobody else's
 pub record Kept (w : World) (e : Event) (w' : World) : Type 0 where
@@ -81,13 +94,16 @@ pub record Kept (w : World) (e : Event) (w' : World) : Type 0 where
   pub owned : (v : Watch) → Follows v w → (u : Watch) → Later (watch v e) u → are_owned u outs ≡ true
   pub roster : IsSameRoster (roster_of w'.instances) (roster_after e (roster_of w.instances))
   pub clock : w'.clock ≡ clock_after e w.clock
+  pub limits : (t : List ℕ) → limits_of t w'.limits ≡ limits_after e t (limits_of t w.limits)
   pub faults : fault_count w' ≡ fault_count w
 
 -- the instances of which an event asks work
 abbrev pub works : World → Event → ℕ → Bool
-works w (Open c i) j = j == i
-works w (Bytes c moment piece) j = is_some (bytes_at c j w.instances)
-works w (Tick moment) j = up_at j w.instances
+works w (event.Open c i) j = j == i
+works w (event.Bytes c moment piece) j = is_some (bytes_at c j w.instances)
+works w (event.Close c) j = is_some (bytes_at c j w.instances)
+works w (event.Limits tenant limits) j = false
+works w (event.Tick moment) j = up_at j w.instances
 
 -- one fault for each instance that stopped, and one where an event asks work of none
 abbrev pub faults_of : (ℕ → Bool) → ℕ
@@ -108,6 +124,7 @@ pub record Faulted (w : World) (e : Event) (w' : World) : Type 0 where
   pub outs : List Output
   pub appended : put_out w' ≡ put_out w ++ outs
   pub silent : ((i : ℕ) → works w e i ≡ true → stopped i ≡ true) → outs ≡ []
+  pub limits : (t : List ℕ) → limits_of t w'.limits ≡ limits_of t w.limits
   pub counted : fault_count w' ≡ min (fault_count w + faults_of stopped) (2 ^ 64 - 1)
   pub clock : w'.clock ≡ clock_after e w.clock
 

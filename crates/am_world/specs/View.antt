@@ -5,9 +5,9 @@ use Rattle.am_http.specs.declared.request.Fed.TheVariants as fed
 use Rattle.am_http.specs.Verdict.{verdict}
 use Rattle.am_tenant.specs.Names.{same}
 use Rattle.am_world.specs.declared.event.Event.{Event}
-use Rattle.am_world.specs.declared.event.Event.TheVariants.{Open, Bytes, Tick}
+use Rattle.am_world.specs.declared.event.Event.TheVariants.{Open, Bytes, Close, Limits, Tick}
 use Rattle.am_world.specs.Moments.{is_too_late}
-use Rattle.am_world.specs.PrivateCluster.{Happening, Asked, Ticked}
+use Rattle.am_world.specs.PrivateCluster.{Happening, Asked, Limited, Ticked}
 use Rattle.am_world.specs.Roster.{Roster, opened_roster, roster_after}
 use Rattle.am_world.specs.Setup.{Origin}
 
@@ -19,6 +19,8 @@ pub data Seen : Type 0 where
   AskedAs : (tenant : List ℕ) → Seen
   -- the front answered its bytes, and no tenant sees them
   FrontAnswered : Seen
+  -- its client left before its bytes were decided
+  Shut : Seen
 
 -- the connections by name, the newest entry first; no name is ever forgotten
 abbrev pub Table : Type 0
@@ -50,12 +52,23 @@ abbrev pub noted : ℕ → List ℕ → Option Seen → Table → Table
 noted c piece (Some (Reading i before)) table = (c, seen_as i (before ++ piece) (verdict (before ++ piece))) ∷ table
 noted c piece (Some (AskedAs tenant)) table = table
 noted c piece (Some FrontAnswered) table = table
+noted c piece (Some Shut) table = table
 noted c piece None table = table
+
+-- a client that left: its connection is read no more
+abbrev pub left : ℕ → Option Seen → Table → Table
+left c (Some (Reading i bytes)) table = (c, Shut) ∷ table
+left c (Some (AskedAs tenant)) table = table
+left c (Some FrontAnswered) table = table
+left c (Some Shut) table = table
+left c None table = table
 
 -- the connections after an event: one opens where the instance is up; a piece counts where its moment is allowed
 abbrev pub table_after : Watch → Event → Table
 table_after v (Open c i) = if v.roster.up i then (c, Reading i []) ∷ v.table else v.table
 table_after v (Bytes c moment piece) = if is_too_late moment then v.table else noted c piece (look c v.table) v.table
+table_after v (Close c) = left c (look c v.table) v.table
+table_after v (Limits tenant limits) = v.table
 table_after v (Tick moment) = v.table
 
 -- what is known after an event
@@ -74,12 +87,15 @@ abbrev pub asked_on : List ℕ → ℕ → ℕ → List ℕ → Option Seen → 
 asked_on t c moment piece (Some (Reading i before)) = asked_by t c i moment (verdict (before ++ piece))
 asked_on t c moment piece (Some (AskedAs tenant)) = []
 asked_on t c moment piece (Some FrontAnswered) = []
+asked_on t c moment piece (Some Shut) = []
 asked_on t c moment piece None = []
 
 -- what an event is to the tenant
 unfoldable pub adds : List ℕ → Watch → Event → List Happening
 adds t v (Open c i) = []
 adds t v (Bytes c moment piece) = if is_too_late moment then [] else asked_on t c moment piece (look c v.table)
+adds t v (Close c) = []
+adds t v (Limits tenant limits) = if same t tenant then Limited limits ∷ [] else []
 adds t v (Tick moment) = Ticked moment ∷ []
 
 -- what an event list is to the tenant
@@ -96,6 +112,8 @@ watch_all v (e ∷ es) = watch_all (watch v e) es
 abbrev pub opens_new : Watch → Event → Type 0
 opens_new v (Open c i) = IsTrue (v.roster.up i) → look c v.table ≡ None
 opens_new v (Bytes c moment piece) = Unit {0}
+opens_new v (Close c) = Unit {0}
+opens_new v (Limits tenant limits) = Unit {0}
 opens_new v (Tick moment) = Unit {0}
 
 -- no connection's name is used twice

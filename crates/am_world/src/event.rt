@@ -3,6 +3,8 @@
 ghost use Rattle.std.specs.Prelude.{◌≡◌};
 
 use am_http::ConnectionId;
+use am_limit::Limits;
+use am_tenant::TenantName;
 use am_text::Octets;
 use std::fmt;
 
@@ -22,6 +24,15 @@ pub enum Event {
         connection: ConnectionId,
         moment: u64,
         piece: Octets,
+    },
+    /// The client of a connection left: what came of it is dropped, and no reply is owed. Its name stays used.
+    Close {
+        connection: ConnectionId,
+    },
+    /// A tenant has these limits from now on.
+    Limits {
+        tenant: TenantName,
+        limits: Limits,
     },
     /// The clock is at this moment, in milliseconds since 1970.
     Tick {
@@ -46,7 +57,7 @@ pub enum Refused {
     MomentRefused,
     /// The instance isn't up in the ring.
     InstanceNotUp,
-    /// The connection isn't open, or was answered.
+    /// The connection isn't open, or was answered or closed.
     NotReading,
 }
 

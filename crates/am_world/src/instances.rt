@@ -129,7 +129,7 @@ impl Instances {
         let reader = self.reader_of(connection);
         self.open_at(alloc, number, connection)?;
         match reader {
-            Some(reader) if reader != number => self.close_at(reader, connection),
+            Some(reader) if reader != number => self.close(reader, connection),
             _ => {}
         }
         Ok(())
@@ -152,8 +152,8 @@ impl Instances {
         self.list[place(number)].open(alloc, connection)
     }
 
-    // Lets an instance read a connection no more.
-    fn close_at(&mut self, number: u8, connection: ConnectionId)
+    /// Lets an instance read a connection no more.
+    pub fn close(&mut self, number: u8, connection: ConnectionId)
         requires { IsSome (bytes_at connection number self.old) }
         ensures reading { (c i : ℕ) → bytes_at c i self.new ≡
             (if i == number then (if c == connection then None else bytes_at c i self.old) else bytes_at c i self.old) }

@@ -7,6 +7,8 @@ use crate::instances::Instances;
 use crate::setup::Setup;
 use am_http::ConnectionId;
 use am_item::Fault;
+use am_limit::{LimitBook, Limits};
+use am_tenant::TenantName;
 use am_text::{Moment, Octets};
 use std::alloc::{AllocError, Global};
 
@@ -15,6 +17,7 @@ use std::alloc::{AllocError, Global};
 pub struct World {
     pub(crate) clock: Moment,
     pub(crate) instances: Instances,
+    pub(crate) limits: LimitBook,
     pub(crate) outputs: Vec<Output>,
     pub(crate) faults: u64,
 }
@@ -35,6 +38,7 @@ impl World {
         Ok(World {
             clock: Moment::from_milliseconds(0).unwrap(),
             instances,
+            limits: LimitBook::new(alloc),
             outputs: Vec::new(alloc),
             faults: 0,
         })
@@ -85,6 +89,11 @@ impl World {
                 moment,
                 piece,
             } => self.on_bytes(alloc, *connection, *moment, piece),
+            Event::Close { connection } => self.on_close(*connection),
+            Event::Limits { tenant, limits } => {
+                self.on_limits(alloc, tenant, *limits);
+                Ok(())
+            }
             Event::Tick { moment } => self.on_tick(*moment),
         }
     }
@@ -167,6 +176,28 @@ impl World {
         Ok(())
     }
 
+    fn on_close(&mut self, connection: ConnectionId) -> Result<(), Refused>
+        ensures step { Step self.old (Event.Close connection) self.new }
+        ensures refused { MatchOption (refusal self.old (Event.Close connection)) (IsOk result) (λ r. result ≡ Err r) }
+        ensures err { OnErr result (self.new ≡ self.old) }
+    {
+        let Some(reader) = self.instances.reader_of(connection) else {
+            return Err(Refused::NotReading);
+        };
+        self.instances.close(reader, connection);
+        Ok(())
+    }
+
+    // No instance has work of it: where memory is refused, nothing has changed, and a fault is counted.
+    fn on_limits(&mut self, alloc: Global, tenant: &TenantName, limits: Limits)
+        ensures { Step self.old (Event.Limits tenant.now limits) self.new }
+    {
+        match self.limits.set(alloc, tenant, limits) {
+            Ok(()) => {}
+            Err(_) => self.count_fault(),
+        }
+    }
+
     /// The moment at which an event of this own moment happens.
     fn effective(&self, moment: u64) -> Moment
         requires { moment ≤ last_moment }
@@ -177,6 +208,7 @@ impl World {
             _ => self.clock,
         }
     }
+
     /// Stops an instance as a crash does, and counts a fault.
     fn stop(&mut self, alloc: Global, instance: u8, fault: Fault)
         requires { IsTrue (is_instance instance) }
@@ -187,8 +219,19 @@ impl World {
         ensures counted { self.new.faults ≡ min (self.old.faults + 1) (2 ^ 64 - 1) }
         ensures outputs { self.new.outputs.items ≡ self.old.outputs.items }
         ensures clock { self.new.clock ≡ self.old.clock }
+        ensures limits { self.new.limits ≡ self.old.limits }
     {
         self.instances.stop(alloc, instance, fault);
+        self.count_fault();
+    }
+
+    fn count_fault(&mut self)
+        ensures counted { self.new.faults ≡ min (self.old.faults + 1) (2 ^ 64 - 1) }
+        ensures instances { self.new.instances ≡ self.old.instances }
+        ensures outputs { self.new.outputs.items ≡ self.old.outputs.items }
+        ensures clock { self.new.clock ≡ self.old.clock }
+        ensures limits { self.new.limits ≡ self.old.limits }
+    {
         self.faults = self.faults.saturating_add(1);
     }
 }

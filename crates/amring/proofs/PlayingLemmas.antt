@@ -60,6 +60,8 @@ pub refusal_same : (w w' : World) (e : Event) → Forgets w w' → refusal w' e 
 unfolding up_at
 refusal_same w w' (event.Open c i) forgets = rw forgets.instances refl
 refusal_same w w' (event.Bytes c moment piece) forgets = rw forgets.instances refl
+refusal_same w w' (event.Close c) forgets = rw forgets.instances refl
+refusal_same w w' (event.Limits tenant limits) forgets = refl
 refusal_same w w' (event.Tick moment) forgets = rw forgets.clock refl
 
 -- whether an event was refused, by what came of it

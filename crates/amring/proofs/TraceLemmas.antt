@@ -14,7 +14,7 @@ use Rattle.amring.specs.Playing.{Happens, Either, Come, Gives, Calls, Obeys, Pla
 use Rattle.amring.specs.Scenario.{Course, AloneUntilFault}
 use Rattle.amring.specs.Trace.{Happened, events, outputs, no_fault}
 use Rattle.amring.specs.declared.command.Command.{Command}
-use Rattle.amring.specs.declared.command.Command.TheVariants.{Skip, At, Tick, Open, Bytes, Call, Pump}
+use Rattle.amring.specs.declared.command.Command.TheVariants.{Skip, At, Tick, Open, Bytes, Call, Limits, Pump}
 use Rattle.amring.specs.declared.play.Played.{Played}
 use Rattle.amring.specs.declared.play.Played.TheVariants.{BadLine}
 use Rattle.amring.specs.declared.play.Player.{Player}
@@ -73,6 +73,8 @@ obeys_traced p Pump p' trace (same, nothing) = traced_nothing p p' trace (ap (λ
 obeys_traced p (At moment) p' trace (same, nothing) = traced_nothing p p' trace (ap (λ (x : Player). x.world) same)
     nothing
 obeys_traced p Tick p' trace happens = happens_traced p (event.Tick p.moment) p' trace happens
+obeys_traced p (Limits tenant limits) p' trace happens =
+    happens_traced p (event.Limits tenant limits) p' trace happens
 obeys_traced p (Open name i) p' trace (c, place, happens) = happens_traced _ _ p' trace happens
 obeys_traced p (Bytes name text) p' trace (c, place, gives) =
     come_traced c _ gives.pieces gives.left p' trace gives.come

@@ -4,11 +4,12 @@ use Rattle.std.specs.Str.{is_utf8, bytes_eq}
 use Rattle.std.specs.List.{position_or_len, before_first, after_first}
 use Rattle.serde_json.specs.Find.{as_str}
 use Rattle.serde_json.specs.Read.{read}
+use Rattle.am_tenant.specs.Names.{is_tenant_name}
 use Rattle.amring.specs.Number.{number_of}
 use Rattle.amring.specs.declared.line.LineFault.{LineFault}
 use Rattle.amring.specs.declared.line.LineFault.TheVariants.{NotACommand, OutOfMemory}
 use Rattle.amring.specs.declared.command.Command.{Command}
-use Rattle.amring.specs.declared.command.Command.TheVariants.{Skip, At, Tick, Open, Bytes, Call, Pump}
+use Rattle.amring.specs.declared.command.Command.TheVariants.{Skip, At, Tick, Open, Bytes, Call, Limits, Pump}
 use Rattle.amring.specs.declared.command.Request.{Request}
 use denote.Ref.{Bor}
 
@@ -99,6 +100,29 @@ call_of s = do
   r ← request_of i.1
   Some (Call c.0 n r)
 
+-- a number with a space behind it, and what stands behind the space
+unfoldable pub number_then : List ℕ → Option (ℕ × List ℕ)
+number_then s = do
+  w ← word_then s
+  n ← number_of w.0
+  Some (n, w.1)
+
+-- the tenant of this name
+unfoldable pub tenant_named : List ℕ → Option (List ℕ)
+tenant_named s = if is_tenant_name s then Some s else None
+
+-- what stands behind `limits `
+unfoldable pub limits_of : List ℕ → Option Command
+limits_of s = do
+  t ← word_then s
+  tenant ← tenant_named t.0
+  a ← number_then t.1
+  b ← number_then a.1
+  c ← number_then b.1
+  d ← number_then c.1
+  notices ← number_of d.1
+  Some (Limits tenant (record { alerts = a.0; silences = b.0; configuration = c.0; silence = d.0; notices = notices }))
+
 -- a command that is one word
 unfoldable pub lone_command : List ℕ → Option Command
 lone_command name =
@@ -113,6 +137,7 @@ named_command name rest =
     else if bytes_eq name (codes "open") then open_of rest
     else if bytes_eq name (codes "bytes") then bytes_of rest
     else if bytes_eq name (codes "call") then call_of rest
+    else if bytes_eq name (codes "limits") then limits_of rest
     else None
 
 -- the command of a text that is neither empty nor a comment

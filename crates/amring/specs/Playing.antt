@@ -9,7 +9,7 @@ use Rattle.am_world.specs.Setup.{Origin}
 use Rattle.am_world.specs.Refusal.{refusal}
 use Rattle.am_world.specs.Simulation.{Opens, Step, fault_count, put_out}
 use Rattle.amring.specs.declared.command.Command.{Command}
-use Rattle.amring.specs.declared.command.Command.TheVariants.{Skip, At, Tick, Open, Bytes, Call, Pump}
+use Rattle.amring.specs.declared.command.Command.TheVariants.{Skip, At, Tick, Open, Bytes, Call, Limits, Pump}
 use Rattle.amring.specs.declared.play.Played.{Played}
 use Rattle.amring.specs.declared.play.Played.TheVariants.{All, BadLine}
 use Rattle.amring.specs.declared.play.Player.{Player}
@@ -96,6 +96,7 @@ Obeys p Pump p' trace = (p' ≡ p) × (trace ≡ [])
 Obeys p (At moment) p' trace =
     (p' ≡ record { world = p.world; connections = p.connections; moment = moment }) × (trace ≡ [])
 Obeys p Tick p' trace = Happens p (event.Tick p.moment) p' trace
+Obeys p (Limits tenant limits) p' trace = Happens p (event.Limits tenant limits) p' trace
 Obeys p (Open name i) p' trace = OnNamed p name (λ c q. Happens q (event.Open c (instance_of i)) p' trace)
 Obeys p (Bytes name text) p' trace = OnNamed p name (λ c q. Gives c q text p' trace)
 Obeys p (Call name i request) p' trace =

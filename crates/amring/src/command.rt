@@ -1,6 +1,8 @@
 ghost use Rattle.std.specs.Prelude.{◌≡◌, IfOk, string_bytes};
 ghost use Rattle.amring.specs.Request.{request_text, tenant_line};
 
+use am_limit::Limits;
+use am_tenant::TenantName;
 use am_text::Text;
 use std::alloc::{AllocError, Global};
 
@@ -28,6 +30,11 @@ pub enum Command {
         connection: Text,
         instance: u64,
         request: Request,
+    },
+    /// A tenant has these limits from now on.
+    Limits {
+        tenant: TenantName,
+        limits: Limits,
     },
     /// Every message that waits is delivered.
     Pump,

@@ -1,9 +1,11 @@
 ghost use Rattle.std.specs.Prelude.{◌≡◌, option_map};
 ghost use Rattle.amring.specs.Number.{number_of};
-ghost use Rattle.amring.specs.Line.{Reads, split, both, word_of, word_then, string_of, command_of, text_command, lone_command, named_command, at_of, open_of, bytes_of, call_of, request_of, target_of};
+ghost use Rattle.amring.specs.Line.{Reads, split, both, word_of, word_then, string_of, command_of, text_command, lone_command, named_command, at_of, open_of, bytes_of, call_of, limits_of, number_then, request_of, target_of, tenant_named};
 
 use crate::command::{Command, Request};
 use crate::number::number;
+use am_limit::Limits;
+use am_tenant::TenantName;
 use am_text::Text;
 use serde_json::Value;
 use std::alloc::{AllocError, Global};
@@ -79,6 +81,8 @@ fn named_command(alloc: Global, name: &str, rest: &str) -> Result<Command, LineF
         read_bytes(alloc, rest)
     } else if name == "call" {
         read_call(alloc, rest)
+    } else if name == "limits" {
+        read_limits(rest)
     } else {
         Err(LineFault::NotACommand)
     }
@@ -129,6 +133,39 @@ fn read_call(alloc: Global, rest: &str) -> Result<Command, LineFault>
         instance,
         request,
     })
+}
+
+/// A tenant, and its limits: alerts, silences, bytes of a configuration and of a silence, notices in a minute.
+#[tactic(auto, unfolding(crate::specs::Line::limits_of))]
+fn read_limits(rest: &str) -> Result<Command, LineFault>
+    ensures { Reads (λ c. c) result (limits_of rest.now) }
+{
+    let (tenant, rest) = word_then(rest)?;
+    let tenant = read_tenant(tenant)?;
+    let (alerts, rest) = number_then(rest)?;
+    let (silences, rest) = number_then(rest)?;
+    let (configuration, rest) = number_then(rest)?;
+    let (silence, rest) = number_then(rest)?;
+    let notices = read_number(rest)?;
+    let limits = Limits {
+        alerts,
+        silences,
+        configuration,
+        silence,
+        notices,
+    };
+    Ok(Command::Limits { tenant, limits })
+}
+
+/// The name of a tenant.
+#[tactic(auto, unfolding(crate::specs::Line::tenant_named))]
+fn read_tenant(name: &str) -> Result<TenantName, LineFault>
+    ensures { Reads (λ t. t) result (tenant_named name.now) }
+{
+    match TenantName::read(name.as_bytes()) {
+        Ok(tenant) => Ok(tenant),
+        Err(_) => Err(LineFault::NotACommand),
+    }
 }
 
 /// Tenant, method, path, and the body where there is one.
@@ -200,6 +237,16 @@ fn word_then(text: &str) -> Result<(&str, &str), LineFault>
         Some((front, rest)) => Ok((word(front)?, rest)),
         None => Err(LineFault::NotACommand),
     }
+}
+
+/// A number with a space behind it, and what stands behind the space.
+#[tactic(auto, unfolding(crate::specs::Line::number_then))]
+fn number_then(text: &str) -> Result<(u64, &str), LineFault>
+    ensures { Reads (λ p. (p.0, p.1.now)) result (number_then text.now) }
+{
+    let (word, rest) = word_then(text)?;
+    let number = read_number(word)?;
+    Ok((number, rest))
 }
 
 /// A number.

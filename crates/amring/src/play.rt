@@ -133,6 +133,10 @@ impl Player {
                 self.happen(alloc, &Event::Tick { moment }, lines)?;
                 Ok(())
             }
+            Command::Limits { tenant, limits } => {
+                self.happen(alloc, &Event::Limits { tenant, limits }, lines)?;
+                Ok(())
+            }
             Command::Open {
                 connection,
                 instance,

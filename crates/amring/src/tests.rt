@@ -269,6 +269,10 @@ fn bad_lines(rt: HostRuntime) -> Result<(), Fail> {
         b"call c 1 a GET /x ",
         b"call c 1  GET /x",
         b"call c 1 a GET /x []",
+        b"limits a 1 2 3 4",
+        b"limits a 1 2 3 4 5 6",
+        b"limits a|b 1 2 3 4 5",
+        b"limits - 1 2 3 4 5",
         b"join 4",
         b"# a comment\xff",
         b"open \xff 1",
@@ -312,6 +316,7 @@ fn lines_that_are_taken(rt: HostRuntime) -> Result<(), Fail> {
         ("bytes c \t\"a\" \r\n", "refused We5\nfaults 0\n"),
         ("bytes c \"\"", "faults 0\n"),
         ("call c 2 - GET /x \"body\"", "refused We2\nfaults 0\n"),
+        ("limits a 1 02 3 4 5", "faults 0\n"),
     ] {
         let (end, written) = played(rt.alloc(), scenario.as_bytes())?;
         assert_eq!(rt; end, Played::All, "{scenario}");

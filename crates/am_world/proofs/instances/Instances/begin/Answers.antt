@@ -4,8 +4,8 @@ use Rattle.am_world.specs.Places.{bytes_at}
 use Rattle.am_world.proofs.InstancesLemmas.{begun, begun_anew, unread_elsewhere}
 use Rattle.am_world.proofs.instances.Instances.begin.Goals as goal
 
-pub close_at-requires : goal.close_at-requires
-close_at-requires c =
+pub close-requires : goal.close-requires
+close-requires c =
     let apart : nat_eq c.in-Some.reader c.args.number ≡ false = grind (arith, nat_tests) in
     rw (c.in_ok-open_at.ensures.reading c.args.connection c.in-Some.reader, apart) (rw c.in-Some.is at c.reader_of-reader.ensures.reads)
 
@@ -13,7 +13,7 @@ pub returns-in-Some-clause-reading : goal.returns-in-Some-clause-reading
 returns-in-Some-clause-reading c once =
     let apart : nat_eq c.in-Some.reader c.args.number ≡ false = grind (arith, nat_tests) in
     begun_anew c.args.connection c.args.number c.in-Some.reader _ _ _ once (rw c.in-Some.is at c.reader_of-reader.ensures.reads) apart
-    c.in_ok-open_at.ensures.reading c.close_at.ensures.reading
+    c.in_ok-open_at.ensures.reading c.close.ensures.reading
 
 pub returns-else-reader-number-clause-reading : goal.returns-else-reader-number-clause-reading
 returns-else-reader-number-clause-reading c once =

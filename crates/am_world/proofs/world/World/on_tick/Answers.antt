@@ -10,4 +10,4 @@ returns-then-moment-gt-LAST_MOMENT-clause-step c = inl (kept_refused_tick c.args
 pub returns-clause-step : goal.returns-clause-step
 returns-clause-step c = inl (
     kept_tick c.args.self.now _ c.args.moment (grind (arith, nat_tests))
-    (c.effective-self.ensures ∙ max_later c.args.moment c.args.self.now.clock (rw c.milliseconds.ensures.value at c.if-moment-milliseconds.false)) refl refl refl)
+    (c.effective-self.ensures ∙ max_later c.args.moment c.args.self.now.clock (rw c.milliseconds.ensures.value at c.if-moment-milliseconds.false)) refl refl refl refl)

@@ -1,7 +1,7 @@
 use Rattle.std.proofs.Common.{◌≡◌, ◌∙◌, Some, None, [], length, vec_len, rules}
 use Rattle.std.proofs.lemmas.Result.{on_ok_weaker}
 use Rattle.am_world.proofs.InstancesLemmas.{at_number, bytes_exist, changed_at, local_kept, number_of, reading_put, roster_kept, up_exists, within}
-use Rattle.am_world.proofs.instances.Instances.close_at.Goals as goal
+use Rattle.am_world.proofs.instances.Instances.close.Goals as goal
 
 pub place-requires : goal.place-requires
 place-requires c = bytes_exist c.args.connection c.args.number _ c.self.invariant (rw (← c.self.view_is) at c.requires)

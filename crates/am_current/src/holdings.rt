@@ -1,0 +1,119 @@
+ghost use Rattle.std.specs.Prelude.{◌≡◌, ℕ, List, [], IfOk, OnErr, OnOk, false, unwrap_or, if◌then◌else◌};
+ghost use Rattle.std.specs.Borrow.{sem};
+ghost use Rattle.std.specs.Io.BufRead.{Rests};
+ghost use Rattle.am_tenant.specs.Names.{same};
+ghost use Rattle.am_item.specs.Best.{IsRising, all_joined};
+ghost use Rattle.am_item.specs.Book.{items_of};
+ghost use Rattle.am_current.specs.Current.{configuration_in, read_for};
+
+use crate::reading::Readings;
+use crate::replacing::is_replaced;
+use am_config::Config;
+use am_item::{Book, Held, Item};
+use am_tenant::TenantName;
+use std::alloc::{AllocError, Global};
+use std::marker::Model;
+
+/// What is held of all tenants, and the configurations that were read of it.
+#[derive(Drop)]
+pub struct Holdings {
+    parts: Parts,
+}
+
+// The items, and of some tenants what their configuration was read as.
+#[derive(Drop)]
+struct Parts {
+    book: Book,
+    readings: Readings,
+}
+
+impl Parts {
+    // Both of one tenant.
+    fn of(&self, tenant: &TenantName) -> (&Held, &Config)
+        ensures held { result.0.now ≡ items_of tenant.now self.now.book }
+        ensures rising { IsRising result.0.now }
+        ensures configuration { result.1.now ≡ unwrap_or (read_for tenant.now self.now.readings.read) self.now.readings.otherwise }
+    {
+        (self.book.held(tenant), self.readings.of(tenant))
+    }
+}
+
+impl Model for Holdings {
+    ghost use Rattle.std.specs.Prelude.{◌≡◌, ℕ, List};
+    ghost use Rattle.am_config.specs.Default.{default_configuration};
+    ghost use Rattle.am_item.specs.declared.item.Item.{Item};
+    ghost use Rattle.am_current.specs.Current.{AreInUse};
+
+    ghost Value = { List (List ℕ × Item) };
+
+    ghost view = { λ holdings. holdings.parts.book };
+
+    ghost invariant = { λ holdings. AreInUse holdings.parts.readings.read holdings.parts.book × (holdings.parts.readings.otherwise ≡ default_configuration) };
+}
+
+impl Holdings {
+    ghost use Rattle.am_current.specs.contracts.holdings.Holdings.{the_row};
+
+    /// Nothing held.
+    ///
+    /// # Errors
+    /// Out of memory alone.
+    pub fn new(alloc: Global) -> Result<Holdings, AllocError>
+        ensures { IfOk result (λ holdings. holdings ≡ []) }
+    {
+        let parts = Parts {
+            book: Book::new(alloc),
+            readings: Readings::new(alloc)?,
+        };
+        Ok(Holdings { parts })
+    }
+
+    /// What is held of a tenant, in the order of keys.
+    pub fn held(&self, tenant: &TenantName) -> &Held
+        ensures items { result.now ≡ items_of tenant.now self.now }
+        ensures rising { IsRising result.now }
+    {
+        self.parts.book.held(tenant)
+    }
+
+    /// What is held of a tenant, and the configuration in use for it. A text is read when it is first used, and not again
+    /// until a newer configuration is put.
+    ///
+    /// # Errors
+    /// Out of memory alone; what is held stays then too.
+    pub fn in_use(
+        &mut self,
+        alloc: Global,
+        tenant: &TenantName,
+    ) -> Result<(&Held, &Config), AllocError>
+        ensures* stays { sem 𝓛 (Rests the_row self.entry (λ new. new ≡ self.old)) }
+        ensures held { IfOk result (λ used. used.0.now ≡ items_of tenant.now self.old) }
+        ensures rising { IfOk result (λ used. IsRising used.0.now) }
+        ensures configuration { IfOk result (λ used. used.1.now ≡ configuration_in (items_of tenant.now self.old)) }
+    {
+        self.parts
+            .readings
+            .keep(alloc, tenant, self.parts.book.held(tenant))?;
+        Ok(self.parts.of(tenant))
+    }
+
+    /// Puts items of a tenant, one after the other: each takes its key's place, unless an item of that key is held whose
+    /// stamp is no smaller. After an error, which is out of memory, the first of them may be there; other tenants' items
+    /// stay.
+    pub fn put_all(
+        &mut self,
+        alloc: Global,
+        tenant: &TenantName,
+        items: Vec<Item>,
+    ) -> Result<(), AllocError>
+        ensures joined { OnOk result ((t : List ℕ) → items_of t self.new ≡ (if same t tenant.now then all_joined (items_of t self.old) items.items else items_of t self.old)) }
+        ensures others { OnErr result ((t : List ℕ) → same t tenant.now ≡ false → items_of t self.new ≡ items_of t self.old) }
+    {
+        let is_replaced = is_replaced(self.parts.book.held(tenant), items.as_slice());
+        let put = self.parts.book.put_all(alloc, tenant, items);
+        if is_replaced || put.is_err() {
+            self.parts.readings.forget(tenant);
+        }
+        put
+    }
+}

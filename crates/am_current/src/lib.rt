@@ -1,0 +1,13 @@
+//! What is held of all tenants, and the configuration that is in use for each.
+//!
+//! A configuration's text is read when it is first used, and what was read is kept until a newer one is put.
+#![tactic(auto)]
+
+mod holdings;
+mod reading;
+mod replacing;
+
+pub use holdings::Holdings;
+
+#[cfg(test)]
+mod tests;

@@ -1,0 +1,22 @@
+use Rattle.std.proofs.lemmas.Result.{on_ok_weaker}
+use Rattle.sqlite.specs.Held.{state}
+use Rattle.am_store.specs.Texts.{select_all_silences}
+use Rattle.am_store.proofs.Checks.{silences_checked, plain_at}
+use Rattle.am_store.proofs.CompiledOpening.{select_all_silences_plain}
+use Rattle.am_store.proofs.opening.check_silences.Goals as goal
+
+pub returns-in_err-rows-clause-rests : goal.returns-in_err-rows-clause-rests
+returns-in_err-rows-clause-rests g c has = c.rows.ensures.rests (λ clean. plain_at (state g.S.Store c.args.conn.now) select_all_silences (has clean) select_all_silences_plain)
+
+pub returns-in_err-test_silences-clause-rests : goal.returns-in_err-test_silences-clause-rests
+returns-in_err-test_silences-clause-rests g c has = c.rows.ensures.rests (λ clean. plain_at (state g.S.Store c.args.conn.now) select_all_silences (has clean) select_all_silences_plain)
+
+pub returns-clause-rests : goal.returns-clause-rests
+returns-clause-rests g c has = c.rows.ensures.rests (λ clean. plain_at (state g.S.Store c.args.conn.now) select_all_silences (has clean) select_all_silences_plain)
+
+pub returns-clause-ok : goal.returns-clause-ok
+returns-clause-ok g c clean has =
+    let old = state g.S.Store c.args.conn.now in
+    let new = state g.S.Store c.rows.new.conn in
+    let rows = c.in_ok-rows.rows.items in
+    on_ok_weaker c.test_rowids.result (λ rising. silences_checked old new has rows (c.in_ok-rows.ensures.shown clean) (rw c.deref.ensures.value at c.in_ok-test_silences.ensures.ok) (rw c.deref-2.ensures.value at rising)) c.test_rowids.ensures.ok

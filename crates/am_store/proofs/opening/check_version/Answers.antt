@@ -1,0 +1,24 @@
+use Rattle.std.proofs.Common.{◌≡◌, [], ◌∷◌, rules}
+use Rattle.std.proofs.lemmas.Result.{on_ok_weaker}
+use Rattle.sqlite.specs.Held.{state}
+use Rattle.am_store.specs.Texts.{select_version}
+use Rattle.am_store.proofs.Checks.{plain_at, single, version_checked}
+use Rattle.am_store.proofs.CompiledOpening.{select_version_plain}
+use Rattle.am_store.proofs.opening.check_version.Goals as goal
+
+pub returns-in_err-rows-clause-rests : goal.returns-in_err-rows-clause-rests
+returns-in_err-rows-clause-rests g c has = c.rows.ensures.rests (λ clean. plain_at (state g.S.Store c.args.conn.now) select_version (has clean) select_version_plain)
+
+pub returns-then-len-ne1-clause-rests : goal.returns-then-len-ne1-clause-rests
+returns-then-len-ne1-clause-rests g c has = c.rows.ensures.rests (λ clean. plain_at (state g.S.Store c.args.conn.now) select_version (has clean) select_version_plain)
+
+pub returns-clause-rests : goal.returns-clause-rests
+returns-clause-rests g c has = c.rows.ensures.rests (λ clean. plain_at (state g.S.Store c.args.conn.now) select_version (has clean) select_version_plain)
+
+pub returns-clause-ok : goal.returns-clause-ok
+returns-clause-ok g c clean has =
+    let old = state g.S.Store c.args.conn.now in
+    let new = state g.S.Store c.rows.new.conn in
+    let rows = c.in_ok-rows.rows.items in
+    let one : rows ≡ c.index.result.now ∷ [] = single rows c.index.result.now (search rules) c.index.ensures in
+    on_ok_weaker c.test_version.result (λ is. version_checked old new has rows c.index.result.now (c.in_ok-rows.ensures.shown clean) one is) c.test_version.ensures.ok

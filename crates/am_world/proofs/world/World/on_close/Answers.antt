@@ -1,0 +1,13 @@
+use Rattle.std.proofs.Common.{inl, refl}
+use Rattle.am_world.proofs.Faults.{some_where}
+use Rattle.am_world.proofs.KeptClose.{kept_close, kept_unread_close}
+use Rattle.am_world.proofs.world.World.on_close.Goals as goal
+
+pub returns-in_default-clause-step : goal.returns-in_default-clause-step
+returns-in_default-clause-step c = inl (kept_unread_close c.args.self.now c.args.connection c.in_default.ensures.none)
+
+pub returns-clause-step : goal.returns-clause-step
+returns-clause-step c =
+    let found = some_where _ c.in-Some.ensures.reads in
+    inl (kept_close c.args.self.now _ c.in-Some.reader c.args.connection found.0 found.1 c.close.ensures.reading
+    (record { clock = refl; limits = refl; roster = c.close.ensures.roster; local = c.close.ensures.local }) refl refl)
