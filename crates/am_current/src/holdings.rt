@@ -68,6 +68,14 @@ impl Holdings {
         Ok(Holdings { parts })
     }
 
+    /// Forgets all that is held. It takes no memory.
+    pub fn clear(&mut self, alloc: Global)
+        ensures { self.new ≡ [] }
+    {
+        self.parts.book = Book::new(alloc);
+        self.parts.readings.clear();
+    }
+
     /// What is held of a tenant, in the order of keys.
     pub fn held(&self, tenant: &TenantName) -> &Held
         ensures items { result.now ≡ items_of tenant.now self.now }
@@ -76,8 +84,8 @@ impl Holdings {
         self.parts.book.held(tenant)
     }
 
-    /// What is held of a tenant, and the configuration in use for it. A text is read when it is first used, and not again
-    /// until a newer configuration is put.
+    /// What is held of a tenant, and the configuration in use for it. A text is read when it is first used, and not
+    /// again until a newer configuration is put.
     ///
     /// # Errors
     /// Out of memory alone; what is held stays then too.
@@ -97,9 +105,9 @@ impl Holdings {
         Ok(self.parts.of(tenant))
     }
 
-    /// Puts items of a tenant, one after the other: each takes its key's place, unless an item of that key is held whose
-    /// stamp is no smaller. After an error, which is out of memory, the first of them may be there; other tenants' items
-    /// stay.
+    /// Puts items of a tenant, one after the other: each takes its key's place, unless an item of that key is held
+    /// whose stamp is no smaller. After an error, which is out of memory, the first of them may be there; other
+    /// tenants' items stay.
     pub fn put_all(
         &mut self,
         alloc: Global,

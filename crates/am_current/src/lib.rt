@@ -4,6 +4,7 @@
 #![tactic(auto)]
 
 mod holdings;
+pub mod laws;
 mod reading;
 mod replacing;
 

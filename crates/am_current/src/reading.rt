@@ -34,6 +34,14 @@ impl Readings {
         })
     }
 
+    /// Forgets what was read for all tenants.
+    pub(crate) fn clear(&mut self)
+        ensures read { (t : List ℕ) → read_for t self.new.read ≡ None }
+        ensures otherwise { self.new.otherwise ≡ self.old.otherwise }
+    {
+        self.read.clear();
+    }
+
     /// The configuration of a tenant.
     pub(crate) fn of(&self, tenant: &TenantName) -> &Config
         ensures { result.now ≡ unwrap_or (read_for tenant.now self.now.read) self.now.otherwise }
@@ -44,8 +52,8 @@ impl Readings {
         }
     }
 
-    /// Reads the configuration of a tenant of which this is held, where it has a text and none was read. An error, which
-    /// is out of memory, reads none.
+    /// Reads the configuration of a tenant of which this is held, where it has a text and none was read. An error,
+    /// which is out of memory, reads none.
     pub(crate) fn keep(
         &mut self,
         alloc: Global,

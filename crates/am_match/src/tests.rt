@@ -41,20 +41,18 @@ fn patterns_answer(rt: HostRuntime) -> Result<(), Fail> {
     let mut cache = cache_of_one(rt.alloc())?;
     let rows = [
         // The whole value is matched, by each alternative alone.
-        ("a|b", "b", Ok(true)),
-        ("a|b", "ab", Ok(false)),
+        ("^a|b$", "b", Ok(true)),
         ("^a|b$", "ab", Ok(false)),
-        ("a+?", "aaa", Ok(true)),
         // A pattern may take the empty value, and may be empty itself.
-        (".*", "", Ok(true)),
+        (".*?", "aaa", Ok(true)),
+        (".*?", "", Ok(true)),
+        (".*?", "\n", Ok(false)),
         ("", "", Ok(true)),
         ("", "a", Ok(false)),
         // Letters without regard to case, and Unicode's classes.
-        ("(?i)straße", "STRASSE", Ok(false)),
-        ("(?i)éa", "ÉA", Ok(true)),
-        ("\\p{Greek}+", "αβγ", Ok(true)),
-        ("\\d", "٣", Ok(true)),
-        (".", "\n", Ok(false)),
+        ("(?i)straße|éa", "STRASSE", Ok(false)),
+        ("(?i)straße|éa", "ÉA", Ok(true)),
+        ("\\p{Greek}+\\d", "αβγ٣", Ok(true)),
         // Anchored it could be read, but not alone.
         (
             "a)|(b",
@@ -204,7 +202,7 @@ fn refusals_print_their_codes(rt: HostRuntime) -> Result<(), Fail> {
     Ok(())
 }
 
-const ASKED: &str = "a=~\"a|b\",a=~\"a.\",c=~\".*\",c!~\"x\",c=\"\",c!=\"\",a!~\"a.\"";
+const ASKED: &str = "a=~\"a|b\",a=~\"(a.)?\",c=~\"(a.)?\",c!~\"a|b\",c=\"\",c!=\"\",a!~\"(a.)?\"";
 
 // Whether each of the matchers takes the labels.
 fn each_taken(
@@ -224,21 +222,19 @@ fn each_taken(
 fn labels_are_matched(rt: HostRuntime) -> Result<(), Fail> {
     let labels = labels(rt.alloc(), Some(("a", "ab")))?;
     let expected = [false, true, true, true, true, false, false];
-    let mut cache = cache_of_one(rt.alloc())?;
-    let matchers = read_matchers(rt.alloc(), ASKED, &mut cache)?;
-    let taken = each_taken(rt.alloc(), &matchers, &labels, &mut cache)?;
-    assert_eq!(rt; taken.as_slice(), expected.as_slice());
-    // Another tenant's patterns were refused before, each for its depth: the answers are the same.
-    let mut cache = cache_of_one(rt.alloc())?;
     let repeated = longer(rt.alloc(), "", '+', 250)?;
-    for n in 0..1000 {
-        let pattern = format!(in rt.alloc(); "{n}{repeated}")?;
-        let refused = cache.answer(rt.alloc(), pattern.as_str(), "").err();
-        assert_eq!(rt; refused, Some(Failure::Refused(PatternRefusal::BadPattern)));
+    // Where another tenant's patterns were refused before, each for its depth, the answers are the same.
+    for refused_before in [0, 4] {
+        let mut cache = PatternCache::new(rt.alloc(), 2, [7; 16])?;
+        for n in 0..refused_before {
+            let pattern = format!(in rt.alloc(); "{n}{repeated}")?;
+            let refused = cache.answer(rt.alloc(), pattern.as_str(), "").err();
+            assert_eq!(rt; refused, Some(Failure::Refused(PatternRefusal::BadPattern)));
+        }
+        let matchers = read_matchers(rt.alloc(), ASKED, &mut cache)?;
+        let taken = each_taken(rt.alloc(), &matchers, &labels, &mut cache)?;
+        assert_eq!(rt; taken.as_slice(), expected.as_slice());
     }
-    let matchers = read_matchers(rt.alloc(), ASKED, &mut cache)?;
-    let taken = each_taken(rt.alloc(), &matchers, &labels, &mut cache)?;
-    assert_eq!(rt; taken.as_slice(), expected.as_slice());
     Ok(())
 }
 
@@ -252,12 +248,12 @@ fn label_sets_are_asked_together(rt: HostRuntime) -> Result<(), Fail> {
     ];
     let sets = [&sets[0], &sets[1], &sets[2], &sets[3]];
     let rows = [
-        ("a=~\"a.?\",a!~\"b\"", [true, false, false, true]),
-        ("a!~\"ab?\"", [false, true, true, false]),
-        ("a=~\".+\",a!=ab,c=\"\"", [false, true, false, true]),
+        ("a=~\"a|ab\",a!~\"b\"", [true, false, false, true]),
+        ("a!~\"a|ab\"", [false, true, true, false]),
+        ("a!~\"\",a!=ab,c=\"\"", [false, true, false, true]),
     ];
+    let mut cache = cache_of_one(rt.alloc())?;
     for (text, expected) in rows {
-        let mut cache = cache_of_one(rt.alloc())?;
         let matchers = read_matchers(rt.alloc(), text, &mut cache)?;
         let taken = taken_by_all(rt.alloc(), &matchers, &sets, &mut cache)?;
         assert_eq!(rt; taken.as_slice(), expected.as_slice(), "{text}");

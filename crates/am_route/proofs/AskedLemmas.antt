@@ -1,7 +1,8 @@
 -- The matchers that are asked: those of the first sibling, and those after it.
-use Rattle.std.proofs.Common.{◌≡◌, ℕ, ◌+◌, ◌<◌, Bool, true, false, List, All, [], ◌∷◌, ◌++◌, length, get_or, take, drop, refl, subst, append-nil, arith}
+use Rattle.std.proofs.Common.{◌≡◌, ℕ, zero, suc, ◌+◌, ◌<◌, Bool, true, false, List, All, [], ◌∷◌, ◌++◌, length, get_or, take, drop, refl, subst, append-nil, arith}
 use Rattle.std.proofs.lemmas.List.{drop_more}
 use Rattle.std.proofs.lemmas.List.Elements.{All-append, All-cons, All-head, All-nil, All-tail}
+use Rattle.std.proofs.lemmas.Grind.{flat_map-append}
 use Rattle.std.specs.List.{Contains, list_all}
 use Rattle.std.specs.Prelude.{if◌then◌else◌}
 use Rattle.am_labels.specs.declared.Label.{Label}
@@ -11,7 +12,7 @@ use Rattle.am_text.specs.declared.tree.Node.{Node}
 use Rattle.am_text.specs.Trees.{Forest, IsTree, flat, none, tree}
 use Rattle.am_config.specs.declared.parts.Route.{Route}
 use Rattle.am_config.specs.Configured.{HasPattern}
-use Rattle.am_route.specs.Asked.{asked_among, asked_at, asked_of}
+use Rattle.am_route.specs.Asked.{asked_among, asked_at, asked_of, route_matchers}
 use Rattle.am_route.specs.Routes.{route_takes}
 use Rattle.am_draft.specs.Forests.{IsForest, forest_of}
 use Rattle.am_route.proofs.FailureLemmas.{AreAmong, in_back, in_front}
@@ -125,3 +126,51 @@ module _ (labels : List Label) where
       (patterns_asked_among within
       (all_in_front HavePatterns (flat within) []
       (All-tail HavePatterns (record { item = root; within = length (flat within) }) (flat within ++ []) (rw is at fine))))
+
+-- what is in a joined list is in one of the two
+either : (P : Type 0) (xs ys : List MatcherText) (m : MatcherText) → (Contains xs m → P) → (Contains ys m → P) → Contains (xs ++ ys) m → P
+either P [] ys m front back at = back at
+either P (x ∷ xs) ys m front back (zero, below, is) = front (0, omega arith, is)
+either P (x ∷ xs) ys m front back (suc k, below, is) =
+    either P xs ys m (λ there. front (in_back (x ∷ []) xs m there)) back (k, omega (arith, below), is)
+
+-- the matchers that are asked are matchers of the routes
+module _ (labels : List Label) (m : MatcherText) where
+  own_among : (ms : List MatcherText) → Contains (asked_of labels ms) m → Contains ms m
+  unfolding asked_of
+  own_among [] at = at
+  own_among (first ∷ ms) at =
+      (elim (takes_labels first labels) as (λ (b : Bool). Contains (first ∷ (if b then asked_of labels ms else [])) m → Contains (first ∷ ms) m) [
+        | true ↦ λ there.
+            either (Contains (first ∷ ms) m) (first ∷ []) (asked_of labels ms) m (in_front (first ∷ []) ms m) (λ behind. in_back (first ∷ []) ms m (own_among ms behind)) there
+        | false ↦ λ there. in_front (first ∷ []) ms m there
+      ]) at
+
+  among_all : (f : Forest Route) → Contains (asked_among labels f) m → Contains (route_matchers (flat f)) m
+  unfolding asked_among
+  among_all none at = at
+  among_all (tree route within after) at =
+      let inner = route_matchers (flat within) in
+      let later = route_matchers (flat after) in
+      let behind : route_matchers (flat within ++ flat after) ≡ inner ++ later = flat_map-append (λ (node : Node Route). node.item.matchers) (flat within) (flat after) in
+      let goal = Contains (route.matchers ++ (inner ++ later)) m in
+      let from_within : Contains (asked_among labels within) m → goal =
+      λ there. in_back route.matchers (inner ++ later) m (in_front inner later m (among_all within there)) in
+      let from_after : Contains (asked_among labels after) m → goal =
+      λ there. in_back route.matchers (inner ++ later) m (in_back inner later m (among_all after there)) in
+      let from_rest : Contains
+      (if route_takes route labels then asked_among labels within ++ (if route.goes_on then asked_among labels after else []) else asked_among labels after) m → goal =
+      elim (route_takes route labels) as (λ (b : Bool). Contains
+      (if b then asked_among labels within ++ (if route.goes_on then asked_among labels after else []) else asked_among labels after) m → goal) [
+        | true ↦
+            either goal (asked_among labels within) (if route.goes_on then asked_among labels after else []) m from_within
+            (elim route.goes_on as (λ (b : Bool). Contains (if b then asked_among labels after else []) m → goal)
+            [ true ↦ from_after | false ↦ λ (k, below, is). absurd (omega (arith, below)) ])
+        | false ↦ from_after
+      ] in
+      rw behind (either goal (asked_of labels route.matchers) _ m (λ there. in_front route.matchers (inner ++ later) m (own_among route.matchers there)) from_rest at)
+
+pub asked_in_routes : (labels : List Label) (nodes : List (Node Route)) → IsTree nodes → AreAmong (asked_at labels nodes) (route_matchers nodes)
+asked_in_routes labels nodes (root, (within, is)) =
+    rw (is, forest_of-flat (tree root within none), append-nil (flat within))
+    (λ m at. in_back root.matchers (route_matchers (flat within)) m (among_all labels m within at))

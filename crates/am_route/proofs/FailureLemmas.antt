@@ -1,7 +1,7 @@
 -- A failure of some of the matchers that are asked is one of all of them.
 use Rattle.std.proofs.Common.{◌≡◌, ◌∙◌, suc, Bool, true, false, List, All, [], ◌∷◌, ◌++◌, length-append, refl, sym, subst, arith}
 use Rattle.std.proofs.lemmas.List.{get_or_append_left}
-use Rattle.std.proofs.lemmas.List.Elements.{All-cons, All-head, All-nil, All-tail}
+use Rattle.std.proofs.lemmas.List.Elements.{All-append, All-cons, All-head, All-nil, All-tail}
 use Rattle.std.specs.List.{Contains}
 use Rattle.std.specs.Prelude.{Result, Ok, Err, IfErr, if◌then◌else◌}
 use Rattle.std.specs.Result.{IsErrAnd}
@@ -14,7 +14,10 @@ use Rattle.am_pattern.specs.declared.refusal.PatternRefusal.{PatternRefusal}
 use Rattle.am_pattern.proofs.AskingLemmas.{stays-trans}
 use Rattle.am_match.specs.Asking.{IsFailureAmong}
 use Rattle.am_match.specs.Matchers.{MatcherText, is_on_pattern, patterns_of}
+use Rattle.am_text.specs.declared.tree.Node.{Node}
+use Rattle.am_config.specs.declared.parts.Route.{Route}
 use Rattle.am_config.specs.Configured.{HasPattern}
+use Rattle.am_route.specs.Asked.{route_matchers}
 
 -- all of these matchers are among those
 abbrev pub AreAmong : List MatcherText → List MatcherText → Type 0
@@ -57,3 +60,10 @@ patterns_had (m ∷ ms) fine =
       | true ↦ λ on. All-cons IsPattern m.value (patterns_of ms) (All-head HasPattern m ms fine on) rest
       | false ↦ λ on. rest
     ]) refl
+
+-- the matchers of routes have their patterns, where those of each route have
+pub route_patterns : (nodes : List (Node Route)) → All (λ (node : Node Route). All HasPattern node.item.matchers) nodes → All HasPattern (route_matchers nodes)
+route_patterns [] fine = All-nil HasPattern
+route_patterns (node ∷ nodes) fine =
+    All-append HasPattern node.item.matchers (route_matchers nodes) (All-head (λ (other : Node Route). All HasPattern other.item.matchers) node nodes fine)
+    (route_patterns nodes (All-tail (λ (other : Node Route). All HasPattern other.item.matchers) node nodes fine))

@@ -2,3 +2,6 @@ pub mod AskedLemmas
 pub mod FailureLemmas
 pub mod PlacesLemmas
 pub mod RoutesLemmas
+pub mod KnownLemmas
+pub mod QuestionLemmas
+pub mod TableLemmas

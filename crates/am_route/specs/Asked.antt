@@ -1,5 +1,6 @@
 -- Which matchers are asked whether they take labels, on the way along the routes.
 use Rattle.std.specs.Prelude.{List, [], ◌∷◌, ◌++◌, if◌then◌else◌}
+use Rattle.std.specs.List.{flat_map}
 use Rattle.am_labels.specs.declared.Label.{Label}
 use Rattle.am_match.specs.Matchers.{MatcherText}
 use Rattle.am_match.specs.Meaning.{takes_labels}
@@ -31,3 +32,7 @@ asked_below labels (tree root within after) = asked_among labels within
 -- those asked in the tree that a list of routes holds
 abbrev pub asked_at : List Label → List (Node Route) → List MatcherText
 asked_at labels nodes = asked_below labels (forest_of nodes)
+
+-- all matchers of routes
+abbrev pub route_matchers : List (Node Route) → List MatcherText
+route_matchers nodes = flat_map (λ (node : Node Route). node.item.matchers) nodes

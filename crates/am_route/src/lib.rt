@@ -1,11 +1,13 @@
-//! The routes of an alert: the places of the route tree at which it ends up.
+//! The routes of alerts: the places of the route tree at which they end up.
 #![tactic(auto)]
 
+mod answers;
 mod id;
+mod questions;
 mod routing;
 
 pub use id::RouteId;
-pub use routing::routes_of;
+pub use routing::{routes_of, routes_of_each};
 
 #[cfg(test)]
 mod tests;

@@ -1,5 +1,5 @@
 -- What the queries of the opening show of a database with the tables of a store.
-use Rattle.std.proofs.Common.{◌≡◌, ℤ, pos, List, [], ◌∷◌, drop, get_or, length, map, arith, refl, sym, ap, ap₂, subst, ◌∙◌, Bool, true, ◌≤◌, ℕ}
+use Rattle.std.proofs.Common.{◌≡◌, pos, List, [], ◌∷◌, drop, get_or, length, map, arith, refl, sym, ap, ap₂, subst, ◌∙◌, true, ◌≤◌, ℕ}
 use Rattle.std.specs.List.{All, filter}
 use Rattle.std.specs.List.Sorted.{IsPermutation}
 use Rattle.std.proofs.lemmas.List.Sorted.{IsPermutation-sym}
@@ -14,13 +14,13 @@ use Rattle.am_store.specs.Opening.{AreRising, AreRowsOf, HasVersion, IsVersionRo
 use Rattle.am_store.specs.Rows.{IsConfig, IsSilenceRow, IsStore}
 use Rattle.am_store.specs.Tables.{store_schema}
 use Rattle.am_store.specs.Texts.{select_all_configs, select_all_silences, select_version}
-use Rattle.am_store.specs.Where.{columns2, columns7, columns13, hit}
+use Rattle.am_store.specs.Where.{columns2, columns7, columns13}
 use Rattle.am_store.proofs.Calls.{shown_unchanged}
 use Rattle.am_store.proofs.CompiledOpening.{by_rowid, select_all_configs_is, select_all_configs_plain, select_all_configs_unlisted, select_all_silences_is, select_all_silences_plain, select_all_silences_unlisted, select_version_is, select_version_plain, select_version_unlisted}
 use Rattle.am_store.proofs.Statements.{reads}
 use Rattle.am_store.proofs.Tested.{are_rows, config_shown, configs_short, silence_shown, silences_short, version_shown, versions_short}
 
-all_pass : {X : Type 0} (xs : List X) → filter (λ x. true) xs ≡ xs
+pub all_pass : {X : Type 0} (xs : List X) → filter (λ x. true) xs ≡ xs
 all_pass [] = refl
 all_pass (x ∷ xs) = ap (λ ys. x ∷ ys) (all_pass xs)
 
@@ -55,11 +55,11 @@ module _ (old new : State) (has : old.now.schema ≡ store_schema) (rows : List 
       let there = one_shown seen2 (old.now.trees 0) row (one_permutation row (map seen2 (old.now.trees 0)) (IsPermutation-sym _ _ (subst (IsPermutation (map seen2 (old.now.trees 0))) one seen))) in (
         shown_unchanged old new select_version [] (plain_at old select_version has select_version_plain) rows shown,
         λ sound.
-        let short : length (drop 1 there.0) ≤ 1 = (rw there.1 at (versions_short old.now sound has)).0 in
-        let whole : there.0 ≡ row = version_shown there.0 short (subst IsVersionRow (sym there.2) is) ∙ there.2 in
-        let first : column there.0 0 ≡ Int is.id = ap (λ r. column r 0) whole ∙ is.id_is in
-        let second : column there.0 1 ≡ Int (pos 1) = ap (λ r. column r 1) whole ∙ is.number in
-        (is.id, there.1 ∙ ap (λ r. r ∷ []) (version_shown there.0 short (subst IsVersionRow (sym there.2) is) ∙ ap₂ (λ a b. a ∷ b ∷ []) first second)),
+            let short : length (drop 1 there.0) ≤ 1 = (rw there.1 at (versions_short old.now sound has)).0 in
+            let whole : there.0 ≡ row = version_shown there.0 short (subst IsVersionRow (sym there.2) is) ∙ there.2 in
+            let first : column there.0 0 ≡ Int is.id = ap (λ r. column r 0) whole ∙ is.id_is in
+            let second : column there.0 1 ≡ Int (pos 1) = ap (λ r. column r 1) whole ∙ is.number in
+            (is.id, there.1 ∙ ap (λ r. r ∷ []) (version_shown there.0 short (subst IsVersionRow (sym there.2) is) ∙ ap₂ (λ a b. a ∷ b ∷ []) first second)),
       )
 
   pub configs_checked : Shown select_all_configs [] old new rows → All IsConfig rows → AreRising rows → IsUnchanged old new × (IsDatabase old.now → AreRowsOf IsConfig (old.now.trees 1))
@@ -88,6 +88,7 @@ all_checked a b c d has live one two three =
     let at_b : b.now ≡ a.now = one.0.0.now_is in
     let at_c : c.now ≡ a.now = two.0.0.now_is ∙ at_b in
     let configs = subst (λ (db : Database). AreRowsOf IsConfig (db.trees 1)) at_b (two.1 (subst IsDatabase (sym at_b) sound)) in
-    let silences = subst (λ (db : Database). AreRowsOf IsSilenceRow (db.trees 3)) at_c (three.1 (subst IsDatabase (sym at_c) sound)) in
-    (record { schema = has; version = one.1 sound; configs = configs.0; configs_apart = configs.1; silences = silences.0; silences_apart = silences.1 },
-    unchanged_then a c d (unchanged_then a b c one.0 two.0) three.0)
+    let silences = subst (λ (db : Database). AreRowsOf IsSilenceRow (db.trees 3)) at_c (three.1 (subst IsDatabase (sym at_c) sound)) in (
+      record { schema = has; version = one.1 sound; configs = configs.0; configs_apart = configs.1; silences = silences.0; silences_apart = silences.1 },
+      unchanged_then a c d (unchanged_then a b c one.0 two.0) three.0,
+    )

@@ -1,5 +1,5 @@
 -- How the tables of a store are made.
-use Rattle.std.proofs.Common.{◌≡◌, arith, ℕ, pos, Bool, true, false, List, [], ◌∷◌, ◌++◌, map, Ok, Result, None, refl, sym, ap, ap₂, subst, ◌∙◌, codes}
+use Rattle.std.proofs.Common.{◌≡◌, arith, ℕ, pos, true, false, List, [], ◌∷◌, ◌++◌, map, Ok, None, refl, sym, ap, ap₂, subst, ◌∙◌, codes}
 use Rattle.std.proofs.lemmas.Fmt.{decimal_digit}
 use Rattle.sqlite.specs.declared.types.Value.TheVariants.{Int, Null}
 use Rattle.sqlite.specs.Change.{KeepsRows, created, next_tree}
@@ -8,12 +8,11 @@ use Rattle.sqlite.specs.Compile.{table_defined_by}
 use Rattle.sqlite.specs.Does.{Tally, lacks_sequence}
 use Rattle.sqlite.specs.Effect.{Database}
 use Rattle.sqlite.specs.Listing.{understood}
-use Rattle.sqlite.specs.Order.{Row}
 use Rattle.sqlite.specs.Schema.{Schema}
 use Rattle.sqlite.specs.State.{Executes, State, Writes}
 use Rattle.sqlite.specs.Table.{Table}
 use Rattle.sqlite.specs.Term.{col, lit}
-use Rattle.sqlite.specs.Tree.{Trees, put_row}
+use Rattle.sqlite.specs.Tree.{put_row}
 use Rattle.sqlite.proofs.Callers.{IsPlain, command_of, runs_as, statement_of}
 use Rattle.am_store.specs.Opening.{Founds, MakesTable}
 use Rattle.am_store.specs.Rows.{config_in, pairs_in, silence_in}

@@ -15,6 +15,9 @@ pub mod Founding
 pub mod Rising
 pub mod Tested
 pub mod Checks
+pub mod Bests
+pub mod Named
+pub mod InOrder
 pub mod Readings
 pub mod Puts
 pub mod RowsOf

@@ -1,5 +1,5 @@
 -- Calls that write nothing.
-use Rattle.std.proofs.Common.{◌≡◌, ◌⊎◌, inl, inr, List, ℕ, Result, Ok, Err, IfErr, IfOk, IsTrue, sym, ◌∙◌}
+use Rattle.std.proofs.Common.{◌⊎◌, inl, inr, List, ℕ, Result, Ok, Err, IfErr, IfOk, sym, ◌∙◌}
 use Rattle.std.specs.Global.{Vec}
 use Rattle.sqlite.specs.declared.error.Error.{Error}
 use Rattle.sqlite.specs.Listing.{understood}
@@ -37,10 +37,12 @@ pub rests_then : (a b c : State) → Rests a b → Rests b c → Rests a c
 rests_then a b c one two = record {
   survives = survives_then a b c (λ _. ⊥) (λ _. ⊥) (λ _. ⊥) (λ _ db none. none) (λ _ db none. none) one.survives two.survives;
   same = λ clean still.
-  let last = two.same clean still in
-  let first = one.same (clean_before b c _ two.survives clean) last.0 in
-  (first.0, λ settled.
-  let mid : IsSame a b = first.1 settled in
-  let end : IsSame b c = last.1 (mid.0 ∙ settled ∙ sym mid.1) in
-  (end.0 ∙ mid.0, end.1 ∙ mid.1));
+      let last = two.same clean still in
+      let first = one.same (clean_before b c _ two.survives clean) last.0 in (
+        first.0,
+        λ settled.
+            let mid : IsSame a b = first.1 settled in
+            let end : IsSame b c = last.1 (mid.0 ∙ settled ∙ sym mid.1) in
+            (end.0 ∙ mid.0, end.1 ∙ mid.1),
+      );
 }

@@ -42,7 +42,7 @@ use Rattle.am_store.proofs.RowLists.{without_test}
 -- ---- queries
 
 module _ (tree : ℕ) (terms project : List Term) (order : List (Term × Key)) (params : Row) where
-  matched : (rows : List Row)
+  pub matched : (rows : List Row)
       → map (output (over tree terms project order)) (flat_map (λ r. cond (list_all (holds (params ∷ r ∷ [])) terms) ((params ∷ r ∷ []) ∷ []) []) rows)
       ≡ map (λ r. output (over tree terms project order) (params ∷ r ∷ [])) (filter (hit terms params) rows)
   matched [] = refl

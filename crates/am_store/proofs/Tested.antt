@@ -1,8 +1,7 @@
 -- What rows that were read and tested say of a table.
-use Rattle.std.proofs.Common.{◌≡◌, inl, inr, ℕ, ◌+◌, ◌≤◌, ℤ, pos, Bool, true, false, List, [], ◌∷◌, length, map, drop, get_or, Option, None, refl, sym, ap, ap₂, subst, arith, ◌∙◌}
+use Rattle.std.proofs.Common.{◌≡◌, inl, inr, ℕ, ◌+◌, ◌≤◌, ℤ, pos, true, false, List, [], ◌∷◌, length, map, drop, Option, None, refl, sym, ap, ap₂, subst, arith, ◌∙◌}
 use Rattle.std.specs.List.{All, AllByRecursion, IsDistinct}
-use Rattle.std.specs.List.Sorted.{IsPermutation, IsStrictlySortedBy}
-use Rattle.std.specs.Ordering.{eq_by_cmp}
+use Rattle.std.specs.List.Sorted.{IsPermutation}
 use Rattle.std.proofs.lemmas.Bool.{and_parts, cases_lt, false≢true}
 use Rattle.std.proofs.lemmas.List.{get_or_past}
 use Rattle.std.proofs.lemmas.List.Elements.{recursion_from_All}
@@ -19,7 +18,7 @@ use Rattle.sqlite_schema.specs.declared.schema.Column.{Column}
 use Rattle.sqlite_schema.specs.declared.schema.Constraint.TheVariants.{Datatype}
 use Rattle.sqlite_schema.specs.Rules.{are_typed}
 use Rattle.am_store.specs.Apart.{AreApart}
-use Rattle.am_store.specs.Opening.{AreRising, AreRowsOf, HasVersion, IsVersionRow}
+use Rattle.am_store.specs.Opening.{AreRising, AreRowsOf, IsVersionRow}
 use Rattle.am_store.specs.Rows.{IsConfig, IsSilenceRow}
 use Rattle.am_store.specs.Tables.{config, silence, store_schema, version}
 use Rattle.am_store.specs.Where.{columns2, columns7, columns13}

@@ -9,3 +9,4 @@ pub mod Reading
 pub mod Steps
 pub mod Kept
 pub mod Opening
+pub mod Best

@@ -1,12 +1,15 @@
 -- How rows are read.
-use Rattle.std.specs.Prelude.{◌≡◌, ◌+◌, ℕ, pos, Bool, not, List, Some}
+use Rattle.std.specs.Prelude.{◌≡◌, ◌||◌, ◌+◌, ℕ, pos, Bool, not, List, Some}
+use Rattle.std.specs.List.{list_any}
 use Rattle.sqlite.specs.declared.types.Value.TheVariants.{Int}
-use Rattle.sqlite.specs.Order.{Row, column}
+use Rattle.sqlite.specs.Order.{Row, bytes, column}
+use Rattle.sqlite.specs.Tree.{Trees}
+use Rattle.am_tenant.specs.Names.{same}
 use Rattle.am_item.specs.declared.stamp.Stamp.{Stamp}
 use Rattle.am_item.specs.Stamp.{stamp_cmp}
 use Rattle.std.specs.Ordering.{is_gt}
 use Rattle.am_item.specs.declared.item.Item.{Item}
-use Rattle.am_store.specs.Rows.{IsConfig, IsSilenceRow, IsStamp, config_in, silence_in, stamp_at}
+use Rattle.am_store.specs.Rows.{IsConfig, IsSilenceRow, IsStamp, config_in, pairs_in, silence_in, stamp_at}
 use Rattle.am_store.specs.Stored.{stored_item}
 
 -- from this place on four columns hold a stamp
@@ -32,3 +35,10 @@ pub record ReadsSilence (row : Row) (tenant : List ℕ) (item : Item) : Type 0 w
   pub is : IsSilenceRow row
   pub tenant_is : (silence_in row).0 ≡ tenant
   pub item_is : stored_item item ≡ Some (silence_in row).1
+
+-- the rows of two queries, whose first columns are names, name the tenants of all pairs
+abbrev pub NameTenants : List Row → List Row → Trees → Type 0
+NameTenants configs silences trees =
+    (t : List ℕ)
+    → (list_any (λ r. same t (bytes (column r 0))) configs || list_any (λ r. same t (bytes (column r 0))) silences)
+    ≡ list_any (λ pair. same t pair.0) (pairs_in trees)

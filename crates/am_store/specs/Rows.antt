@@ -19,7 +19,7 @@ use Rattle.am_item.specs.declared.item.Thing.{Thing}
 use Rattle.am_item.specs.declared.item.Thing.TheVariants as thing
 use Rattle.am_item.specs.declared.stamp.Stamp.{Stamp}
 use Rattle.am_store.specs.Apart.{AreApart}
-use Rattle.am_store.specs.Stored.{ConfigurationText, SilenceText, SilenceWords, Stored, silence_text, stamped}
+use Rattle.am_store.specs.Stored.{ConfigurationText, SilenceText, SilenceWords, Stored, stamped}
 use Rattle.am_store.specs.Tables.{store_schema}
 
 -- ---- what rows spell
@@ -74,15 +74,21 @@ pub record IsSilence (s : SilenceText) : Type 0 where
   pub spellable : IsSpellable s.matchers
   pub matchers : All IsMatcher s.matchers
 
--- an item that may be stored: a silence has to be one, and alerts and sent entries aren't stored
+-- what a stamp's type leaves open: an instance from 1 to 8, a count up to the greatest
+pub record IsNumbered (s : Stamp) : Type 0 where
+  pub first : 1 ≤ s.instance
+  pub last : s.instance ≤ 8
+  pub count : s.count ≤ greatest_count
+
+-- an item that may be stored, as far as its type leaves that open: the matchers of a silence can be written as bytes
 abbrev pub IsFitThing : Thing → Type 0
 IsFitThing (thing.Configuration text) = ⊤
-IsFitThing (thing.Silence silence) = IsSilence (silence_text silence)
+IsFitThing (thing.Silence silence) = IsSpellable silence.matchers.items
 IsFitThing (thing.Alert alert) = ⊤
 IsFitThing (thing.SentEntry entry) = ⊤
 
 pub record IsFit (item : Item) : Type 0 where
-  pub stamp : IsStamp item.stamp
+  pub stamp : IsNumbered item.stamp
   pub thing : IsFitThing item.thing
 
 -- the row is that of a configuration of a tenant

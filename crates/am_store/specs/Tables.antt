@@ -102,7 +102,7 @@ abbrev pub store_schema : Schema
 store_schema = record {
   tables = version 0 ∷ config 1 ∷ silence 3 ∷ [];
   indexes =
-    index_of (codes "sqlite_autoindex_config_1") 2 1 (1 ∷ [])
-    ∷ index_of (codes "sqlite_autoindex_silence_1") 4 3 (1 ∷ 2 ∷ []) ∷ [];
+      index_of (codes "sqlite_autoindex_config_1") 2 1 (1 ∷ [])
+      ∷ index_of (codes "sqlite_autoindex_silence_1") 4 3 (1 ∷ 2 ∷ []) ∷ [];
   views = [];
 }

@@ -8,7 +8,7 @@ ghost use Rattle.sqlite.specs.State.{HasCleanDisk, IsUnchanged, KeepsCommit, Sur
 ghost use Rattle.sqlite.specs.Term.{eval_all};
 ghost use Rattle.sqlite.specs.Values.{bound};
 ghost use Rattle.am_tenant.specs.Names.{is_tenant_name};
-ghost use Rattle.am_store.specs.Rows.{IsStamp, IsStore, config_fields};
+ghost use Rattle.am_store.specs.Rows.{IsNumbered, IsStamp, IsStore, config_fields};
 ghost use Rattle.am_store.specs.Steps.{PutsRow, Stores, TakesOut};
 ghost use Rattle.am_store.specs.Stored.{ConfigurationText, stamped};
 ghost use Rattle.am_store.specs.Tables.{store_schema};
@@ -32,8 +32,9 @@ pub(crate) fn named(tenant: &TenantName) -> [ValueRef<'_>; 1]
 
 // The columns of a configuration.
 fn columns<'a>(tenant: &'a TenantName, stamp: &Stamp, body: &'a Option<Text>) -> [ValueRef<'a>; 6]
-    requires { IsStamp stamp.now }
+    requires { IsNumbered stamp.now }
     ensures bound { bound result ≡ config_fields tenant.now stamp.now body.now }
+    ensures stamp { IsStamp stamp.now }
     ensures text { IfSome body.now IsUtf8 }
     ensures name { IsTrue (is_tenant_name tenant.now) }
 {
@@ -99,7 +100,8 @@ fn put_in<S: Alter>(
     stamp: &Stamp,
     body: &Option<Text>,
 ) -> Result<(), Error>
-    requires { IsStamp stamp.now }
+    requires { IsNumbered stamp.now }
+    ensures stamp { IsStamp stamp.now }
     ensures text { IfSome body.now IsUtf8 }
     ensures name { IsTrue (is_tenant_name tenant.now) }
     ensures same_reference { tx.new.conn.ghost_name ≡ tx.old.conn.ghost_name }
@@ -128,7 +130,7 @@ pub(crate) fn put<S: Alter>(
     stamp: &Stamp,
     body: &Option<Text>,
 ) -> Result<(), Error>
-    requires { IsStamp stamp.now }
+    requires { IsNumbered stamp.now }
     ensures same_reference { tx.new.conn.ghost_name ≡ tx.old.conn.ghost_name }
     ensures ok { HasCleanDisk (state S.Store tx.new.conn.now) → IsStore (state S.Store tx.old.conn.now).now
         → OnOk result (Stores tenant.now (stamped stamp.now (ConfigurationText body.now) ∷ [])

@@ -1,11 +1,9 @@
 //! The store of an instance: the configurations and silences of its tenants, kept in a database.
-//!
-//! Two parts are missing. Nothing opens a database as a store, which is to make the tables of a blank one, and to
-//! refuse one with another schema or with rows that are no items. And nothing lists the tenants of a store.
 #![tactic(auto)]
 
 mod commit;
 mod config;
+mod laws;
 mod numbers;
 mod opening;
 mod query;
@@ -16,6 +14,8 @@ mod schema;
 mod silence;
 mod stamps;
 mod store;
+mod tenants;
 
+pub use laws::rows_are_the_best;
 pub use refusal::StoreRefusal;
 pub use store::Store;

@@ -1,11 +1,12 @@
 //! Opening: a blank database gets its tables, and the rows of one that has them are tested.
 
-ghost use Rattle.std.specs.Prelude.{◌≡◌, [], ◌∷◌, false, pos, All, IsTrue, OnErr, OnOk};
+ghost use Rattle.std.specs.Prelude.{◌≡◌, [], ◌∷◌, false, pos, All, IfErr, IsTrue, OnErr, OnOk};
 ghost use Rattle.sqlite.specs.declared.types.Value.TheVariants.{Int};
 ghost use Rattle.sqlite.specs.Effect.{IsDatabase};
 ghost use Rattle.sqlite.specs.Held.{state};
 ghost use Rattle.sqlite.specs.State.{HasCleanDisk, IsUnchanged, KeepsCommit, Survives};
-ghost use Rattle.am_store.specs.Opening.{AreRising, AreRowsOf, Founds, HasVersion, IsVersionRow, LeavesNew, MakesTable, Opens, Rests};
+ghost use Rattle.am_store.specs.Opening.{AreRising, AreRowsOf, Founds, HasVersion, IsVersionRow, LeavesNew};
+ghost use Rattle.am_store.specs.Opening.{MakesTable, Opens, Rests};
 ghost use Rattle.am_store.specs.Rows.{IsConfig, IsSilenceRow, IsStore};
 ghost use Rattle.am_store.specs.Steps.{Commits, IsSame, Leaves, PutsRow};
 ghost use Rattle.am_store.specs.Tables.{config, no_schema, one_table, silence, store_schema, two_tables, version};
@@ -249,7 +250,8 @@ fn check_silences<S: Alter>(
 fn check<S: Alter>(alloc: Global, conn: &mut Connection<S>) -> Result<(), Failure<StoreRefusal>>
     ensures rests { Rests (state S.Store conn.old) (state S.Store conn.new) }
     ensures ok { HasCleanDisk (state S.Store conn.new)
-        → OnOk result (IsStore (state S.Store conn.old).now × IsUnchanged (state S.Store conn.old) (state S.Store conn.new)) }
+        → OnOk result (IsStore (state S.Store conn.old).now
+        × IsUnchanged (state S.Store conn.old) (state S.Store conn.new)) }
     ensures idle { conn.old.in_transaction ≡ false → conn.new.in_transaction ≡ false }
 {
     if !is_store(alloc, conn.schema())? {
@@ -270,6 +272,8 @@ pub(crate) fn open<S: Alter>(
         → OnOk result (Opens (state S.Store conn.old) (state S.Store conn.new)) }
     ensures err { HasCleanDisk (state S.Store conn.new) → IsTrue (state S.Store conn.new).is_open
         → OnErr result (IsSame (state S.Store conn.old) (state S.Store conn.new)) }
+    ensures used { IfErr result (λ failure. failure ≡ Failure.Refused StoreRefusal.Foreign
+        → (state S.Store conn.old).now.schema ≡ no_schema → ⊥) }
     ensures idle { conn.new.in_transaction ≡ false }
     ensures crash { Survives (state S.Store conn.old) (state S.Store conn.new) (LeavesNew (state S.Store conn.old)) }
 {

@@ -21,8 +21,10 @@ pub(crate) fn rows<S: Alter>(
     params: &[ValueRef<'_>],
 ) -> Result<Vec<Row>, Failure<StoreRefusal>>
     ensures shown { HasCleanDisk (state S.Store conn.new)
-        → IfOk result (λ rows. Shown sql.now (bound params.now) (state S.Store conn.old) (state S.Store conn.new) rows.items) }
-    ensures rests { (HasCleanDisk (state S.Store conn.new) → IsPlain (understood (state S.Store conn.old).now.schema sql.now))
+        → IfOk result (λ rows. Shown sql.now (bound params.now) (state S.Store conn.old) (state S.Store conn.new)
+        rows.items) }
+    ensures rests { (HasCleanDisk (state S.Store conn.new)
+        → IsPlain (understood (state S.Store conn.old).now.schema sql.now))
         → Rests (state S.Store conn.old) (state S.Store conn.new) }
     ensures clean { HasCleanDisk (state S.Store conn.new) → HasCleanDisk (state S.Store conn.old) }
     ensures idle { conn.old.in_transaction ≡ false → conn.new.in_transaction ≡ false }

@@ -33,12 +33,12 @@ pub(crate) fn or_foreign<T>(read: Result<T, Error>) -> Result<T, Failure<StoreRe
     }
 }
 
-// The tenant of a row.
-fn tenant_in(row: &Row) -> Result<TenantName, Failure<StoreRefusal>>
-    ensures text { IfOk result (λ tenant. column row.now 1 ≡ Words tenant) }
+// The tenant in a column.
+pub(crate) fn tenant_in(row: &Row, at: usize) -> Result<TenantName, Failure<StoreRefusal>>
+    ensures text { IfOk result (λ tenant. column row.now at ≡ Words tenant) }
     ensures name { IfOk result (λ tenant. IsTrue (is_tenant_name tenant)) }
 {
-    let ValueRef::Text(bytes) = or_foreign(row.get_ref(1))? else {
+    let ValueRef::Text(bytes) = or_foreign(row.get_ref(at))? else {
         return Err(Failure::Refused(StoreRefusal::Foreign));
     };
     match TenantName::read(bytes) {
@@ -83,7 +83,7 @@ pub(crate) fn read_config(
         return Err(Failure::Refused(StoreRefusal::Foreign));
     }
     let _rowid: i64 = or_foreign(row.get(0))?;
-    let tenant = tenant_in(row)?;
+    let tenant = tenant_in(row, 1)?;
     let body = body_in(alloc, row)?;
     let stamp = or_foreign(stamp_of(row, 3))?;
     Ok((
@@ -151,7 +151,7 @@ pub(crate) fn read_silence(
         return Err(Failure::Refused(StoreRefusal::Foreign));
     }
     let _rowid: i64 = or_foreign(row.get(0))?;
-    let tenant = tenant_in(row)?;
+    let tenant = tenant_in(row, 1)?;
     let stamp = or_foreign(stamp_of(row, 9))?;
     let silence = Silence {
         id: id_in(row)?,

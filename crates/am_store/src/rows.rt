@@ -1,68 +1,78 @@
 //! The rows of a tenant, read as items.
 
-ghost use Rattle.std.specs.Prelude.{◌≡◌, ◌++◌, [], ◌∷◌, false, filter, IfOk, OnOk, map};
+ghost use Rattle.std.specs.Prelude.{◌≡◌, ◌++◌, [], ◌∷◌, false, IfOk, IsTrue, OnOk, map};
+ghost use Rattle.std.specs.declared.cmp.Ordering.TheVariants.{Less};
 ghost use Rattle.std.specs.List.Sorted.{IsPermutation};
-ghost use Rattle.sqlite.specs.declared.types.Value.TheVariants.{Text as Words};
 ghost use Rattle.sqlite.specs.Held.{state};
-ghost use Rattle.sqlite.specs.State.{CommitsShowing, HasCleanDisk, IsUnchanged, Survives};
+ghost use Rattle.sqlite.specs.State.{HasCleanDisk};
+ghost use Rattle.am_item.specs.Best.{IsRising};
+ghost use Rattle.am_item.specs.Key.{key_cmp, key_of};
 ghost use Rattle.am_share.specs.Pairs.{things_of};
+ghost use Rattle.am_store.specs.Opening.{Rests};
 ghost use Rattle.am_store.specs.Rows.{IsStore, config_in, pairs_in, silence_in};
 ghost use Rattle.am_store.specs.Stored.{stored_items};
-ghost use Rattle.am_store.specs.Texts.{select_config, select_silences};
-ghost use Rattle.am_store.specs.Where.{hit, of_tenant};
 
 use crate::config::named;
+use crate::query;
 use crate::reading::{read_config, read_silence};
-use crate::refusal::{StoreRefusal, failure_of};
-use am_item::Item;
+use crate::refusal::StoreRefusal;
+use am_item::{Item, Thing};
 use am_tenant::TenantName;
 use am_text::Failure;
 use sqlite::{Alter, Connection, Row};
 use std::alloc::Global;
 
-// The rows of a tenant's configuration.
-fn configs<S: Alter>(
+// The rows of a tenant in either table.
+fn found<S: Alter>(
     conn: &mut Connection<S>,
     tenant: &TenantName,
-) -> Result<Vec<Row>, Failure<StoreRefusal>>
+) -> Result<(Vec<Row>, Vec<Row>), Failure<StoreRefusal>>
     ensures rows { HasCleanDisk (state S.Store conn.new) → IsStore (state S.Store conn.old).now
-        → IfOk result (λ rows. IsUnchanged (state S.Store conn.old) (state S.Store conn.new)
-        × IsPermutation (filter (hit of_tenant (Words tenant.now ∷ [])) ((state S.Store conn.old).now.trees 1))
-        rows.items) }
-    ensures survives { Survives (state S.Store conn.old) (state S.Store conn.new)
-        (CommitsShowing select_config (Words tenant.now ∷ []) (state S.Store conn.old)) }
+        → IfOk result (λ rows. IsPermutation (things_of tenant.now (pairs_in (state S.Store conn.old).now.trees))
+        (map (λ row. (config_in row).1) rows.0.items ++ map (λ row. (silence_in row).1) rows.1.items)) }
+    ensures rests { (HasCleanDisk (state S.Store conn.old) → IsStore (state S.Store conn.old).now)
+        → Rests (state S.Store conn.old) (state S.Store conn.new) }
+    ensures same { HasCleanDisk (state S.Store conn.new) → IsStore (state S.Store conn.old).now
+        → OnOk result ((state S.Store conn.new).now ≡ (state S.Store conn.old).now) }
     ensures idle { conn.old.in_transaction ≡ false → conn.new.in_transaction ≡ false }
 {
-    match conn.query_all(
+    let configs = query::rows(
+        conn,
         "SELECT rowid, tenant, body, moment, instance, incarnation, count FROM config WHERE tenant = ?1",
         &named(tenant),
-    ) {
-        Ok(rows) => Ok(rows),
-        Err(error) => Err(failure_of(error)),
-    }
-}
-
-// The rows of a tenant's silences.
-fn silences<S: Alter>(
-    conn: &mut Connection<S>,
-    tenant: &TenantName,
-) -> Result<Vec<Row>, Failure<StoreRefusal>>
-    ensures rows { HasCleanDisk (state S.Store conn.new) → IsStore (state S.Store conn.old).now
-        → IfOk result (λ rows. IsUnchanged (state S.Store conn.old) (state S.Store conn.new)
-        × IsPermutation (filter (hit of_tenant (Words tenant.now ∷ [])) ((state S.Store conn.old).now.trees 3))
-        rows.items) }
-    ensures survives { Survives (state S.Store conn.old) (state S.Store conn.new)
-        (CommitsShowing select_silences (Words tenant.now ∷ []) (state S.Store conn.old)) }
-    ensures idle { conn.old.in_transaction ≡ false → conn.new.in_transaction ≡ false }
-{
-    match conn.query_all(
+    )?;
+    let silences = query::rows(
+        conn,
         "SELECT rowid, tenant, id, starts, ends, kept, author, comment, matchers, \
          moment, instance, incarnation, count FROM silence WHERE tenant = ?1 ORDER BY id",
         &named(tenant),
-    ) {
-        Ok(rows) => Ok(rows),
-        Err(error) => Err(failure_of(error)),
+    )?;
+    Ok((configs, silences))
+}
+
+// Whether the key of a row is greater than that of the row before it.
+#[tactic(auto, unfolding(am_item::specs::Key::key_cmp))]
+fn is_above(item: &Item, last: &Item) -> bool
+    ensures { IsTrue result → key_cmp (key_of last.now) (key_of item.now) ≡ Less }
+{
+    match (&last.thing, &item.thing) {
+        (Thing::Configuration(_), Thing::Silence(_)) => true,
+        (Thing::Silence(last), Thing::Silence(next)) => last.id < next.id,
+        _ => false,
     }
+}
+
+// Puts an item behind those of lesser keys.
+fn push(items: &mut Vec<Item>, item: Item) -> Result<(), Failure<StoreRefusal>>
+    ensures items { OnOk result (items.new.items ≡ items.old.items ++ item ∷ []) }
+    ensures rising { IsRising items.old.items → OnOk result (IsRising items.new.items) }
+{
+    let len = items.len();
+    if len > 0 && !is_above(&item, &items[len - 1]) {
+        return Err(Failure::Refused(StoreRefusal::Foreign));
+    }
+    items.push(item)?;
+    Ok(())
 }
 
 // Reads configurations behind the items that are there.
@@ -71,12 +81,13 @@ fn push_configs(
     items: &mut Vec<Item>,
     rows: &[Row],
 ) -> Result<(), Failure<StoreRefusal>>
-    ensures { OnOk result (stored_items items.new.items
+    ensures items { OnOk result (stored_items items.new.items
         ≡ stored_items items.old.items ++ map (λ row. (config_in row).1) rows.now) }
+    ensures rising { IsRising items.old.items → OnOk result (IsRising items.new.items) }
 {
     for row in rows {
         let (_, item) = read_config(alloc, row)?;
-        items.push(item)?;
+        push(items, item)?;
     }
     Ok(())
 }
@@ -87,12 +98,13 @@ fn push_silences(
     items: &mut Vec<Item>,
     rows: &[Row],
 ) -> Result<(), Failure<StoreRefusal>>
-    ensures { OnOk result (stored_items items.new.items
+    ensures items { OnOk result (stored_items items.new.items
         ≡ stored_items items.old.items ++ map (λ row. (silence_in row).1) rows.now) }
+    ensures rising { IsRising items.old.items → OnOk result (IsRising items.new.items) }
 {
     for row in rows {
         let (_, item) = read_silence(alloc, row)?;
-        items.push(item)?;
+        push(items, item)?;
     }
     Ok(())
 }
@@ -106,12 +118,14 @@ pub(crate) fn rows_of<S: Alter>(
     ensures rows { HasCleanDisk (state S.Store conn.new) → IsStore (state S.Store conn.old).now
         → IfOk result (λ items. IsPermutation (things_of tenant.now (pairs_in (state S.Store conn.old).now.trees))
         (stored_items items.items)) }
+    ensures order { IfOk result (λ items. IsRising items.items) }
+    ensures rests { (HasCleanDisk (state S.Store conn.old) → IsStore (state S.Store conn.old).now)
+        → Rests (state S.Store conn.old) (state S.Store conn.new) }
     ensures same { HasCleanDisk (state S.Store conn.new) → IsStore (state S.Store conn.old).now
         → OnOk result ((state S.Store conn.new).now ≡ (state S.Store conn.old).now) }
     ensures idle { conn.old.in_transaction ≡ false → conn.new.in_transaction ≡ false }
 {
-    let configs = configs(conn, tenant)?;
-    let silences = silences(conn, tenant)?;
+    let (configs, silences) = found(conn, tenant)?;
     let mut items = Vec::new(alloc);
     push_configs(alloc, &mut items, &configs)?;
     push_silences(alloc, &mut items, &silences)?;

@@ -2,7 +2,8 @@
 
 ghost use Rattle.std.specs.Prelude.{◌≡◌, ◌↔◌, [], ◌∷◌, codes, map, IfOk, IsTrue};
 ghost use Rattle.sqlite_value.specs.Keys.{plain};
-ghost use Rattle.am_store.specs.Tables.{column_of, config, index_of, no_schema, silence, store_schema, table_of, version};
+ghost use Rattle.am_store.specs.Tables.{column_of, config, index_of, no_schema, silence, store_schema, table_of};
+ghost use Rattle.am_store.specs.Tables.{version};
 
 use sqlite_items::Items;
 use sqlite_schema::code::Terms;
@@ -138,7 +139,15 @@ fn is_index(index: &Index, name: &str, tree: u32, table: u32, columns: &[usize])
 fn is_version(alloc: Global, table: &Table) -> Result<bool, AllocError>
     ensures { IfOk result (λ is_version. IsTrue is_version ↔ (table.now ≡ version 0)) }
 {
-    is_table(alloc, table, "version", 0, &[("n", Kind::Integer, true)], &[], &[])
+    is_table(
+        alloc,
+        table,
+        "version",
+        0,
+        &[("n", Kind::Integer, true)],
+        &[],
+        &[],
+    )
 }
 
 fn is_config(alloc: Global, table: &Table) -> Result<bool, AllocError>

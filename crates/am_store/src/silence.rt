@@ -8,9 +8,9 @@ ghost use Rattle.sqlite.specs.State.{HasCleanDisk, IsUnchanged, KeepsCommit, Sur
 ghost use Rattle.sqlite.specs.Term.{eval_all};
 ghost use Rattle.sqlite.specs.Values.{bound};
 ghost use Rattle.uuid.specs.Text.{parsed};
-ghost use Rattle.am_match.specs.Spelling.{IsSpellable, spelling};
+ghost use Rattle.am_match.specs.Spelling.{IsSpellable, Spells};
 ghost use Rattle.am_tenant.specs.Names.{is_tenant_name};
-ghost use Rattle.am_store.specs.Rows.{IsSilence, IsStamp, IsStore, id_text, silence_fields};
+ghost use Rattle.am_store.specs.Rows.{IsNumbered, IsSilence, IsStamp, IsStore, id_text, silence_fields};
 ghost use Rattle.am_store.specs.Steps.{PutsRow, Stores, TakesOut};
 ghost use Rattle.am_store.specs.Stored.{SilenceWords, silence_text, stamped};
 ghost use Rattle.am_store.specs.Tables.{store_schema};
@@ -52,7 +52,7 @@ pub(crate) fn text_of<'b>(id: &SilenceId, buffer: &'b mut [u8]) -> &'b str
 // The bytes that spell the matchers.
 fn spelled(alloc: Global, matchers: &[Matcher]) -> Result<Octets, Error>
     requires { IsSpellable matchers.now }
-    ensures { IfOk result (λ bytes. bytes ≡ spelling matchers.now) }
+    ensures { IfOk result (λ bytes. Spells bytes matchers.now) }
 {
     match spell_matchers(alloc, matchers) {
         Ok(bytes) => Ok(bytes),
@@ -69,10 +69,12 @@ fn columns<'a>(
     id: &'a str,
     matchers: &'a Octets,
 ) -> [ValueRef<'a>; 12]
-    requires stamp { IsStamp stamp.now }
-    requires silence { IsSilence (silence_text silence.now) }
+    requires stamp { IsNumbered stamp.now }
     requires id { id.now ≡ id_text silence.now.id }
-    requires matchers { matchers.now ≡ spelling silence.now.matchers.items }
+    requires back { parsed (id_text silence.now.id) ≡ Some silence.now.id }
+    requires matchers { Spells matchers.now silence.now.matchers.items }
+    ensures stamp { IsStamp stamp.now }
+    ensures valid { IsSilence (silence_text silence.now) }
     ensures bound { bound result ≡ silence_fields tenant.now stamp.now (silence_text silence.now) }
     ensures name { IsTrue (is_tenant_name tenant.now) }
 {
@@ -171,10 +173,12 @@ fn put_in<S: Alter>(
     id: &str,
     matchers: &Octets,
 ) -> Result<(), Error>
-    requires stamp { IsStamp stamp.now }
-    requires silence { IsSilence (silence_text silence.now) }
+    requires stamp { IsNumbered stamp.now }
     requires id { id.now ≡ id_text silence.now.id }
-    requires matchers { matchers.now ≡ spelling silence.now.matchers.items }
+    requires back { parsed (id_text silence.now.id) ≡ Some silence.now.id }
+    requires matchers { Spells matchers.now silence.now.matchers.items }
+    ensures stamp { IsStamp stamp.now }
+    ensures valid { IsSilence (silence_text silence.now) }
     ensures name { IsTrue (is_tenant_name tenant.now) }
     ensures same_reference { tx.new.conn.ghost_name ≡ tx.old.conn.ghost_name }
     ensures ok { HasCleanDisk (state S.Store tx.new.conn.now)
@@ -203,8 +207,8 @@ pub(crate) fn put<S: Alter>(
     stamp: &Stamp,
     silence: &Silence,
 ) -> Result<(), Error>
-    requires stamp { IsStamp stamp.now }
-    requires silence { IsSilence (silence_text silence.now) }
+    requires stamp { IsNumbered stamp.now }
+    requires matchers { IsSpellable silence.now.matchers.items }
     ensures same_reference { tx.new.conn.ghost_name ≡ tx.old.conn.ghost_name }
     ensures ok { HasCleanDisk (state S.Store tx.new.conn.now) → IsStore (state S.Store tx.old.conn.now).now
         → OnOk result (Stores tenant.now (stamped stamp.now (SilenceWords (silence_text silence.now)) ∷ [])

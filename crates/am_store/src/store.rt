@@ -1,18 +1,25 @@
 //! The store.
 
-ghost use Rattle.std.specs.Prelude.{◌≡◌, false, All, IfErr, IfOk, IsTrue, MatchResult, OnErr, OnOk};
-ghost use Rattle.std.specs.List.Sorted.{IsPermutation};
+ghost use Rattle.std.specs.Prelude.{◌≡◌, ℕ, List, false, All, IfErr, IfOk, IsTrue, MatchResult, OnErr, OnOk};
+ghost use Rattle.std.specs.Cmp.Lexicographic.{slice_cmp};
+ghost use Rattle.std.specs.List.{list_any};
+ghost use Rattle.std.specs.Ordering.{nat_cmp};
+ghost use Rattle.std.specs.List.Sorted.{IsPermutation, IsStrictlySortedBy};
 ghost use Rattle.sqlite.specs.Held.{state};
 ghost use Rattle.sqlite.specs.State.{HasCleanDisk, Survives};
+ghost use Rattle.am_tenant.specs.Names.{same};
+ghost use Rattle.am_item.specs.Best.{IsRising};
 ghost use Rattle.am_item.specs.Key.{SilenceKey};
 ghost use Rattle.am_share.specs.Pairs.{things_of};
-ghost use Rattle.am_store.specs.Opening.{LeavesNew, Opens};
+ghost use Rattle.am_text.specs.Outcome.{ForRefused};
+ghost use Rattle.am_store.specs.Opening.{LeavesNew, Opens, Rests};
 ghost use Rattle.am_store.specs.Rows.{IsFit, IsStore, pairs_in};
 ghost use Rattle.am_store.specs.Steps.{Commits, Empties, IsSame, Leaves, Removes, Stores};
 ghost use Rattle.am_store.specs.Stored.{stored_items};
+ghost use Rattle.am_store.specs.Tables.{no_schema};
 
 use crate::refusal::{StoreRefusal, failure_of};
-use crate::{commit, opening, rows};
+use crate::{commit, opening, rows, tenants};
 use am_item::{Item, SilenceId};
 use am_share::{ShareRefusal, Shared};
 use am_tenant::TenantName;
@@ -23,6 +30,7 @@ use std::marker::Model;
 
 /// The configurations and silences of all tenants, in a database. What is said of it holds as long as the disk has
 /// returned what was written; and of a call that a failure of the disk shut it in, only what a crash may leave.
+#[derive(Drop)]
 pub struct Store<S: Alter> {
     conn: Connection<S>,
 }
@@ -57,6 +65,8 @@ impl<S: Alter> Store<S> {
             → Opens (state S.Store conn) (state S.Store store)) }
         ensures err { IfErr result (λ e. HasCleanDisk (state S.Store e.1) → IsTrue (state S.Store e.1).is_open
             → IsSame (state S.Store conn) (state S.Store e.1)) }
+        ensures used { IfErr result (λ e. e.0 ≡ Failure.Refused StoreRefusal.Foreign
+            → (state S.Store conn).now.schema ≡ no_schema → ⊥) }
         ensures crash { MatchResult result
             (λ store. Survives (state S.Store conn) (state S.Store store) (LeavesNew (state S.Store conn)))
             (λ e. Survives (state S.Store conn) (state S.Store e.1) (LeavesNew (state S.Store conn))) }
@@ -93,6 +103,7 @@ impl<S: Alter> Store<S> {
         ensures err { HasCleanDisk (state S.Store self.new) → IsStore (state S.Store self.old).now
             → IsTrue (state S.Store self.new).is_open
             → OnErr result (IsSame (state S.Store self.old) (state S.Store self.new)) }
+        ensures database { IfErr result (λ failure. ForRefused failure (λ refusal. refusal ≡ StoreRefusal.Database)) }
         ensures crash { Survives (state S.Store self.old) (state S.Store self.new)
             (Leaves (Stores tenant.now (stored_items items.now)) (state S.Store self.old)) }
     {
@@ -102,7 +113,7 @@ impl<S: Alter> Store<S> {
         }
     }
 
-    /// What is stored of a tenant, configuration and silences, each row once, in any order.
+    /// What is stored of a tenant: its configuration, then its silences in order of identifier. No key has two rows.
     ///
     /// # Errors
     /// `F2`, `F3` for a row that is no item of a tenant, or out of memory.
@@ -114,10 +125,28 @@ impl<S: Alter> Store<S> {
         ensures rows { HasCleanDisk (state S.Store self.new) → IsStore (state S.Store self.old).now
             → IfOk result (λ items. IsPermutation (things_of tenant.now (pairs_in (state S.Store self.old).now.trees))
             (stored_items items.items)) }
+        ensures order { IfOk result (λ items. IsRising items.items) }
+        ensures rests { (HasCleanDisk (state S.Store self.old) → IsStore (state S.Store self.old).now)
+            → Rests (state S.Store self.old) (state S.Store self.new) }
         ensures same { HasCleanDisk (state S.Store self.new) → IsStore (state S.Store self.old).now
             → OnOk result ((state S.Store self.new).now ≡ (state S.Store self.old).now) }
     {
         rows::rows_of(alloc, &mut self.conn, tenant)
+    }
+
+    /// The tenants of which something is stored, each once, in order of name.
+    ///
+    /// # Errors
+    /// `F2`, `F3` for a row that is no item of a tenant, or out of memory. Nothing is written.
+    pub fn tenants(&mut self, alloc: Global) -> Result<Vec<TenantName>, Failure<StoreRefusal>>
+        ensures order { IfOk result (λ names. IsStrictlySortedBy (slice_cmp nat_cmp) names.items) }
+        ensures names { HasCleanDisk (state S.Store self.new) → IsStore (state S.Store self.old).now
+            → IfOk result (λ names. (t : List ℕ) → list_any (same t) names.items
+            ≡ list_any (λ pair. same t pair.0) (pairs_in (state S.Store self.old).now.trees)) }
+        ensures rests { (HasCleanDisk (state S.Store self.old) → IsStore (state S.Store self.old).now)
+            → Rests (state S.Store self.old) (state S.Store self.new) }
+    {
+        tenants::tenants(alloc, &mut self.conn)
     }
 
     /// Drops a silence of a tenant, and commits that. All other rows stay.
@@ -135,6 +164,7 @@ impl<S: Alter> Store<S> {
         ensures err { HasCleanDisk (state S.Store self.new) → IsStore (state S.Store self.old).now
             → IsTrue (state S.Store self.new).is_open
             → OnErr result (IsSame (state S.Store self.old) (state S.Store self.new)) }
+        ensures database { IfErr result (λ failure. ForRefused failure (λ refusal. refusal ≡ StoreRefusal.Database)) }
         ensures crash { Survives (state S.Store self.old) (state S.Store self.new)
             (Leaves (Removes tenant.now (SilenceKey id.now)) (state S.Store self.old)) }
     {
@@ -154,6 +184,7 @@ impl<S: Alter> Store<S> {
         ensures err { HasCleanDisk (state S.Store self.new) → IsStore (state S.Store self.old).now
             → IsTrue (state S.Store self.new).is_open
             → OnErr result (IsSame (state S.Store self.old) (state S.Store self.new)) }
+        ensures database { IfErr result (λ failure. ForRefused failure (λ refusal. refusal ≡ StoreRefusal.Database)) }
         ensures crash { Survives (state S.Store self.old) (state S.Store self.new)
             (Leaves (Empties tenant.now) (state S.Store self.old)) }
     {

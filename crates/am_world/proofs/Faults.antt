@@ -10,10 +10,11 @@ use Rattle.am_world.specs.declared.event.Event.TheVariants.{Limits}
 use Rattle.am_world.specs.declared.instance.Instance.{Instance}
 use Rattle.am_world.specs.declared.world.World.{World}
 use Rattle.am_world.specs.Moments.{clock_after}
-use Rattle.am_world.specs.Places.{IsDownAt, SameElsewhere, cause_at, incarnation_at, instance_at, incarnation_where, numbers, roster_of}
+use Rattle.am_world.specs.Places.{IsDownAt, KeepRefused, SameElsewhere, cause_at, incarnation_at, instance_at, incarnation_where, numbers, roster_of}
 use Rattle.am_world.specs.Refusal.{refusal}
 use Rattle.am_world.specs.Roster.{roster_after}
 use Rattle.am_world.specs.Simulation.{Faulted, fault_count, faults_of, put_out, works}
+use Rattle.am_world.proofs.Built.{keep_equal}
 use Rattle.am_world.proofs.InstancesLemmas.{CountsFrom}
 
 count_none : (n i : ℕ) (ms : List ℕ) → CountsFrom n ms → i < n → length (filter (λ j. j == i) ms) ≡ 0
@@ -36,8 +37,8 @@ one_fault i =
 
 pub faulted_at : (w w' : World) (e : Event) (i : ℕ) → refusal w e ≡ None → works w e i ≡ true → IsDownAt i w'.instances → IsSome (cause_at i w'.instances) →
     SameElsewhere i w.instances w'.instances → ((j : ℕ) → incarnation_at j w'.instances ≡ (roster_after e (roster_of w.instances)).incarnation j) →
-    put_out w' ≡ put_out w → fault_count w' ≡ min (fault_count w + 1) (2 ^ 64 - 1) → w'.clock ≡ clock_after e w.clock → w'.limits ≡ w.limits → Faulted w e w'
-faulted_at w w' e i taken worked down cause others incarnations outputs counted clock limits =
+    put_out w' ≡ put_out w → fault_count w' ≡ min (fault_count w + 1) (2 ^ 64 - 1) → w'.clock ≡ clock_after e w.clock → w'.limits ≡ w.limits → KeepRefused w.instances w'.instances → Faulted w e w'
+faulted_at w w' e i taken worked down cause others incarnations outputs counted clock limits refused =
     let itself : nat_eq i i ≡ true = grind (arith, nat_tests) in
     record {
       taken = taken;
@@ -57,6 +58,7 @@ faulted_at w w' e i taken worked down cause others incarnations outputs counted 
       counted = counted ∙ ap (λ n. min (fault_count w + n) (2 ^ 64 - 1)) (sym (one_fault i));
       clock = clock;
       limits = λ t. ap (limits_of t) limits;
+      refused = refused;
     }
 
 -- new limits that find no memory: nothing has changed, and one fault is counted
@@ -76,6 +78,7 @@ faulted_limits w w' tenant limits instances outputs counted clock same = record 
   appended = outputs ∙ sym (append-nil (put_out w));
   silent = λ all. refl;
   limits = same;
+  refused = keep_equal _ _ instances;
   counted = counted;
   clock = clock;
 }

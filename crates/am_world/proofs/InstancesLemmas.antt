@@ -1,17 +1,22 @@
 -- the instance of a number, by its place
-use Rattle.std.proofs.Common.{◌≡◌, ◌≢◌, ◌∙◌, inl, inr, ℕ, ◌+◌, ◌==◌, ◌<◌, zero, suc, nat_eq, Bool, true, false, List, [], ◌∷◌, ◌&&◌, nat_le, length, map, slice_set, find, Option, Some, None, ◌≤◌, IsSome, is_some, OnOk, Result, Ok, Err, slice_get, slice_index_or, refl, sym, ap, arith, if◌then◌else◌}
+use Rattle.std.proofs.Common.{◌≡◌, ◌≢◌, ◌∙◌, inl, inr, ℕ, ◌+◌, ◌==◌, ◌<◌, zero, suc, nat_eq, Bool, true, false, List, [], ◌∷◌, ◌++◌, ◌&&◌, nat_le, length, map, slice_set, find, Option, Some, None, ◌≤◌, IsSome, is_some, OnOk, Result, Ok, Err, slice_get, slice_index_or, refl, sym, ap, arith, if◌then◌else◌}
 use Rattle.std.proofs.lemmas.Bool.{cases_Bool}
 use Rattle.std.proofs.lemmas.Bool.Decides.{nat_tests}
 use Rattle.std.proofs.lemmas.List.{length-map}
 use Rattle.std.proofs.lemmas.Option.{slice_get_read, slice_get_within}
 use Rattle.am_world.specs.declared.instance.Instance.{Instance}
+use Rattle.am_api.specs.Decision.{Decision}
 use Rattle.am_http.specs.Connections.{bytes_of, left_open}
-use Rattle.am_world.specs.Places.{AreNumbered, IsDownAt, IsReadOnce, SameElsewhere, bytes_at, bytes_where, here_of, incarnation_at, incarnation_where, instance_at, local_at, local_in, local_where, numbers, reads, roster_of, up_at, up_where}
+use Rattle.am_http.specs.declared.request.Request.{Request}
+use Rattle.am_limit.specs.declared.limits.Limits.{Limits}
+use Rattle.am_world.specs.declared.event.Output.{Output}
+use Rattle.am_world.specs.Places.{AreNumbered, HasMore, IsDownAt, IsReadOnce, KeepRefused, SameElsewhere, bytes_at, bytes_where, here_in, here_of, incarnation_at, incarnation_where, instance_at, local_at, local_in, local_where, numbers, reads, refused_at, refused_where, roster_of, up_at, up_where}
 use Rattle.am_http.specs.Verdict.{verdict}
-use Rattle.am_world.specs.Reaction.{Brought, blank, brought}
+use Rattle.am_world.specs.Reaction.{Brought, Here, MayDecide, blank, brought, decision_at}
 use Rattle.am_world.specs.Roster.{IsSameRoster}
 use Rattle.am_world.specs.Setup.{is_instance}
-use Rattle.am_world.specs.Taking.{Takes, taken_at}
+use Rattle.am_world.specs.Taking.{Brings, Takes, taken_at}
+use Rattle.am_world.proofs.Built.{more_nothing}
 
 -- numbers that count on from n
 abbrev NumberedFrom : ℕ → List Instance → Type 0
@@ -217,26 +222,48 @@ pub bytes_exist : (c i : ℕ) (xs : List Instance) → AreNumbered xs → IsSome
 unfolding bytes_at
 bytes_exist c i xs e some = bytes_exist_where c xs i (instance_at i xs) refl e some
 
+pub refused_here : (i : ℕ) (xs : List Instance) (x : Instance) → instance_at i xs ≡ Some x → refused_at i xs ≡ x.cache.refused
+unfolding refused_at
+refused_here i xs x e = rw e refl
+
+-- what the instance goes by is what the number tells
+here_here : (i moment : ℕ) (limits : Limits) (xs : List Instance) (x : Instance) → instance_at i xs ≡ Some x →
+    here_in moment limits i xs ≡ here_of x moment limits
+here_here i moment limits xs x e =
+    rw (incarnation_here i xs x e) (ap (λ n. (let h : Here = record { instance = n; incarnation = x.incarnation; moment = moment; limits = limits } in h)) (sym (number_of i xs x e)))
+
 -- what a piece brings is told by the instance that takes it
-pub taken_here : (i c : ℕ) (xs : List Instance) (x : Instance) (bytes : List ℕ) (moment : ℕ) → instance_at i xs ≡ Some x →
-    taken_at i c bytes moment xs ≡ brought (verdict bytes) (here_of x moment) c (λ t. local_in t x)
-unfolding local_at incarnation_at
-taken_here i c xs x bytes moment e =
-    rw e (ap (λ n. brought (verdict bytes) (record { instance = n; incarnation = x.incarnation; moment = moment }) c (λ t. local_in t x)) (sym (number_of i xs x e)))
+taken_here : (i c : ℕ) (xs : List Instance) (x : Instance) (bytes : List ℕ) (decide : Request → Decision) → instance_at i xs ≡ Some x →
+    taken_at i c bytes decide xs ≡ brought (verdict bytes) decide c (λ t. local_in t x)
+unfolding local_at
+taken_here i c xs x bytes decide e = rw e refl
+
+decided_here : (i moment : ℕ) (limits : Limits) (xs ys : List Instance) (x y : Instance) (request : Request) (d : Decision) →
+    instance_at i xs ≡ Some x → instance_at i ys ≡ Some y →
+    MayDecide y.cache.refused request (decision_at (here_of x moment limits) request (local_in request.tenant x)) d →
+    MayDecide (refused_at i ys) request (decision_at (here_in moment limits i xs) request (local_at request.tenant i xs)) d
+decided_here i moment limits xs ys x y request d here there may =
+    rw (refused_here i ys y there, here_here i moment limits xs x here, local_here request.tenant i xs x here) may
 
 -- the instance at a place took a piece in
-pub takes_here : (i c : ℕ) (xs ys : List Instance) (x y : Instance) (bytes : List ℕ) (moment : ℕ) → instance_at i xs ≡ Some x → Changed i xs ys y →
-    ((t : List ℕ) → local_in t y ≡ (brought (verdict bytes) (here_of x moment) c (λ s. local_in s x)).local t) →
+pub takes_here : (i c : ℕ) (xs ys : List Instance) (x y : Instance) (bytes : List ℕ) (moment : ℕ) (limits : List ℕ → Limits) (outs outs' : List Output) →
+    instance_at i xs ≡ Some x → Changed i xs ys y → Brings (verdict bytes) c moment limits x y outs outs' →
     ((d : ℕ) → bytes_of d y.front ≡ (if nat_eq d c then left_open (verdict bytes) bytes else bytes_of d x.front)) →
-    y.up ≡ x.up → y.incarnation ≡ x.incarnation → Takes i c bytes moment xs ys
-takes_here i c xs ys x y bytes moment here change local front up incarnation = record {
-  local = λ t. local_here t i ys y change.here ∙ local t ∙ ap (λ (b : Brought). b.local t) (sym (taken_here i c xs x bytes moment here));
-  reading = λ d. bytes_here d i ys y change.here ∙ front d
-      ∙ ap (λ o. if nat_eq d c then left_open (verdict bytes) bytes else o) (sym (bytes_here d i xs x here));
-  up = up_here i ys y change.here ∙ up ∙ sym (up_here i xs x here);
-  incarnation = incarnation_here i ys y change.here ∙ incarnation ∙ sym (incarnation_here i xs x here);
-  others = change.others;
-}
+    y.up ≡ x.up → y.incarnation ≡ x.incarnation → Takes i c bytes moment limits xs ys outs outs'
+takes_here i c xs ys x y bytes moment limits outs outs' here change brings front up incarnation =
+    let same = taken_here i c xs x bytes brings.decide here in
+    record {
+      decide = brings.decide;
+      decided = λ request is. decided_here i moment (limits request.tenant) xs ys x y request (brings.decide request) here change.here (brings.decided request is);
+      outputs = brings.outputs ∙ ap (λ (b : Brought). outs ++ b.outputs) (sym same);
+      fits = ap (λ (b : Brought). b.fits) same ∙ brings.fits;
+      local = λ t. local_here t i ys y change.here ∙ brings.local t ∙ ap (λ (b : Brought). b.local t) (sym same);
+      reading = λ d. bytes_here d i ys y change.here ∙ front d
+          ∙ ap (λ o. if nat_eq d c then left_open (verdict bytes) bytes else o) (sym (bytes_here d i xs x here));
+      up = up_here i ys y change.here ∙ up ∙ sym (up_here i xs x here);
+      incarnation = incarnation_here i ys y change.here ∙ incarnation ∙ sym (incarnation_here i xs x here);
+      others = change.others;
+    }
 
 -- what holds of an Ok result by two facts of it
 pub both_ok : {T E P Q R : Type 0} (r : Result T E) → (P → Q → R) → OnOk r P → OnOk r Q → OnOk r R
@@ -268,6 +295,22 @@ roster_kept i xs ys x y here change up incarnation = record {
   up = same_all up_where i xs ys x y here change up;
   incarnation = same_all incarnation_where i xs ys x y here change incarnation;
 }
+
+pub refused_kept : (i : ℕ) (xs ys : List Instance) (x y : Instance) → instance_at i xs ≡ Some x → Changed i xs ys y →
+    y.cache.refused ≡ x.cache.refused → (j : ℕ) → refused_at j ys ≡ refused_at j xs
+unfolding refused_at
+refused_kept i xs ys x y here change same = same_all refused_where i xs ys x y here change same
+
+-- more patterns may be refused at the place, and none elsewhere
+pub refused_grown : (i : ℕ) (xs ys : List Instance) (x y : Instance) → instance_at i xs ≡ Some x → Changed i xs ys y →
+    HasMore x.cache.refused y.cache.refused → KeepRefused xs ys
+unfolding refused_at
+refused_grown i xs ys x y here change more j = elim (cases_Bool (nat_eq j i)) [
+  | inl h ↦
+      let number : j ≡ i = grind (arith, nat_tests) in
+      rw (number, here, change.here) more
+  | inr h ↦ more_nothing _ _ (ap refused_where (change.others j h))
+]
 
 pub local_kept : (i : ℕ) (xs ys : List Instance) (x y : Instance) → instance_at i xs ≡ Some x → Changed i xs ys y →
     ((t : List ℕ) → local_in t y ≡ local_in t x) → (t : List ℕ) (j : ℕ) → local_at t j ys ≡ local_at t j xs

@@ -11,7 +11,7 @@ use Rattle.am_world.specs.declared.instance.Instance.{Instance}
 use Rattle.am_world.specs.declared.world.World.{World}
 use Rattle.am_world.specs.Moments.{clock_after, last_moment}
 use Rattle.am_world.specs.Outputs.{front_told}
-use Rattle.am_world.specs.Places.{IsReadOnce, SameElsewhere, bytes_at, incarnation_at, local_at, roster_of, up_at}
+use Rattle.am_world.specs.Places.{IsReadOnce, SameElsewhere, bytes_at, incarnation_at, local_at, refused_at, roster_of, up_at}
 use Rattle.am_world.specs.PrivateCluster.{Course, Limited, PrivateCluster, Ticked, after_all, course, fits_all, local_of, told_all, unchanged}
 use Rattle.am_world.specs.Reaction.{output_of}
 use Rattle.am_world.specs.Roster.{IsSameRoster, Roster, roster_after}
@@ -20,6 +20,7 @@ use Rattle.am_limit.specs.declared.limits.Limits as limit
 use Rattle.am_tenant.specs.Names.{same}
 use Rattle.am_world.specs.Simulation.{Follows, IsAsAlone, Kept, Premises, Stands, bytes_read, fault_count, limits_after, put_out}
 use Rattle.am_world.specs.View.{Reading, Seen, AskedAs, FrontAnswered, Shut, Watch, adds, look, watch}
+use Rattle.am_world.proofs.Built.{keep_equal, keep_same}
 use Rattle.am_world.proofs.Faults.{incarnations_stay}
 
 pub same_again : (r : Roster) → IsSameRoster r r
@@ -34,9 +35,10 @@ pub record SameParts (w w' : World) : Type 0 where
   pub limits : w'.limits ≡ w.limits
   pub roster : IsSameRoster (roster_of w'.instances) (roster_of w.instances)
   pub local : (t : List ℕ) (i : ℕ) → local_at t i w'.instances ≡ local_at t i w.instances
+  pub refused : (i : ℕ) → refused_at i w'.instances ≡ refused_at i w.instances
 
 pub same_itself : (w : World) → SameParts w w
-same_itself w = record { clock = refl; limits = refl; roster = same_again (roster_of w.instances); local = λ t i. refl }
+same_itself w = record { clock = refl; limits = refl; roster = same_again (roster_of w.instances); local = λ t i. refl; refused = λ i. refl }
 
 pub stands_same : (t : List ℕ) (w w' : World) (p : PrivateCluster) → SameParts w w' → Stands t w p → Stands t w' p
 stands_same t w w' p e s = record {
@@ -94,12 +96,13 @@ kept_open w w' c i up reading same outputs faults = record {
   roster = same.roster;
   clock = same.clock;
   limits = λ t. ap (limits_of t) same.limits;
+  refused = keep_same _ _ same.refused;
   faults = faults;
 }
 
 -- an event that adds nothing to any view, and is no change to what is known of any world
 pub kept_nothing : (w : World) (e : Event) → ((v : Watch) → Follows v w → watch v e ≡ v) →
-    ((t : List ℕ) (v : Watch) (p : PrivateCluster) → Premises t v p w e →
+    ((t : List ℕ) (v : Watch) (p : PrivateCluster) → Premises t v p w e w →
     (after_all p (adds t v e) ≡ p) × (told_all p (adds t v e) ≡ []) × (fits_all p (adds t v e) ≡ true)) →
     ((v : Watch) → Follows v w → front_told v e ≡ []) → IsSameRoster (roster_of w.instances) (roster_after e (roster_of w.instances)) →
     w.clock ≡ clock_after e w.clock → ((t : List ℕ) (limits : limit.Limits) → limits ≡ limits_after e t limits) → Kept w e w
@@ -117,6 +120,7 @@ kept_nothing w e unchanged nothing unsaid roster clock limits = record {
   roster = roster;
   clock = clock;
   limits = λ t. limits t (limits_of t w.limits);
+  refused = keep_equal w.instances w.instances refl;
   faults = refl;
 }
 
@@ -178,6 +182,7 @@ kept_tick w w' m allowed clock instances limits outputs faults = record {
   roster = rw instances (same_again (roster_of w.instances));
   clock = rw allowed clock;
   limits = λ t. ap (limits_of t) limits;
+  refused = keep_equal _ _ instances;
   faults = faults;
 }
 
@@ -218,6 +223,7 @@ kept_limits w w' tenant limits set clock instances outputs faults = record {
   roster = rw instances (same_again (roster_of w.instances));
   clock = clock;
   limits = set;
+  refused = keep_equal _ _ instances;
   faults = faults;
 }
 

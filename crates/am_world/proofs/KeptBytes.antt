@@ -7,6 +7,11 @@ use Rattle.std.specs.List.{list_all}
 use Rattle.am_item.proofs.BestLaws.{best-push}
 use Rattle.am_http.specs.Connections.{left_open}
 use Rattle.am_http.specs.Verdict.{verdict}
+use Rattle.am_http.specs.Replies.{reply}
+use Rattle.am_alert.specs.Made.{counts_fit}
+use Rattle.am_api.specs.Decision.{Decision}
+use Rattle.am_api.specs.Patterns.{patterns_of_request}
+use Rattle.am_limit.specs.declared.limits.Limits.{Limits}
 use Rattle.am_http.specs.declared.request.Fed.{Fed}
 use Rattle.am_http.specs.declared.request.Fed.TheVariants as fed
 use Rattle.am_http.specs.declared.request.Request.{Request}
@@ -21,14 +26,15 @@ use Rattle.am_world.specs.declared.instance.Instance.{Instance}
 use Rattle.am_world.specs.declared.world.World.{World}
 use Rattle.am_world.specs.Moments.{effective, last_moment}
 use Rattle.am_world.specs.Outputs.{answered_by, answered_on, are_owned, front_outputs, front_told, is_front, is_tenant, outputs_of, owner}
-use Rattle.am_world.specs.Places.{SameElsewhere, bytes_at, bytes_where, here_in, incarnation_at, incarnation_where, instance_at, local_at, local_where, roster_of, up_at, up_where}
-use Rattle.am_world.specs.PrivateCluster.{Accepted, Asked, Course, PrivateCluster, PrivateInstance, accepted_at, after, after_all, course, fits_all, here_at, items_in, local_of, own_after, told, told_all}
+use Rattle.am_world.specs.Places.{AreBuilt, KeepRefused, SameElsewhere, bytes_at, bytes_where, here_in, incarnation_at, incarnation_where, instance_at, local_at, local_where, refused_at, roster_of, up_at, up_where}
+use Rattle.am_world.specs.PrivateCluster.{Accepted, Asked, Course, PrivateCluster, PrivateInstance, accepted_at, after, after_all, course, fits_all, here_at, items_in, local_of, own_after, patterns_in, told, told_all}
 use Rattle.am_item.specs.Best.{all_joined, best}
-use Rattle.am_world.specs.Reaction.{Brought, Here, Local, Reaction, asked, brought, local_after, outputs_said}
+use Rattle.am_world.specs.Reaction.{Brought, Here, Local, MayDecide, Reaction, asked, brought, carried_out, decision_at, local_after}
 use Rattle.am_world.specs.Roster.{IsSameRoster, put_at}
-use Rattle.am_world.specs.Simulation.{Follows, IsAsAlone, Kept, Later, Premises, Stands, bytes_read, fault_count, put_out}
+use Rattle.am_world.specs.Simulation.{Follows, IsAsAlone, Kept, Later, Premises, Stands, bytes_read, fault_count, put_out, refused_by}
 use Rattle.am_world.specs.Taking.{Takes, taken_at}
 use Rattle.am_world.specs.View.{AskedAs, FrontAnswered, Reading, Seen, Shut, Table, Watch, adds, asked_by, asked_on, look, noted, seen_as, watch}
+use Rattle.am_world.proofs.Built.{none_refused}
 use Rattle.am_world.proofs.Kept.{SameParts, itself, kept_nothing, roster_then, same_again, stands_same}
 
 -- ---- what is read
@@ -218,15 +224,21 @@ stands_reacts t n m w w' p reaction r s = record {
 }
 
 -- the private cluster's reaction is that of what the world has
-here_same : (t : List ℕ) (n m : ℕ) (w : World) (p : PrivateCluster) → Stands t w p → here_at p (effective m p.clock) n ≡ here_in (effective m w.clock) n w.instances
-here_same t n m w p s = rw (← s.clock) (ap (λ k. (let h : Here = record { instance = n; incarnation = k; moment = effective m w.clock } in h)) (sym (s.roster.incarnation n)))
+here_same : (t : List ℕ) (n m : ℕ) (w : World) (p : PrivateCluster) → Stands t w p →
+    here_at p (effective m p.clock) n ≡ here_in (effective m w.clock) (limits_of t w.limits) n w.instances
+here_same t n m w p s =
+    rw (← s.clock, ← s.limits) (ap (λ k. (let h : Here = record { instance = n; incarnation = k; moment = effective m w.clock; limits = limits_of t w.limits } in h)) (sym (s.roster.incarnation n)))
+
+-- the decision on a request of the tenant, by what the world has
+abbrev decision_in : List ℕ → (n m : ℕ) → Request → World → Decision
+decision_in t n m r w = decision_at (here_in (effective m w.clock) (limits_of t w.limits) n w.instances) r (local_at t n w.instances)
 
 -- a request of the tenant, on the world and on its cluster
 asked_course : (t : List ℕ) (n c m : ℕ) (r : Request) (w : World) (p : PrivateCluster) → Stands t w p →
     course p (Asked c n m r) ≡
-    (let reaction : Reaction = asked (here_in (effective m w.clock) n w.instances) c r (local_at t n w.instances) in
+    (let reaction : Reaction = carried_out c (decision_in t n m r w) (local_at t n w.instances).ledger in
     record { cluster = record p { at = put_at p.at n (own_after (effective m p.clock) reaction (p.at n)) }; said = reaction.said; fits = reaction.fits })
-unfolding course
+unfolding course asked
 asked_course t n c m r w p s = rw (← here_same t n m w p s, s.local n) refl
 
 -- a tenant of whom nothing changed
@@ -261,76 +273,75 @@ of_tenant : (t s : List ℕ) (u : Watch) (c : ℕ) (bytes : List ℕ) → look c
 unfolding owner
 of_tenant t s u c bytes seen = rw seen (elim (same t s) [ true ↦ refl | false ↦ refl ])
 
--- what a piece brings to the world, and what its table says afterwards
-abbrev pub brings : Fed → ℕ → ℕ → ℕ → World → Brought
-brings told n c m w = brought told (here_in (effective m w.clock) n w.instances) c (λ s. local_at s n w.instances)
+-- what a piece brings to the world, where this is decided on requests, and what its table says afterwards
+abbrev pub brings : Fed → (Request → Decision) → (n c : ℕ) → World → Brought
+brings told decide n c w = brought told decide c (λ s. local_at s n w.instances)
 
 abbrev pub then_seen : Fed → ℕ → ℕ → List ℕ → Watch → Watch
 then_seen told n c bytes v = record { table = (c, seen_as n bytes told) ∷ v.table; roster = v.roster }
 
+-- what is decided on a request of the tenant is what its cluster decides
+abbrev IsRight : List ℕ → (n m : ℕ) → World → Fed → (Request → Decision) → Type 0
+IsRight t n m w told decide = (r : Request) → told ≡ fed.Request r → t ≡ r.tenant → decide r ≡ decision_in t n m r w
+
 -- the tenant that asked
-asked_alone : (t : List ℕ) (n c m : ℕ) (r : Request) (bytes : List ℕ) (v : Watch) (w w' : World) (p : PrivateCluster) → t ≡ r.tenant → Stands t w p →
-    local_at t n w'.instances ≡ local_after (asked (here_in (effective m w.clock) n w.instances) c r (local_at t n w.instances)) (local_at t n w.instances) →
+asked_alone : (t : List ℕ) (n c m : ℕ) (r : Request) (w w' : World) (p : PrivateCluster) → Stands t w p →
+    local_at t n w'.instances ≡ local_after (carried_out c (decision_in t n m r w) (local_at t n w.instances).ledger) (local_at t n w.instances) →
     SameElsewhere n w.instances w'.instances → w'.clock ≡ w.clock → w'.limits ≡ w.limits →
     IsSameRoster (roster_of w'.instances) (roster_of w.instances) → Stands t w' (after p (Asked c n m r))
 unfolding local_at
-asked_alone t n c m r bytes v w w' p own s here others clock limits roster =
-    let reaction : Reaction = asked (here_in (effective m w.clock) n w.instances) c r (local_at t n w.instances) in
+asked_alone t n c m r w w' p s here others clock limits roster =
+    let reaction : Reaction = carried_out c (decision_in t n m r w) (local_at t n w.instances).ledger in
     let reacts : Reacts t n w w' reaction = record { here = here; others = λ j h. ap (local_where t) (others j h); clock = clock; limits = limits; roster = roster } in
     rw (ap (λ (q : Course). q.cluster) (asked_course t n c m r w p s)) (stands_reacts t n (effective m p.clock) w w' p reaction reacts s)
 
-stands_bytes : (told : Fed) (t : List ℕ) (n c m : ℕ) (bytes : List ℕ) (v : Watch) (w w' : World) (p : PrivateCluster) → Stands t w p →
-    ((s : List ℕ) → local_at s n w'.instances ≡ (brings told n c m w).local s) → SameElsewhere n w.instances w'.instances →
-    w'.clock ≡ w.clock → w'.limits ≡ w.limits → IsSameRoster (roster_of w'.instances) (roster_of w.instances) →
-    Stands t w' (after_all p (asked_by t c n m told))
-stands_bytes fed.Waits t n c m bytes v w w' p s local others clock limits roster =
+stands_bytes : (told : Fed) (decide : Request → Decision) (t : List ℕ) (n c m : ℕ) (w w' : World) (p : PrivateCluster) → Stands t w p →
+    IsRight t n m w told decide → ((s : List ℕ) → local_at s n w'.instances ≡ (brings told decide n c w).local s) →
+    SameElsewhere n w.instances w'.instances → w'.clock ≡ w.clock → w'.limits ≡ w.limits →
+    IsSameRoster (roster_of w'.instances) (roster_of w.instances) → Stands t w' (after_all p (asked_by t c n m told))
+stands_bytes fed.Waits decide t n c m w w' p s right local others clock limits roster =
     stands_kept t w w' p clock limits roster (local_everywhere t n w.instances w'.instances (local t) others) s
-stands_bytes (fed.Refused reason) t n c m bytes v w w' p s local others clock limits roster =
+stands_bytes (fed.Refused reason) decide t n c m w w' p s right local others clock limits roster =
     stands_kept t w w' p clock limits roster (local_everywhere t n w.instances w'.instances (local t) others) s
-stands_bytes fed.Ready t n c m bytes v w w' p s local others clock limits roster =
+stands_bytes fed.Ready decide t n c m w w' p s right local others clock limits roster =
     stands_kept t w w' p clock limits roster (local_everywhere t n w.instances w'.instances (local t) others) s
-stands_bytes (fed.Request r) t n c m bytes v w w' p s local others clock limits roster = elim (same_tells t r.tenant) [
+stands_bytes (fed.Request r) decide t n c m w w' p s right local others clock limits roster = elim (same_tells t r.tenant) [
   | inl e ↦
       let here = rw (e.0) at (local t)
-      ∙ ap (λ k. local_after (asked (here_in (effective m w.clock) n w.instances) c r (local_at k n w.instances)) (local_at t n w.instances)) (sym e.1) in
-      rw (e.0) (asked_alone t n c m r bytes v w w' p e.1 s here others clock limits roster)
+      ∙ ap (λ k. local_after (carried_out c (decide r) (local_at k n w.instances).ledger) (local_at t n w.instances)) (sym e.1)
+      ∙ ap (λ d. local_after (carried_out c d (local_at t n w.instances).ledger) (local_at t n w.instances)) (right r refl e.1) in
+      rw (e.0) (asked_alone t n c m r w w' p s here others clock limits roster)
   | inr e ↦
       let here = rw (e.0) at (local t) in
       rw (e.0) (stands_kept t w w' p clock limits roster (local_everywhere t n w.instances w'.instances here others) s)
 ]
 
-told_asked : (t : List ℕ) (n c m : ℕ) (r : Request) (w : World) (p : PrivateCluster) → t ≡ r.tenant → Stands t w p →
-    outputs_said r.tenant (asked (here_in (effective m w.clock) n w.instances) c r (local_at r.tenant n w.instances)) ≡ told p (Asked c n m r)
-told_asked t n c m r w p own s =
-    let mine : p.tenant ≡ r.tenant = s.tenant ∙ own in
-    rw (ap (λ (q : Course). q.said) (asked_course t n c m r w p s), ← own, s.tenant) refl
+told_asked : (t : List ℕ) (n c m : ℕ) (r : Request) (w : World) (p : PrivateCluster) → Stands t w p →
+    Reply c (reply (decision_in t n m r w).status (decision_in t n m r w).body) ∷ [] ≡ told p (Asked c n m r)
+told_asked t n c m r w p s = rw (ap (λ (q : Course). q.said) (asked_course t n c m r w p s)) refl
 
--- a reply goes to the connection
-replies_only : (t : List ℕ) (here : Here) (c : ℕ) (r : Request) (local : Local) → (bytes : List ℕ) × (outputs_said t (asked here c r local) ≡ Reply c bytes ∷ [])
-unfolding asked
-replies_only t here c r local = (_, refl)
-
-told_bytes : (told : Fed) (t : List ℕ) (n c m : ℕ) (bytes : List ℕ) (v u : Watch) (w : World) (p : PrivateCluster) → Stands t w p →
-    Later (then_seen told n c bytes v) u → outputs_of t u (brings told n c m w).outputs ≡ told_all p (asked_by t c n m told)
-told_bytes fed.Waits t n c m bytes v u w p s later = refl
-told_bytes (fed.Refused reason) t n c m bytes v u w p s later = not_of_tenant t u c _ (later.answered c (look_here c FrontAnswered v.table))
-told_bytes fed.Ready t n c m bytes v u w p s later = not_of_tenant t u c _ (later.answered c (look_here c FrontAnswered v.table))
-told_bytes (fed.Request r) t n c m bytes v u w p s later =
-    let reply = replies_only r.tenant (here_in (effective m w.clock) n w.instances) c r (local_at r.tenant n w.instances) in
+told_bytes : (told : Fed) (decide : Request → Decision) (t : List ℕ) (n c m : ℕ) (bytes : List ℕ) (v u : Watch) (w : World) (p : PrivateCluster) →
+    Stands t w p → IsRight t n m w told decide → Later (then_seen told n c bytes v) u →
+    outputs_of t u (brings told decide n c w).outputs ≡ told_all p (asked_by t c n m told)
+told_bytes fed.Waits decide t n c m bytes v u w p s right later = refl
+told_bytes (fed.Refused reason) decide t n c m bytes v u w p s right later = not_of_tenant t u c _ (later.answered c (look_here c FrontAnswered v.table))
+told_bytes fed.Ready decide t n c m bytes v u w p s right later = not_of_tenant t u c _ (later.answered c (look_here c FrontAnswered v.table))
+told_bytes (fed.Request r) decide t n c m bytes v u w p s right later =
     let seen = later.asked c r.tenant (look_here c (AskedAs r.tenant) v.table) in
-    ap (outputs_of t u) reply.1 ∙ of_tenant t r.tenant u c reply.0 seen ∙ elim (same_tells t r.tenant) [
-      | inl e ↦ rw (e.0) (sym reply.1 ∙ told_asked t n c m r w p e.1 s ∙ sym (append-nil _))
+    of_tenant t r.tenant u c _ seen ∙ elim (same_tells t r.tenant) [
+      | inl e ↦ rw (e.0) (ap (λ (d : Decision). Reply c (reply d.status d.body) ∷ []) (right r refl e.1)
+          ∙ told_asked t n c m r w p s ∙ sym (append-nil _))
       | inr e ↦ rw (e.0) refl
     ]
 
-fits_bytes : (told : Fed) (t : List ℕ) (n c m : ℕ) (w : World) (p : PrivateCluster) → Stands t w p → (brings told n c m w).fits ≡ true →
-    fits_all p (asked_by t c n m told) ≡ true
-fits_bytes fed.Waits t n c m w p s fit = refl
-fits_bytes (fed.Refused reason) t n c m w p s fit = refl
-fits_bytes fed.Ready t n c m w p s fit = refl
-fits_bytes (fed.Request r) t n c m w p s fit = elim (same_tells t r.tenant) [
+fits_bytes : (told : Fed) (decide : Request → Decision) (t : List ℕ) (n c m : ℕ) (w : World) (p : PrivateCluster) → Stands t w p →
+    IsRight t n m w told decide → (brings told decide n c w).fits ≡ true → fits_all p (asked_by t c n m told) ≡ true
+fits_bytes fed.Waits decide t n c m w p s right fit = refl
+fits_bytes (fed.Refused reason) decide t n c m w p s right fit = refl
+fits_bytes fed.Ready decide t n c m w p s right fit = refl
+fits_bytes (fed.Request r) decide t n c m w p s right fit = elim (same_tells t r.tenant) [
   | inl e ↦
-      let own = ap (λ k. (asked (here_in (effective m w.clock) n w.instances) c r (local_at k n w.instances)).fits) e.1 ∙ fit in
+      let own = ap (λ (d : Decision). counts_fit d.items) (sym (right r refl e.1)) ∙ fit in
       rw (e.0) (ap (λ b. b && true) (ap (λ (q : Course). q.fits) (asked_course t n c m r w p s) ∙ own))
   | inr e ↦ rw (e.0) refl
 ]
@@ -344,14 +355,13 @@ not_of_front : (t : List ℕ) (u : Watch) (c : ℕ) (bytes : List ℕ) → look 
 unfolding owner
 not_of_front t u c bytes seen = rw seen refl
 
-front_bytes : (told : Fed) (n c m : ℕ) (bytes : List ℕ) (v u : Watch) (w : World) → Later (then_seen told n c bytes v) u →
-    front_outputs u (brings told n c m w).outputs ≡ answered_by c told
-front_bytes fed.Waits n c m bytes v u w later = refl
-front_bytes (fed.Refused reason) n c m bytes v u w later = of_front u c _ (later.answered c (look_here c FrontAnswered v.table))
-front_bytes fed.Ready n c m bytes v u w later = of_front u c _ (later.answered c (look_here c FrontAnswered v.table))
-front_bytes (fed.Request r) n c m bytes v u w later =
-    let reply = replies_only r.tenant (here_in (effective m w.clock) n w.instances) c r (local_at r.tenant n w.instances) in
-    ap (front_outputs u) reply.1 ∙ not_of_front r.tenant u c reply.0 (later.asked c r.tenant (look_here c (AskedAs r.tenant) v.table))
+front_bytes : (told : Fed) (decide : Request → Decision) (n c : ℕ) (bytes : List ℕ) (v u : Watch) (w : World) →
+    Later (then_seen told n c bytes v) u → front_outputs u (brings told decide n c w).outputs ≡ answered_by c told
+front_bytes fed.Waits decide n c bytes v u w later = refl
+front_bytes (fed.Refused reason) decide n c bytes v u w later = of_front u c _ (later.answered c (look_here c FrontAnswered v.table))
+front_bytes fed.Ready decide n c bytes v u w later = of_front u c _ (later.answered c (look_here c FrontAnswered v.table))
+front_bytes (fed.Request r) decide n c bytes v u w later =
+    not_of_front r.tenant u c _ (later.asked c r.tenant (look_here c (AskedAs r.tenant) v.table))
 
 owned_answer : (u : Watch) (c : ℕ) (bytes : List ℕ) → look c u.table ≡ Some FrontAnswered → are_owned u (Reply c bytes ∷ []) ≡ true
 unfolding owner
@@ -361,20 +371,19 @@ owned_reply : (t : List ℕ) (u : Watch) (c : ℕ) (bytes : List ℕ) → look c
 unfolding owner
 owned_reply t u c bytes seen = rw seen refl
 
-owned_bytes : (told : Fed) (n c m : ℕ) (bytes : List ℕ) (v u : Watch) (w : World) → Later (then_seen told n c bytes v) u →
-    are_owned u (brings told n c m w).outputs ≡ true
-owned_bytes fed.Waits n c m bytes v u w later = refl
-owned_bytes (fed.Refused reason) n c m bytes v u w later = owned_answer u c _ (later.answered c (look_here c FrontAnswered v.table))
-owned_bytes fed.Ready n c m bytes v u w later = owned_answer u c _ (later.answered c (look_here c FrontAnswered v.table))
-owned_bytes (fed.Request r) n c m bytes v u w later =
-    let reply = replies_only r.tenant (here_in (effective m w.clock) n w.instances) c r (local_at r.tenant n w.instances) in
-    ap (are_owned u) reply.1 ∙ owned_reply r.tenant u c reply.0 (later.asked c r.tenant (look_here c (AskedAs r.tenant) v.table))
+owned_bytes : (told : Fed) (decide : Request → Decision) (n c : ℕ) (bytes : List ℕ) (v u : Watch) (w : World) →
+    Later (then_seen told n c bytes v) u → are_owned u (brings told decide n c w).outputs ≡ true
+owned_bytes fed.Waits decide n c bytes v u w later = refl
+owned_bytes (fed.Refused reason) decide n c bytes v u w later = owned_answer u c _ (later.answered c (look_here c FrontAnswered v.table))
+owned_bytes fed.Ready decide n c bytes v u w later = owned_answer u c _ (later.answered c (look_here c FrontAnswered v.table))
+owned_bytes (fed.Request r) decide n c bytes v u w later = owned_reply r.tenant u c _ (later.asked c r.tenant (look_here c (AskedAs r.tenant) v.table))
 
 -- ---- a piece
 
-roster_taken : (n c : ℕ) (bytes : List ℕ) (m : ℕ) (xs ys : List Instance) → Takes n c bytes m xs ys → IsSameRoster (roster_of ys) (roster_of xs)
+roster_taken : (n c : ℕ) (bytes : List ℕ) (m : ℕ) (limits : List ℕ → Limits) (xs ys : List Instance) (outs outs' : List Output) →
+    Takes n c bytes m limits xs ys outs outs' → IsSameRoster (roster_of ys) (roster_of xs)
 unfolding up_at incarnation_at
-roster_taken n c bytes m xs ys takes = record {
+roster_taken n c bytes m limits xs ys outs outs' takes = record {
   up = λ j. elim (cases_Bool (nat_eq j n)) [
     | inl h ↦ let number : j ≡ n = grind (arith, nat_tests) in ap (λ k. up_at k ys) number ∙ takes.up ∙ ap (λ k. up_at k xs) (sym number)
     | inr h ↦ ap up_where (takes.others j h)
@@ -385,35 +394,55 @@ roster_taken n c bytes m xs ys takes = record {
   ];
 }
 
+-- what was decided on a request of the tenant is the decision, as none of its patterns was refused a build
+right_decision : (t : List ℕ) (n c m : ℕ) (r : Request) (w : World) (refused : ℕ → List (List ℕ)) (d : Decision) → t ≡ r.tenant →
+    AreBuilt refused (patterns_in (asked_by t c n m (fed.Request r))) →
+    MayDecide (refused n) r (decision_in r.tenant n m r w) d → d ≡ decision_in t n m r w
+right_decision t n c m r w refused d own built (inl same) = same ∙ ap (λ k. decision_in k n m r w) (sym own)
+right_decision t n c m r w refused d own built (inr (unbuilt, has)) =
+    let asked : same t r.tenant ≡ true = same_itself own in
+    let all = rw asked at (built n) in
+    absurd (none_refused (refused n) (patterns_of_request r) (rw (append-nil (patterns_of_request r)) at all) has)
+  where
+    same_itself : t ≡ r.tenant → same t r.tenant ≡ true
+    same_itself e = elim (same_tells t r.tenant) [ inl tells ↦ tells.0 | inr tells ↦ absurd (tells.1 e) ]
+
+is_right : (t : List ℕ) (n c m : ℕ) (bytes : List ℕ) (w w' : World) (told : Fed) (decide : Request → Decision) →
+    ((r : Request) → told ≡ fed.Request r → MayDecide (refused_at n w'.instances) r (decision_in r.tenant n m r w) (decide r)) →
+    AreBuilt (refused_by w') (patterns_in (asked_by t c n m told)) → IsRight t n m w told decide
+is_right t n c m bytes w w' told decide decided built r is own =
+    right_decision t n c m r w (refused_by w') (decide r) own (rw is at built) (decided r is)
+
 pub kept_bytes : (w w' : World) (n c m : ℕ) (before piece : List ℕ) → nat_lt last_moment m ≡ false → bytes_at c n w.instances ≡ Some before →
-    Takes n c (before ++ piece) (effective m w.clock) w.instances w'.instances →
-    put_out w' ≡ put_out w ++ (taken_at n c (before ++ piece) (effective m w.clock) w.instances).outputs →
-    (taken_at n c (before ++ piece) (effective m w.clock) w.instances).fits ≡ true → w'.clock ≡ w.clock → w'.limits ≡ w.limits →
+    Takes n c (before ++ piece) (effective m w.clock) (λ t. limits_of t w.limits) w.instances w'.instances (put_out w) (put_out w') →
+    KeepRefused w.instances w'.instances → w'.clock ≡ w.clock → w'.limits ≡ w.limits →
     fault_count w' ≡ fault_count w → Kept w (Bytes c m piece) w'
-kept_bytes w w' n c m before piece allowed here takes outputs fit clock limits faults =
+kept_bytes w w' n c m before piece allowed here takes refused clock limits faults =
     let bytes = before ++ piece in
     let told = verdict bytes in
-    let roster = roster_taken n c bytes (effective m w.clock) w.instances w'.instances takes in
+    let roster = roster_taken n c bytes (effective m w.clock) _ w.instances w'.instances _ _ takes in
     record {
       follows = λ v f. rw (sees v w n c m before piece allowed here f) (record {
         reading = reading_after told n c v before bytes w.instances w'.instances f.reading (seen_reading v w n c before f here) takes.reading takes.others;
         roster = roster_then _ _ _ roster f.roster;
       });
-      outs = (taken_at n c bytes (effective m w.clock) w.instances).outputs;
-      appended = outputs;
+      outs = (taken_at n c bytes takes.decide w.instances).outputs;
+      appended = takes.outputs;
       tenants = λ t v p given.
           let adds_here = gives t v w n c m before piece allowed here given.follows in
+          let right = is_right t n c m bytes w w' told takes.decide takes.decided (rw adds_here at given.brought) in
           record {
-            stands = rw adds_here (stands_bytes told t n c m bytes v w w' p given.stands takes.local takes.others clock limits roster);
+            stands = rw adds_here (stands_bytes told takes.decide t n c m w w' p given.stands right takes.local takes.others clock limits roster);
             told = λ u later. rw adds_here
-                (told_bytes told t n c m bytes v u w p given.stands (rw (sees v w n c m before piece allowed here given.follows) at later));
-            fits = rw adds_here (fits_bytes told t n c m w p given.stands fit);
+                (told_bytes told takes.decide t n c m bytes v u w p given.stands right (rw (sees v w n c m before piece allowed here given.follows) at later));
+            fits = rw adds_here (fits_bytes told takes.decide t n c m w p given.stands right takes.fits);
           };
       front = λ v f u later. rw (says v w n c m before piece allowed here f)
-          (front_bytes told n c m bytes v u w (rw (sees v w n c m before piece allowed here f) at later));
-      owned = λ v f u later. owned_bytes told n c m bytes v u w (rw (sees v w n c m before piece allowed here f) at later);
+          (front_bytes told takes.decide n c bytes v u w (rw (sees v w n c m before piece allowed here f) at later));
+      owned = λ v f u later. owned_bytes told takes.decide n c bytes v u w (rw (sees v w n c m before piece allowed here f) at later);
       roster = roster;
       clock = clock;
       limits = λ t. ap (limits_of t) limits;
+      refused = refused;
       faults = faults;
     }

@@ -10,6 +10,7 @@ use Rattle.am_world.specs.Outputs.{front_told}
 use Rattle.am_world.specs.Places.{bytes_at, roster_of}
 use Rattle.am_world.specs.Simulation.{Follows, Kept, bytes_read, fault_count, put_out}
 use Rattle.am_world.specs.View.{AskedAs, FrontAnswered, Reading, Seen, Shut, Table, Watch, adds, left, look, watch}
+use Rattle.am_world.proofs.Built.{keep_same}
 use Rattle.am_world.proofs.Kept.{SameParts, kept_nothing, roster_then, same_again, stands_same}
 use Rattle.am_world.proofs.KeptBytes.{read_itself, seen_reading, unread_anywhere}
 
@@ -73,5 +74,6 @@ kept_close w w' n c before here reading same outputs faults = record {
   roster = same.roster;
   clock = same.clock;
   limits = λ t. ap (limits_of t) same.limits;
+  refused = keep_same _ _ same.refused;
   faults = faults;
 }

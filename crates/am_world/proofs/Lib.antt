@@ -1,4 +1,5 @@
-mod Counts
+mod Built
+mod Deciding
 mod Faults
 mod InstancesLemmas
 mod Kept

@@ -7,7 +7,7 @@ use Rattle.am_item.specs.Best.{best}
 use Rattle.am_limit.specs.Books.{limits_of}
 use Rattle.am_world.specs.declared.instance.Instance.{Instance}
 use Rattle.am_world.specs.declared.world.World.{World}
-use Rattle.am_world.specs.Places.{AreNumbered, bytes_at, bytes_where, incarnation_at, incarnation_where, instance_at, local_at, local_in, local_where, roster_of, up_at, up_where}
+use Rattle.am_world.specs.Places.{AreNumbered, bytes_at, bytes_where, incarnation_at, incarnation_where, instance_at, local_at, local_in, local_where, refused_at, refused_where, roster_of, up_at, up_where}
 use Rattle.am_world.specs.PrivateCluster.{opened}
 use Rattle.am_world.specs.Reaction.{blank}
 use Rattle.am_world.specs.Roster.{IsSameRoster, opened_roster, serves}
@@ -22,6 +22,7 @@ pub record IsFresh (first : ℕ) (x : Instance) : Type 0 where
   pub incarnation : x.incarnation ≡ first
   pub unread : (c : ℕ) → bytes_of c x.front ≡ None
   pub local : (t : List ℕ) → local_in t x ≡ blank
+  pub refused : x.cache.refused ≡ []
 
 abbrev pub AreFresh : ℕ → List Instance → Type 0
 AreFresh first [] = Unit {0}
@@ -76,6 +77,15 @@ local_opening_at first t i xs (Some x) at all = (fresh_found first _ xs x all at
 pub local_opening : (first : ℕ) (t : List ℕ) (i : ℕ) (xs : List Instance) → AreFresh first xs → local_at t i xs ≡ blank
 unfolding local_at
 local_opening first t i xs all = local_opening_at first t i xs (instance_at i xs) refl all
+
+refused_opening_at : (first i : ℕ) (xs : List Instance) (o : Option Instance) → instance_at i xs ≡ o → AreFresh first xs → refused_where o ≡ []
+unfolding instance_at
+refused_opening_at first i xs None at all = refl
+refused_opening_at first i xs (Some x) at all = (fresh_found first _ xs x all at).refused
+
+pub refused_opening : (first i : ℕ) (xs : List Instance) → AreFresh first xs → refused_at i xs ≡ []
+unfolding refused_at
+refused_opening first i xs all = refused_opening_at first i xs (instance_at i xs) refl all
 
 pub numbers_push : (xs : List Instance) (x : Instance) → map (λ (y : Instance). y.number) (xs ++ x ∷ []) ≡ map (λ (y : Instance). y.number) xs ++ x.number ∷ []
 numbers_push [] x = refl

@@ -12,12 +12,14 @@ use Rattle.am_world.specs.declared.event.Output.{Output}
 use Rattle.am_world.specs.declared.world.World.{World}
 use Rattle.am_world.specs.Moments.{last_moment}
 use Rattle.am_world.specs.Outputs.{are_owned, front_outputs, front_told, front_told_all, is_front, is_tenant, outputs_of, owner}
-use Rattle.am_world.specs.PrivateCluster.{Happening, PrivateCluster, after, after_all, fits, fits_all, opened, told, told_all}
+use Rattle.am_world.specs.Places.{AreBuilt, KeepRefused}
+use Rattle.am_world.specs.PrivateCluster.{Happening, PrivateCluster, after, after_all, fits, fits_all, opened, patterns_in, told, told_all}
 use Rattle.am_world.specs.Roster.{roster_after}
 use Rattle.am_world.specs.Runs.{Alone, Broken, Headline, Isolated, Prefixes, Run, RunPremises, added}
 use Rattle.am_world.specs.Setup.{Origin}
-use Rattle.am_world.specs.Simulation.{Faulted, Follows, Kept, Later, Opens, Premises, Stands, Step, fault_count, put_out}
+use Rattle.am_world.specs.Simulation.{Faulted, Follows, Kept, Later, Opens, Premises, Stands, Step, fault_count, put_out, refused_by}
 use Rattle.am_world.specs.View.{AskedAs, FrontAnswered, Reading, Seen, Shut, Table, Watch, adds, first_watch, left, look, names_once, noted, opens_new, table_after, view, watch, watch_all}
+use Rattle.am_world.proofs.Built.{built_before, built_parts, keep_equal, keep_then}
 
 -- ---- what was decided of a connection stays decided
 
@@ -137,84 +139,126 @@ pub run_more : (w : World) (es : List Event) (mid : World) (e : Event) (w' : Wor
 run_more w [] mid e w' run step = (w', rw run at step, refl)
 run_more w (x ∷ es) mid e w' (next, first, run) step = (next, first, run_more next es mid e w' run step)
 
--- what events without fault did for a tenant: these are the outputs that they added
-pub record Ran (es : List Event) (outs : List Output) (w' : World) (t : List ℕ) (v : Watch) (p : PrivateCluster) :
+-- no pattern that was refused is forgotten
+pub step_refused : (w : World) (e : Event) (w' : World) → Step w e w' → KeepRefused w.instances w'.instances
+step_refused w e w' (inl kept) = kept.refused
+step_refused w e w' (inr faulted) = faulted.refused
+
+run_refused : (w : World) (es : List Event) (w' : World) → Run w es w' → KeepRefused w.instances w'.instances
+run_refused w [] w' run = keep_equal _ _ (ap (λ (x : World). x.instances) run)
+run_refused w (e ∷ es) w' (mid, step, run) = keep_then _ _ _ (step_refused w e mid step) (run_refused mid es w' run)
+
+-- what events without fault did for a tenant, where Q holds: these are the outputs that they added
+pub record Ran (Q : Type 0) (es : List Event) (outs : List Output) (w' : World) (t : List ℕ) (v : Watch) (p : PrivateCluster) :
     Type 0 where
-  pub told : (u : Watch) → Later (watch_all v es) u → outputs_of t u outs ≡ told_all p (view t v es)
+  pub told : Q → (u : Watch) → Later (watch_all v es) u → outputs_of t u outs ≡ told_all p (view t v es)
   pub front : (u : Watch) → Later (watch_all v es) u → front_outputs u outs ≡ front_told_all v es
   pub owned : (u : Watch) → Later (watch_all v es) u → are_owned u outs ≡ true
-  pub fits : fits_all p (view t v es) ≡ true
+  pub fits : Q → fits_all p (view t v es) ≡ true
   pub follows : Follows (watch_all v es) w'
-  pub stands : Stands t w' (after_all p (view t v es))
+  pub stands : Q → Stands t w' (after_all p (view t v es))
 
-pub ran_nothing : (w : World) (t : List ℕ) (v : Watch) (p : PrivateCluster) → Follows v w → Stands t w p → Ran [] [] w t v p
-ran_nothing w t v p f s = record {
-  told = λ u later. refl;
+-- what they need
+pub record Given (Q : Type 0) (t : List ℕ) (v : Watch) (p : PrivateCluster) (w : World) (es : List Event) (w' : World) :
+    Type 0 where
+  pub follows : Follows v w
+  pub once : names_once v es
+  pub stands : Q → Stands t w p
+  pub brought : Q → AreBuilt (refused_by w') (patterns_in (view t v es))
+
+pub ran_nothing : (Q : Type 0) (w : World) (t : List ℕ) (v : Watch) (p : PrivateCluster) → Follows v w → (Q → Stands t w p) →
+    Ran Q [] [] w t v p
+ran_nothing Q w t v p f s = record {
+  told = λ q u later. refl;
   front = λ u later. refl;
   owned = λ u later. refl;
-  fits = refl;
+  fits = λ q. refl;
   follows = f;
   stands = s;
 }
 
-pub ran_more : (w : World) (e : Event) (mid : World) (es : List Event) (outs : List Output) (w' : World)
+-- what the first event needs of what all need
+pub first_given : (Q : Type 0) (t : List ℕ) (v : Watch) (p : PrivateCluster) (w : World) (e : Event) (mid : World) (es : List Event) (w' : World) →
+    Given Q t v p w (e ∷ es) w' → KeepRefused mid.instances w'.instances → Q → Premises t v p w e mid
+first_given Q t v p w e mid es w' given keep q = record {
+  follows = given.follows;
+  stands = given.stands q;
+  fresh = given.once.0;
+  brought = built_before mid.instances w'.instances (patterns_in (adds t v e)) keep
+      (built_parts (refused_by w') (adds t v e) (view t (watch v e) es) (given.brought q)).0;
+}
+
+-- .. and the others
+pub rest_given : (Q : Type 0) (t : List ℕ) (v : Watch) (p : PrivateCluster) (w : World) (e : Event) (mid : World) (es : List Event) (w' : World) →
+    Given Q t v p w (e ∷ es) w' → (kept : Kept w e mid) → (Q → Premises t v p w e mid) →
+    Given Q t (watch v e) (after_all p (adds t v e)) mid es w'
+rest_given Q t v p w e mid es w' given kept one = record {
+  follows = kept.follows v given.follows;
+  once = given.once.1;
+  stands = λ q. (kept.tenants t v p (one q)).stands;
+  brought = λ q. (built_parts (refused_by w') (adds t v e) (view t (watch v e) es) (given.brought q)).1;
+}
+
+pub ran_more : (Q : Type 0) (w : World) (e : Event) (mid : World) (es : List Event) (outs : List Output) (w' : World)
     (t : List ℕ) (v : Watch) (p : PrivateCluster) (kept : Kept w e mid) →
-    Premises t v p w e → names_once (watch v e) es →
-    Ran es outs w' t (watch v e) (after_all p (adds t v e)) → Ran (e ∷ es) (kept.outs ++ outs) w' t v p
-ran_more w e mid es outs w' t v p kept given once rest =
-    let own = kept.tenants t v p given in
+    Follows v w → (Q → Premises t v p w e mid) → names_once (watch v e) es →
+    Ran Q es outs w' t (watch v e) (after_all p (adds t v e)) → Ran Q (e ∷ es) (kept.outs ++ outs) w' t v p
+ran_more Q w e mid es outs w' t v p kept follows given once rest =
     record {
-      told = λ u later.
+      told = λ q u later.
           filter-append (λ output. is_tenant t (owner u output)) kept.outs outs
           ∙ ap (λ os. os ++ outputs_of t u outs)
-          (own.told u (later_after (watch v e) _ u (later_all (watch v e) es once) later))
-          ∙ ap (λ os. told_all p (adds t v e) ++ os) (rest.told u later)
+          ((kept.tenants t v p (given q)).told u (later_after (watch v e) _ u (later_all (watch v e) es once) later))
+          ∙ ap (λ os. told_all p (adds t v e) ++ os) (rest.told q u later)
           ∙ sym (told_all-append p (adds t v e) (view t (watch v e) es));
       front = λ u later.
           filter-append (λ output. is_front (owner u output)) kept.outs outs
           ∙ ap (λ os. os ++ front_outputs u outs)
-          (kept.front v given.follows u (later_after (watch v e) _ u (later_all (watch v e) es once) later))
+          (kept.front v follows u (later_after (watch v e) _ u (later_all (watch v e) es once) later))
           ∙ ap (λ os. front_told v e ++ os) (rest.front u later);
       owned = λ u later.
           list_all-append (λ output. is_some (owner u output)) kept.outs outs
           ∙ rw (
-            kept.owned v given.follows u (later_after (watch v e) _ u (later_all (watch v e) es once) later),
+            kept.owned v follows u (later_after (watch v e) _ u (later_all (watch v e) es once) later),
             rest.owned u later,
           ) refl;
-      fits = fits_all-append p (adds t v e) (view t (watch v e) es) own.fits rest.fits;
+      fits = λ q. fits_all-append p (adds t v e) (view t (watch v e) es) (kept.tenants t v p (given q)).fits (rest.fits q);
       follows = rest.follows;
-      stands = rw (after_all-append p (adds t v e) (view t (watch v e) es)) rest.stands;
+      stands = λ q. rw (after_all-append p (adds t v e) (view t (watch v e) es)) (rest.stands q);
     }
 
-ran : (w : World) (es : List Event) (w' : World) (t : List ℕ) (v : Watch) (p : PrivateCluster) → Run w es w' →
-    fault_count w' ≡ 0 → RunPremises t v p w es → (outs : List Output) × (put_out w' ≡ put_out w ++ outs) × Ran es outs w' t v p
-ran w [] w' t v p run none given = rw run ([], sym (append-nil (put_out w)), ran_nothing w t v p given.follows given.stands)
-ran w (e ∷ es) w' t v p (mid, step, run) none given =
+ran : (Q : Type 0) (w : World) (es : List Event) (w' : World) (t : List ℕ) (v : Watch) (p : PrivateCluster) → Run w es w' →
+    fault_count w' ≡ 0 → Given Q t v p w es w' → (outs : List Output) × (put_out w' ≡ put_out w ++ outs) × Ran Q es outs w' t v p
+ran Q w [] w' t v p run none given =
+    rw run ([], sym (append-nil (put_out w)), ran_nothing Q w t v p given.follows given.stands)
+ran Q w (e ∷ es) w' t v p (mid, step, run) none given =
     let kept = step_kept w e mid w' step (faults_stay mid es w' run) none in
-    let one : Premises t v p w e = record { follows = given.follows; stands = given.stands; fresh = given.once.0 } in
-    let later : RunPremises t (watch v e) (after_all p (adds t v e)) mid es = record {
-      follows = kept.follows v given.follows;
-      stands = (kept.tenants t v p one).stands;
-      once = given.once.1;
-    } in
-    let rest = ran mid es w' t (watch v e) (after_all p (adds t v e)) run none later in (
+    let one = first_given Q t v p w e mid es w' given (run_refused mid es w' run) in
+    let later = rest_given Q t v p w e mid es w' given kept one in
+    let rest = ran Q mid es w' t (watch v e) (after_all p (adds t v e)) run none later in (
       kept.outs ++ rest.0,
       rest.1 ∙ ap (λ os. os ++ rest.0) kept.appended ∙ append_assoc (put_out w) kept.outs rest.0,
-      ran_more w e mid es rest.0 w' t v p kept one given.once.1 rest.2,
+      ran_more Q w e mid es rest.0 w' t v p kept given.follows one given.once.1 rest.2,
     )
 
 -- a run of steps is the headline's
 pub headline : (w : World) (es : List Event) (w' : World) → Run w es w' → Headline w es w'
 headline w es w' run none t v p given =
-    let r = ran w es w' t v p run none given in
+    let all : Given (Unit {0}) t v p w es w' = record {
+      follows = given.follows;
+      once = given.once;
+      stands = λ q. given.stands;
+      brought = λ q. given.brought;
+    } in
+    let r = ran (Unit {0}) w es w' t v p run none all in
     record {
-      told = rw (r.1, drop-append_seam (put_out w) r.0) (r.2.told (watch_all v es) (later_itself (watch_all v es)));
+      told = rw (r.1, drop-append_seam (put_out w) r.0) (r.2.told tt (watch_all v es) (later_itself (watch_all v es)));
       front = rw (r.1, drop-append_seam (put_out w) r.0) (r.2.front (watch_all v es) (later_itself (watch_all v es)));
       owned = rw (r.1, drop-append_seam (put_out w) r.0) (r.2.owned (watch_all v es) (later_itself (watch_all v es)));
       stay = rw (r.1, take-append_seam (put_out w) r.0) refl;
-      fits = r.2.fits;
+      fits = r.2.fits tt;
       follows = r.2.follows;
-      stands = r.2.stands;
+      stands = r.2.stands tt;
     }
 
 -- ---- a run up to its first fault
@@ -298,20 +342,34 @@ prefixes w es w' run = elim (breaks w es w' run) [
 
 -- ---- from the opening on: no output stands before the run
 
-isolated_opening : (origin : Origin) (w : World) (es : List Event) (w' : World) → Opens origin w → Headline w es w' → fault_count w' ≡ 0 →
-    names_once (first_watch origin) es → (t : List ℕ) → Isolated t (first_watch origin) (opened origin t) w es w'
-isolated_opening origin w es w' opens head none once t =
-    head none t (first_watch origin) (opened origin t) (record { follows = opens.follows; stands = opens.stands t; once = once })
+-- what is told of each tenant, where none of its patterns was refused a build, and of the front
+pub record RanAlone (origin : Origin) (es : List Event) (refused : ℕ → List (List ℕ)) (outs : List Output) (w' : World) : Type 0 where
+  pub all : (t : List ℕ) → Ran (AreBuilt refused (patterns_in (view t (first_watch origin) es))) es outs w' t (first_watch origin) (opened origin t)
 
-nothing_before : (w w' : World) → put_out w ≡ [] → added w w' ≡ put_out w'
-nothing_before w w' empty = ap (λ (outs : List Output). drop (length outs) (put_out w')) empty
-
-pub alone_opening : (origin : Origin) (w : World) (es : List Event) (w' : World) → Opens origin w → Headline w es w' → fault_count w' ≡ 0 →
-    names_once (first_watch origin) es → Alone origin es (put_out w')
-alone_opening origin w es w' opens head none once =
-    let outputs = nothing_before w w' opens.outputs in
+pub alone_of : (origin : Origin) (es : List Event) (refused : ℕ → List (List ℕ)) (outs : List Output) (w' : World) →
+    RanAlone origin es refused outs w' → Alone origin es refused outs
+alone_of origin es refused outs w' ran =
+    let last = later_itself (watch_all (first_watch origin) es) in
     record {
-      tenants = λ t. ap (outputs_of t (watch_all (first_watch origin) es)) (sym outputs) ∙ (isolated_opening origin w es w' opens head none once t).told;
-      front = ap (front_outputs (watch_all (first_watch origin) es)) (sym outputs) ∙ (isolated_opening origin w es w' opens head none once []).front;
-      owned = ap (are_owned (watch_all (first_watch origin) es)) (sym outputs) ∙ (isolated_opening origin w es w' opens head none once []).owned;
+      tenants = λ t built. (ran.all t).told built (watch_all (first_watch origin) es) last;
+      front = (ran.all []).front (watch_all (first_watch origin) es) last;
+      owned = (ran.all []).owned (watch_all (first_watch origin) es) last;
     }
+
+-- what an opened world gives to a run
+pub given_opening : (origin : Origin) (w : World) (es : List Event) (w' : World) (t : List ℕ) → Opens origin w → names_once (first_watch origin) es →
+    Given (AreBuilt (refused_by w') (patterns_in (view t (first_watch origin) es))) t (first_watch origin) (opened origin t) w es w'
+given_opening origin w es w' t opens once =
+    record { follows = opens.follows; once = once; stands = λ built. opens.stands t; brought = λ built. built }
+
+same_outputs : (before outs : List Output) → before ≡ [] → (all : List Output) → all ≡ before ++ outs → outs ≡ all
+same_outputs before outs empty all is = ap (λ os. os ++ outs) (sym empty) ∙ sym is
+
+pub alone_opening : (origin : Origin) (w : World) (es : List Event) (w' : World) → Opens origin w → Run w es w' → fault_count w' ≡ 0 →
+    names_once (first_watch origin) es → Alone origin es (refused_by w') (put_out w')
+alone_opening origin w es w' opens run none once = alone_of origin es (refused_by w') (put_out w') w' (record {
+  all = λ t.
+      let Q = AreBuilt (refused_by w') (patterns_in (view t (first_watch origin) es)) in
+      let r = ran Q w es w' t (first_watch origin) (opened origin t) run none (given_opening origin w es w' t opens once) in
+      rw (same_outputs (put_out w) r.0 opens.outputs (put_out w') r.1) at r.2;
+})

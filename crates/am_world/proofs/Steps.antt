@@ -3,12 +3,14 @@ use Rattle.std.proofs.Common.{◌≡◌, ◌≢◌, ◌∙◌, ℕ, List, [], �
 use Rattle.am_world.specs.declared.event.Event.{Event}
 use Rattle.am_world.specs.declared.event.Output.{Output}
 use Rattle.am_world.specs.declared.world.World.{World}
-use Rattle.am_world.specs.PrivateCluster.{PrivateCluster, after_all, opened}
-use Rattle.am_world.specs.Runs.{Alone, Forgets, RunPremises}
+use Rattle.am_world.specs.Places.{AreBuilt, KeepRefused}
+use Rattle.am_world.specs.PrivateCluster.{PrivateCluster, after_all, opened, patterns_in}
+use Rattle.am_world.specs.Runs.{Alone, Forgets}
 use Rattle.am_world.specs.Setup.{Origin}
-use Rattle.am_world.specs.Simulation.{Follows, Opens, Premises, Stands, Step, fault_count, put_out}
-use Rattle.am_world.specs.View.{Watch, adds, first_watch, names_once, watch, watch_all}
-use Rattle.am_world.proofs.Run.{Ran, later_itself, ran_nothing, ran_more, step_faults, step_kept}
+use Rattle.am_world.specs.Simulation.{Follows, Opens, Stands, Step, fault_count, put_out, refused_by}
+use Rattle.am_world.specs.View.{Watch, adds, first_watch, names_once, view, watch}
+use Rattle.am_world.proofs.Built.{keep_equal, keep_then}
+use Rattle.am_world.proofs.Run.{Given, Ran, RanAlone, alone_of, first_given, given_opening, ran_nothing, ran_more, rest_given, step_faults, step_kept, step_refused}
 
 -- what a world put out says nothing of what it reads and has
 forgets_follows : (v : Watch) (w w' : World) → Forgets w w' → Follows v w → Follows v w'
@@ -35,36 +37,35 @@ faults_stay w [] outs w' (same, nothing) some = λ none. some (sym (ap fault_cou
 faults_stay w (e ∷ es) outs w' (before, mid, rest, forgets, step, both, steps) some =
     faults_stay mid es rest w' steps (step_faults before e mid step (λ none. some (sym forgets.faults ∙ none)))
 
-ran : (w : World) (es : List Event) (outs : List Output) (w' : World) (t : List ℕ) (v : Watch)
-    (p : PrivateCluster) → Steps w es outs w' → fault_count w' ≡ 0 → RunPremises t v p w es → Ran es outs w' t v p
-ran w [] outs w' t v p (same, nothing) none given = rw (same, nothing) (ran_nothing w t v p given.follows given.stands)
-ran w (e ∷ es) outs w' t v p (before, mid, rest, forgets, step, both, steps) none given =
+steps_refused : (w : World) (es : List Event) (outs : List Output) (w' : World) → Steps w es outs w' → KeepRefused w.instances w'.instances
+steps_refused w [] outs w' (same, nothing) = keep_equal _ _ (ap (λ (x : World). x.instances) same)
+steps_refused w (e ∷ es) outs w' (before, mid, rest, forgets, step, both, steps) =
+    keep_then _ _ _ (keep_equal _ _ forgets.instances)
+    (keep_then _ _ _ (step_refused before e mid step) (steps_refused mid es rest w' steps))
+
+ran : (Q : Type 0) (w : World) (es : List Event) (outs : List Output) (w' : World) (t : List ℕ) (v : Watch)
+    (p : PrivateCluster) → Steps w es outs w' → fault_count w' ≡ 0 → Given Q t v p w es w' → Ran Q es outs w' t v p
+ran Q w [] outs w' t v p (same, nothing) none given = rw (same, nothing) (ran_nothing Q w t v p given.follows given.stands)
+ran Q w (e ∷ es) outs w' t v p (before, mid, rest, forgets, step, both, steps) none given =
     let kept = step_kept before e mid w' step (faults_stay mid es rest w' steps) none in
-    let one : Premises t v p before e = record {
+    let from : Given Q t v p before (e ∷ es) w' = record {
       follows = forgets_follows v w before forgets given.follows;
-      stands = forgets_stands t w before p forgets given.stands;
-      fresh = given.once.0;
+      once = given.once;
+      stands = λ q. forgets_stands t w before p forgets (given.stands q);
+      brought = given.brought;
     } in
-    let later : RunPremises t (watch v e) (after_all p (adds t v e)) mid es = record {
-      follows = kept.follows v one.follows;
-      stands = (kept.tenants t v p one).stands;
-      once = given.once.1;
-    } in
+    let one = first_given Q t v p before e mid es w' from (steps_refused mid es rest w' steps) in
+    let later = rest_given Q t v p before e mid es w' from kept one in
     let all : outs ≡ kept.outs ++ rest = both ∙ ap (λ os. os ++ rest) (kept.appended ∙ ap (λ os. os ++ kept.outs) forgets.outputs) in
     rw all
-    (ran_more before e mid es rest w' t v p kept one given.once.1
-    (ran mid es rest w' t (watch v e) (after_all p (adds t v e)) steps none later))
+    (ran_more Q before e mid es rest w' t v p kept from.follows one given.once.1
+    (ran Q mid es rest w' t (watch v e) (after_all p (adds t v e)) steps none later))
 
 -- each tenant is as if alone, where no fault came and no connection's name was used twice
 pub alone : (origin : Origin) (w : World) (es : List Event) (outs : List Output) (w' : World) → Opens origin w →
-    Steps w es outs w' → fault_count w' ≡ 0 → names_once (first_watch origin) es → Alone origin es outs
-alone origin w es outs w' opens steps none once =
-    let v = first_watch origin in
-    let last = later_itself (watch_all v es) in
-    let all : (t : List ℕ) → Ran es outs w' t v (opened origin t) =
-    λ t. ran w es outs w' t v (opened origin t) steps none (record { follows = opens.follows; stands = opens.stands t; once = once }) in
-    record {
-      tenants = λ t. (all t).told (watch_all v es) last;
-      front = (all []).front (watch_all v es) last;
-      owned = (all []).owned (watch_all v es) last;
-    }
+    Steps w es outs w' → fault_count w' ≡ 0 → names_once (first_watch origin) es → Alone origin es (refused_by w') outs
+alone origin w es outs w' opens steps none once = alone_of origin es (refused_by w') outs w' (record {
+  all = λ t.
+      let Q = AreBuilt (refused_by w') (patterns_in (view t (first_watch origin) es)) in
+      ran Q w es outs w' t (first_watch origin) (opened origin t) steps none (given_opening origin w es w' t opens once);
+})

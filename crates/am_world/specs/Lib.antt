@@ -1,5 +1,3 @@
-pub mod AlertJson
-pub mod Decision
 pub mod Moments
 pub mod Outputs
 pub mod Places

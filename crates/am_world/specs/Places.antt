@@ -1,9 +1,11 @@
 -- what stands at the place of an instance
-use Rattle.std.specs.Prelude.{◌≡◌, ℕ, ◌==◌, Bool, false, is_some, List, [], ◌∷◌, map, find, Option, None, Some, IsSome, option_map}
+use Rattle.std.specs.Prelude.{◌≡◌, ℕ, ◌==◌, Bool, false, is_some, List, [], ◌∷◌, ◌++◌, map, find, Option, None, Some, IsSome, option_map}
 use Rattle.am_http.specs.Connections.{bytes_of}
 use Rattle.am_item.specs.Book.{items_of}
 use Rattle.am_item.specs.Counts.{count_of}
 use Rattle.am_item.specs.declared.fault.Fault.{Fault}
+use Rattle.am_limit.specs.declared.limits.Limits.{Limits}
+use Rattle.am_match.specs.Checking.{AreRefusedRightly}
 use Rattle.am_world.specs.declared.instance.Instance.{Instance}
 use Rattle.am_world.specs.Reaction.{Local, Here, blank}
 use Rattle.am_world.specs.Roster.{Roster}
@@ -22,11 +24,12 @@ instance_at i instances = find (λ (x : Instance). x.number == i) instances
 
 -- all that the instance has of the tenant
 unfoldable pub local_in : List ℕ → Instance → Local
-local_in t x = record { held = items_of t x.book; ledger = record { stamps = count_of t x.counts } }
+local_in t x = record { held = items_of t x.holdings; ledger = record { stamps = count_of t x.counts } }
 
--- what the instance goes by at a moment
-abbrev pub here_of : Instance → ℕ → Here
-here_of x moment = record { instance = x.number; incarnation = x.incarnation; moment = moment }
+-- what the instance goes by at a moment, for a tenant of these limits
+abbrev pub here_of : Instance → ℕ → Limits → Here
+here_of x moment limits =
+    record { instance = x.number; incarnation = x.incarnation; moment = moment; limits = limits }
 
 -- .. at a place
 abbrev pub local_where : List ℕ → Option Instance → Local
@@ -78,9 +81,30 @@ cause_at i instances = cause_where (instance_at i instances)
 abbrev pub roster_of : List Instance → Roster
 roster_of instances = record { up = λ i. up_at i instances; incarnation = λ i. incarnation_at i instances }
 
--- what the instance of a number goes by at a moment
-abbrev pub here_in : ℕ → ℕ → List Instance → Here
-here_in moment i instances = record { instance = i; incarnation = incarnation_at i instances; moment = moment }
+-- what the instance of a number goes by at a moment, for a tenant of these limits
+abbrev pub here_in : ℕ → Limits → ℕ → List Instance → Here
+here_in moment limits i instances =
+    record { instance = i; incarnation = incarnation_at i instances; moment = moment; limits = limits }
+
+-- the patterns that an instance was refused the build of
+abbrev pub refused_where : Option Instance → List (List ℕ)
+refused_where None = []
+refused_where (Some x) = x.cache.refused
+
+unfoldable pub refused_at : ℕ → List Instance → List (List ℕ)
+refused_at i instances = refused_where (instance_at i instances)
+
+-- the later texts begin with the earlier ones
+abbrev pub HasMore : List (List ℕ) → List (List ℕ) → Type 0
+HasMore old new = (more : List (List ℕ)) × (new ≡ old ++ more)
+
+-- no instance forgets such a pattern
+abbrev pub KeepRefused : List Instance → List Instance → Type 0
+KeepRefused before after = (i : ℕ) → HasMore (refused_at i before) (refused_at i after)
+
+-- no pattern among these texts was refused a build, where each instance was refused these
+abbrev pub AreBuilt : (ℕ → List (List ℕ)) → List (List ℕ) → Type 0
+AreBuilt refused texts = (i : ℕ) → AreRefusedRightly (refused i) texts
 
 -- an instance that is down reads nothing and has nothing
 pub record IsDownAt (i : ℕ) (instances : List Instance) : Type 0 where

@@ -1,5 +1,7 @@
 -- what one tenant would have if nobody else were there: lists and recomputation alone
 use Rattle.std.specs.Prelude.{ℕ, Bool, true, ◌&&◌, List, [], ◌∷◌, ◌++◌, map, Option, Some, None, is_some, if◌then◌else◌}
+use Rattle.std.specs.List.{flat_map}
+use Rattle.am_api.specs.Patterns.{patterns_of_request}
 use Rattle.am_http.specs.declared.request.Request.{Request}
 use Rattle.am_item.specs.declared.item.Item.{Item}
 use Rattle.am_item.specs.Best.{best}
@@ -77,7 +79,8 @@ own_after moment reaction own =
 
 -- what the instance goes by at this moment
 abbrev pub here_at : PrivateCluster → (moment i : ℕ) → Here
-here_at p moment i = record { instance = i; incarnation = p.roster.incarnation i; moment = moment }
+here_at p moment i =
+    record { instance = i; incarnation = p.roster.incarnation i; moment = moment; limits = p.limits }
 
 abbrev pub unchanged : PrivateCluster → Course
 unchanged p = record { cluster = p; said = []; fits = true }
@@ -129,3 +132,15 @@ told_all p (h ∷ hs) = told p h ++ told_all (after p h) hs
 abbrev pub fits_all : PrivateCluster → List Happening → Bool
 fits_all p [] = true
 fits_all p (h ∷ hs) = fits p h && fits_all (after p h) hs
+
+-- ---- the texts that the tenant has as patterns
+
+-- those that a happening brings
+abbrev pub patterns_brought : Happening → List (List ℕ)
+patterns_brought (Asked connection i moment request) = patterns_of_request request
+patterns_brought (Limited limits) = []
+patterns_brought (Ticked moment) = []
+
+-- those that all happenings bring
+abbrev pub patterns_in : List Happening → List (List ℕ)
+patterns_in happenings = flat_map patterns_brought happenings

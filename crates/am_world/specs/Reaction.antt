@@ -1,5 +1,5 @@
 -- what one tenant has at one instance, and what the instance does when something happens to the tenant
-use Rattle.std.specs.Prelude.{◌≡◌, ℕ, ◌+◌, Bool, true, false, List, [], ◌∷◌, length, map, Result, Ok, Err, if◌then◌else◌}
+use Rattle.std.specs.Prelude.{◌≡◌, ◌⊎◌, ℕ, ◌+◌, Bool, true, false, List, [], ◌∷◌, length, map, Result, Ok, Err, if◌then◌else◌}
 use Rattle.am_alert.specs.Made.{counts_fit}
 use Rattle.am_alert.specs.declared.maker.Maker.{Maker}
 use Rattle.am_http.specs.Codes.{code_of, status_of}
@@ -15,7 +15,11 @@ use Rattle.am_item.specs.declared.fault.Fault.TheVariants.{OutOfMemory, CountsEx
 use Rattle.am_tenant.specs.Names.{same}
 use Rattle.am_world.specs.declared.event.Output.{Output}
 use Rattle.am_world.specs.declared.event.Output.TheVariants.{Reply}
-use Rattle.am_world.specs.Decision.{Decision, decided}
+use Rattle.am_limit.specs.declared.limits.Limits.{Limits}
+use Rattle.am_current.specs.Current.{configuration_in}
+use Rattle.am_api.specs.Decision.{Decision, decided}
+use Rattle.am_api.specs.Deciding.{IsUnbuilt}
+use Rattle.am_api.specs.Patterns.{HasRefused, patterns_of_request, patterns_of_routes}
 
 -- what an instance keeps of a tenant beside its items: how many stamps it has counted; the next one is one more
 pub record Ledger : Type 0 where
@@ -33,11 +37,12 @@ no_ledger = record { stamps = 0 }
 abbrev pub blank : Local
 blank = record { held = []; ledger = no_ledger }
 
--- what an instance goes by beside what it has of the tenant: its number, its incarnation, and the moment
+-- what an instance goes by beside what it has of the tenant: its number, its incarnation, the moment, and the tenant's limits
 pub record Here : Type 0 where
   pub instance : ℕ
   pub incarnation : ℕ
   pub moment : ℕ
+  pub limits : Limits
 
 -- one thing that an instance says about a tenant: the reply of a connection
 pub data Said : Type 0 where
@@ -57,7 +62,7 @@ maker here ledger = record { instance = here.instance; incarnation = here.incarn
 
 -- the decision on a request of the tenant
 unfoldable pub decision_at : Here → Request → Local → Decision
-decision_at here request local = decided request local.held here.moment (maker here local.ledger)
+decision_at here request local = decided request local.held here.limits here.moment (maker here local.ledger)
 
 -- a request is decided at once: what it brings is accepted and counted, and the reply goes out
 abbrev pub carried_out : ℕ → Decision → Ledger → Reaction
@@ -71,6 +76,11 @@ carried_out connection decision ledger = record {
 -- the reaction to a request that came whole over the connection
 unfoldable pub asked : Here → ℕ → Request → Local → Reaction
 asked here connection request local = carried_out connection (decision_at here request local) local.ledger
+
+-- What may be decided on a request, where these texts were refused a build: the decision; or, for a pattern of the request
+-- among them, a refusal that stores nothing.
+abbrev pub MayDecide : List (List ℕ) → Request → Decision → Decision → Type 0
+MayDecide refused request decision d = (d ≡ decision) ⊎ (IsUnbuilt d × HasRefused refused (patterns_of_request request))
 
 -- what the instance has of the tenant after a reaction
 unfoldable pub local_after : Reaction → Local → Local
@@ -107,20 +117,28 @@ of_one tenant reaction locals = record {
   local = λ t. if same t tenant then local_after reaction (locals t) else locals t;
 }
 
--- by the verdict on all bytes of the connection
-abbrev pub brought : Fed → Here → ℕ → (List ℕ → Local) → Brought
-brought fed.Waits here connection locals = only_says [] locals
-brought (fed.Refused reason) here connection locals = only_says (Reply connection (refusal_reply reason) ∷ []) locals
-brought fed.Ready here connection locals = only_says (Reply connection ready_reply ∷ []) locals
-brought (fed.Request request) here connection locals =
-    of_one request.tenant (asked here connection request (locals request.tenant)) locals
+-- by the verdict on all bytes of the connection, and by what is decided on requests
+abbrev pub brought : Fed → (Request → Decision) → ℕ → (List ℕ → Local) → Brought
+brought fed.Waits decide connection locals = only_says [] locals
+brought (fed.Refused reason) decide connection locals = only_says (Reply connection (refusal_reply reason) ∷ []) locals
+brought fed.Ready decide connection locals = only_says (Reply connection ready_reply ∷ []) locals
+brought (fed.Request request) decide connection locals =
+    of_one request.tenant (carried_out connection (decide request) (locals request.tenant).ledger) locals
 
 -- ---- faults
 
--- what was returned, where these counts fit or not: counts that don't fit are never taken, and are the only cause but
--- memory that is refused
-abbrev pub Counted : {A : Type 0} → Result A Fault → Bool → Type 0
-Counted (Ok x) fit = fit ≡ true
-Counted (Err CountsExhausted) fit = fit ≡ false
-Counted (Err OutOfMemory) fit = Unit {0}
-Counted (Err PatternNotBuilt) fit = ⊥
+-- what stops an instance at a request: a count would pass the greatest, or a pattern of the routes in use was refused a
+-- build; memory may run out anywhere
+abbrev pub StopsFor : Fault → Request → Here → Local → List (List ℕ) → Type 0
+StopsFor OutOfMemory request here local refused = Unit {0}
+StopsFor CountsExhausted request here local refused = counts_fit (decision_at here request local).items ≡ false
+StopsFor PatternNotBuilt request here local refused =
+    HasRefused refused (patterns_of_routes (configuration_in local.held).routes)
+
+-- .. and at bytes, by their verdict
+abbrev pub IsCause : Fault → Fed → (Request → Here) → (List ℕ → Local) → List (List ℕ) → Type 0
+IsCause fault fed.Waits here locals refused = fault ≡ OutOfMemory
+IsCause fault (fed.Refused reason) here locals refused = fault ≡ OutOfMemory
+IsCause fault fed.Ready here locals refused = fault ≡ OutOfMemory
+IsCause fault (fed.Request request) here locals refused =
+    StopsFor fault request (here request) (locals request.tenant) refused

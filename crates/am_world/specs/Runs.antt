@@ -4,9 +4,10 @@ use Rattle.am_world.specs.declared.event.Event.{Event}
 use Rattle.am_world.specs.declared.event.Output.{Output}
 use Rattle.am_world.specs.declared.world.World.{World}
 use Rattle.am_world.specs.Outputs.{outputs_of, front_outputs, front_told_all, are_owned}
-use Rattle.am_world.specs.PrivateCluster.{PrivateCluster, opened, after_all, told_all, fits_all}
+use Rattle.am_world.specs.Places.{AreBuilt}
+use Rattle.am_world.specs.PrivateCluster.{PrivateCluster, opened, after_all, told_all, fits_all, patterns_in}
 use Rattle.am_world.specs.Setup.{Origin}
-use Rattle.am_world.specs.Simulation.{put_out, fault_count, Follows, Stands, Opens, Faulted, Step}
+use Rattle.am_world.specs.Simulation.{put_out, fault_count, refused_by, Follows, Stands, Opens, Faulted, Step}
 use Rattle.am_world.specs.View.{Watch, first_watch, watch_all, view, names_once}
 
 -- one step for each event
@@ -22,11 +23,14 @@ RunsFrom origin es w' = (w : World) × Opens origin w × Run w es w'
 abbrev pub added : World → World → List Output
 added w w' = drop (length (put_out w)) (put_out w')
 
--- what a run needs, of a tenant: what is known is so, the cluster has what the world has, and no name is used twice
-pub record RunPremises (t : List ℕ) (v : Watch) (p : PrivateCluster) (w : World) (es : List Event) : Type 0 where
+-- what a run needs, of a tenant: what is known is so, the cluster has what the world has, no name is used twice, and no
+-- pattern that the tenant brings was refused a build by its end
+pub record RunPremises (t : List ℕ) (v : Watch) (p : PrivateCluster) (w : World) (es : List Event) (w' : World) :
+    Type 0 where
   pub follows : Follows v w
   pub stands : Stands t w p
   pub once : names_once v es
+  pub brought : AreBuilt (refused_by w') (patterns_in (view t v es))
 
 -- what the tenant has of a run: of the outputs that were added its own are the private cluster's, the others are other
 -- tenants' or the front's, no count of the tenant's passed the greatest, and a further run can go on from here
@@ -43,7 +47,7 @@ pub record Isolated (t : List ℕ) (v : Watch) (p : PrivateCluster) (w : World) 
 -- whatever the other tenants do, each tenant is as if alone
 abbrev pub Headline : World → List Event → World → Type 0
 Headline w es w' = fault_count w' ≡ 0 → (t : List ℕ) (v : Watch) (p : PrivateCluster) →
-    RunPremises t v p w es → Isolated t v p w es w'
+    RunPremises t v p w es w' → Isolated t v p w es w'
 
 -- a run that met a fault: what was put out before its first is each tenant's as if alone, and stays
 pub record Broken (w : World) (es : List Event) (w' : World) : Type 0 where
@@ -76,9 +80,11 @@ pub record Forgets (w w' : World) : Type 0 where
   pub faults : fault_count w' ≡ fault_count w
 
 -- of all that was put out since the opening, each tenant's outputs are those of its private cluster, which sees what the
--- events are to the tenant; the others are the front's, and what it says to bytes alone
-pub record Alone (origin : Origin) (es : List Event) (outs : List Output) : Type 0 where
-  pub tenants : (t : List ℕ) → outputs_of t (watch_all (first_watch origin) es) outs ≡
+-- events are to the tenant, unless a pattern of the tenant's is among those that were refused a build; the others are the
+-- front's, and what it says to bytes alone
+pub record Alone (origin : Origin) (es : List Event) (refused : ℕ → List (List ℕ)) (outs : List Output) : Type 0 where
+  pub tenants : (t : List ℕ) → AreBuilt refused (patterns_in (view t (first_watch origin) es)) →
+      outputs_of t (watch_all (first_watch origin) es) outs ≡
       told_all (opened origin t) (view t (first_watch origin) es)
   pub front : front_outputs (watch_all (first_watch origin) es) outs ≡ front_told_all (first_watch origin) es
   pub owned : are_owned (watch_all (first_watch origin) es) outs ≡ true

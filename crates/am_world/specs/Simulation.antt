@@ -9,8 +9,8 @@ use Rattle.am_limit.specs.declared.limits.Limits.{Limits}
 use Rattle.am_tenant.specs.Names.{same}
 use Rattle.am_world.specs.Moments.{clock_after}
 use Rattle.am_world.specs.Outputs.{outputs_of, front_outputs, front_told, are_owned}
-use Rattle.am_world.specs.Places.{numbers, instance_at, local_at, bytes_at, cause_at, up_at, incarnation_at, roster_of, IsDownAt}
-use Rattle.am_world.specs.PrivateCluster.{PrivateCluster, local_of, opened, after_all, told_all, fits_all}
+use Rattle.am_world.specs.Places.{numbers, instance_at, local_at, bytes_at, cause_at, up_at, incarnation_at, refused_at, roster_of, AreBuilt, IsDownAt, KeepRefused}
+use Rattle.am_world.specs.PrivateCluster.{PrivateCluster, local_of, opened, after_all, told_all, fits_all, patterns_in}
 use Rattle.am_world.specs.Refusal.{refusal}
 use Rattle.am_world.specs.Roster.{IsSameRoster, roster_after}
 use Rattle.am_world.specs.Setup.{Origin}
@@ -22,6 +22,10 @@ put_out w = w.outputs.items
 
 abbrev pub fault_count : World → ℕ
 fault_count w = w.faults
+
+-- the patterns that the instances of a world were refused the build of
+abbrev pub refused_by : World → ℕ → List (List ℕ)
+refused_by w i = refused_at i w.instances
 
 -- ---- the world and what it stands for
 
@@ -52,15 +56,17 @@ pub record Opens (origin : Origin) (w : World) : Type 0 where
   pub stands : (t : List ℕ) → Stands t w (opened origin t)
   pub outputs : put_out w ≡ []
   pub faults : fault_count w ≡ 0
+  pub refused : (i : ℕ) → refused_by w i ≡ []
 
 -- ---- one event
 
--- what an event needs, of a tenant: what is known is so, the cluster has what the world has, and a name that is opened is
--- new
-pub record Premises (t : List ℕ) (v : Watch) (p : PrivateCluster) (w : World) (e : Event) : Type 0 where
+-- what an event needs, of a tenant: what is known is so, the cluster has what the world has, a name that is opened is
+-- new, and no pattern that the tenant brings was refused a build
+pub record Premises (t : List ℕ) (v : Watch) (p : PrivateCluster) (w : World) (e : Event) (w' : World) : Type 0 where
   pub follows : Follows v w
   pub stands : Stands t w p
   pub fresh : opens_new v e
+  pub brought : AreBuilt (refused_by w') (patterns_in (adds t v e))
 
 -- what was decided of connections stays so
 pub record Later (v u : Watch) : Type 0 where
@@ -89,12 +95,13 @@ pub record Kept (w : World) (e : Event) (w' : World) : Type 0 where
   pub follows : (v : Watch) → Follows v w → Follows (watch v e) w'
   pub outs : List Output
   pub appended : put_out w' ≡ put_out w ++ outs
-  pub tenants : (t : List ℕ) (v : Watch) (p : PrivateCluster) → Premises t v p w e → IsAsAlone t v p e outs w'
+  pub tenants : (t : List ℕ) (v : Watch) (p : PrivateCluster) → Premises t v p w e w' → IsAsAlone t v p e outs w'
   pub front : (v : Watch) → Follows v w → (u : Watch) → Later (watch v e) u → front_outputs u outs ≡ front_told v e
   pub owned : (v : Watch) → Follows v w → (u : Watch) → Later (watch v e) u → are_owned u outs ≡ true
   pub roster : IsSameRoster (roster_of w'.instances) (roster_after e (roster_of w.instances))
   pub clock : w'.clock ≡ clock_after e w.clock
   pub limits : (t : List ℕ) → limits_of t w'.limits ≡ limits_after e t (limits_of t w.limits)
+  pub refused : KeepRefused w.instances w'.instances
   pub faults : fault_count w' ≡ fault_count w
 
 -- the instances of which an event asks work
@@ -125,6 +132,7 @@ pub record Faulted (w : World) (e : Event) (w' : World) : Type 0 where
   pub appended : put_out w' ≡ put_out w ++ outs
   pub silent : ((i : ℕ) → works w e i ≡ true → stopped i ≡ true) → outs ≡ []
   pub limits : (t : List ℕ) → limits_of t w'.limits ≡ limits_of t w.limits
+  pub refused : KeepRefused w.instances w'.instances
   pub counted : fault_count w' ≡ min (fault_count w + faults_of stopped) (2 ^ 64 - 1)
   pub clock : w'.clock ≡ clock_after e w.clock
 

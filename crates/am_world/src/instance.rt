@@ -1,24 +1,30 @@
 //! One instance: what it reads, holds and counts, of all tenants.
 
-ghost use Rattle.std.specs.Prelude.{◌≡◌, ◌==◌, ◌+◌, ◌<◌, length, ◌++◌, ◌≤◌, ℕ, List, [], ◌∷◌, Option, None, Some, IfOk, OnOk, OnErr, IsSome, is_some, if◌then◌else◌, false};
+ghost use Rattle.std.specs.Prelude.{◌≡◌, ◌==◌, ◌+◌, ◌<◌, length, ◌++◌, ◌≤◌, ℕ, List, [], ◌∷◌, Option, None, Some, true, IfOk, IfErr, OnOk, OnErr, IsSome, is_some, if◌then◌else◌, false};
 ghost use Rattle.am_http.specs.Connections.{bytes_of, left_open};
 ghost use Rattle.am_http.specs.Verdict.{verdict};
+ghost use Rattle.am_http.specs.declared.request.Fed.{Fed};
 ghost use Rattle.am_tenant.specs.Names.{same};
 ghost use Rattle.am_item.specs.Best.{all_joined};
+ghost use Rattle.am_limit.specs.Books.{limits_of};
 ghost use Rattle.am_world.specs.Reaction.{refusal_reply};
 
-use crate::decision::{Decided, decide};
 use crate::event::Output;
 use am_alert::Maker;
+use am_api::{Decided, decide};
+use am_current::Holdings;
 use am_http::{
     ConnectionId, Fed, Front, FrontRefusal, Request, ready_reply, refusal_body, reply_bytes,
 };
-use am_item::{Book, Counts, Fault, Item};
+use am_item::{Counts, Fault, Item};
+use am_limit::{LimitBook, Limits};
+use am_pattern::PatternCache;
 use am_tenant::TenantName;
 use am_text::{Moment, Octets};
 use std::alloc::{AllocError, Global};
 
-/// An instance. One that is down reads nothing and has nothing; where a fault stopped it, `cause` is that.
+/// An instance. One that is down reads nothing and has nothing but its patterns; where a fault stopped it, `cause` is
+/// that.
 #[derive(Drop)]
 pub struct Instance {
     pub(crate) number: u8,
@@ -26,30 +32,36 @@ pub struct Instance {
     pub(crate) cause: Option<Fault>,
     pub(crate) incarnation: u32,
     pub(crate) front: Front,
-    pub(crate) book: Book,
+    pub(crate) holdings: Holdings,
     pub(crate) counts: Counts,
+    pub(crate) cache: PatternCache,
 }
 
 impl Instance {
     ghost use Rattle.am_alert.specs.Made.{counts_fit, greatest_count};
     ghost use Rattle.am_item.specs.Counts.{count_of};
-    ghost use Rattle.am_world.specs.Decision.{decision_of};
-    ghost use Rattle.am_world.specs.Places.{local_in, here_of};
-    ghost use Rattle.am_world.specs.Reaction.{Local, Brought, Counted, blank, decision_at, asked, brought, local_after};
-    ghost use Rattle.am_world.specs.Reaction.{outputs_said, Reaction};
+    ghost use Rattle.am_api.specs.Deciding.{decision_of};
+    ghost use Rattle.am_world.specs.Places.{HasMore, here_of, local_in};
+    ghost use Rattle.am_world.specs.Reaction.{IsCause, MayDecide, StopsFor, blank, decision_at};
+    ghost use Rattle.am_world.specs.Taking.{Brings};
 
-    /// The instance of a number, in this incarnation, up or down. It has nothing.
+    /// The instance of a number, in this incarnation, up or down. It has nothing, and keeps at most `capacity` patterns
+    /// built, by hashes of which `hash_key` is the secret.
     pub fn new(
         alloc: Global,
         number: u8,
         up: bool,
         incarnation: u32,
+        capacity: usize,
+        hash_key: [u8; 16],
     ) -> Result<Instance, AllocError>
+        requires { 0 < capacity }
         ensures number { IfOk result (λ x. x.number ≡ number) }
         ensures up { IfOk result (λ x. x.up ≡ up) }
         ensures incarnation { IfOk result (λ x. x.incarnation ≡ incarnation) }
         ensures unread { IfOk result (λ x. (c : ℕ) → bytes_of c x.front ≡ None) }
         ensures local { IfOk result (λ x. (t : List ℕ) → local_in t x ≡ blank) }
+        ensures refused { IfOk result (λ x. x.cache.refused ≡ []) }
     {
         Ok(Instance {
             number,
@@ -57,12 +69,14 @@ impl Instance {
             cause: None,
             incarnation,
             front: Front::new(alloc)?,
-            book: Book::new(alloc),
+            holdings: Holdings::new(alloc)?,
             counts: Counts::new(alloc),
+            cache: PatternCache::new(alloc, capacity, hash_key)?,
         })
     }
 
-    /// Stops the instance for a fault, as a crash does: it is down, and all that it had is lost. It takes no memory.
+    /// Stops the instance for a fault, as a crash does: it is down, and all that it had is lost but its patterns. It takes
+    /// no memory.
     #[tactic(auto, unfolding(crate::specs::Places::local_in, am_item::specs::Book::items_of, am_item::specs::Counts::count_of))]
     pub fn stop(&mut self, alloc: Global, fault: Fault)
         ensures cause { self.new.cause ≡ Some fault }
@@ -71,11 +85,12 @@ impl Instance {
         ensures local { (t : List ℕ) → local_in t self.new ≡ blank }
         ensures incarnation { self.new.incarnation ≡ self.old.incarnation }
         ensures number { self.new.number ≡ self.old.number }
+        ensures refused { self.new.cache.refused ≡ self.old.cache.refused }
     {
         self.up = false;
         self.cause = Some(fault);
         self.front.close_all();
-        self.book = Book::new(alloc);
+        self.holdings.clear(alloc);
         self.counts = Counts::new(alloc);
     }
 
@@ -93,6 +108,7 @@ impl Instance {
         ensures up { self.new.up ≡ self.old.up }
         ensures incarnation { self.new.incarnation ≡ self.old.incarnation }
         ensures number { self.new.number ≡ self.old.number }
+        ensures refused { self.new.cache.refused ≡ self.old.cache.refused }
     {
         self.front.close(connection);
     }
@@ -105,31 +121,32 @@ impl Instance {
         ensures up { self.new.up ≡ self.old.up }
         ensures incarnation { self.new.incarnation ≡ self.old.incarnation }
         ensures number { self.new.number ≡ self.old.number }
+        ensures refused { self.new.cache.refused ≡ self.old.cache.refused }
     {
         self.front.open(alloc, connection)?;
         Ok(())
     }
 
-    /// Takes a piece of a connection that the instance reads, and puts out what it brings: nothing, the front's answer,
-    /// or what the tenant is told. An error puts nothing out.
+    /// Takes a piece of a connection that the instance reads, at a moment and where tenants have these limits, and puts out
+    /// what it brings: nothing, the front's answer, or what the tenant is told. An error puts nothing out.
     pub fn feed(
         &mut self,
         alloc: Global,
         connection: ConnectionId,
         piece: &[u8],
         moment: Moment,
+        limits: &LimitBook,
         outputs: &mut Vec<Output>,
     ) -> Result<(), Fault>
         requires { IsSome (bytes_of connection self.old.front) }
-        ensures outputs { OnOk result ((before : List ℕ) → bytes_of connection self.old.front ≡ Some before →
-            outputs.new.items ≡ outputs.old.items ++
-            (brought (verdict (before ++ piece.now)) (here_of self.old moment) connection (λ t. local_in t self.old)).outputs) }
+        ensures brings { OnOk result ((before : List ℕ) → bytes_of connection self.old.front ≡ Some before →
+            Brings (verdict (before ++ piece.now)) connection moment (λ t. limits_of t limits.now) self.old self.new
+            outputs.old.items outputs.new.items) }
         ensures silent { OnErr result (outputs.new.items ≡ outputs.old.items) }
-        ensures counts { (before : List ℕ) → bytes_of connection self.old.front ≡ Some before → Counted result
-            (brought (verdict (before ++ piece.now)) (here_of self.old moment) connection (λ t. local_in t self.old)).fits }
-        ensures local { OnOk result ((before : List ℕ) → bytes_of connection self.old.front ≡ Some before →
-            (t : List ℕ) → local_in t self.new ≡
-            (brought (verdict (before ++ piece.now)) (here_of self.old moment) connection (λ s. local_in s self.old)).local t) }
+        ensures cause { IfErr result (λ fault. (before : List ℕ) → bytes_of connection self.old.front ≡ Some before →
+            IsCause fault (verdict (before ++ piece.now))
+            (λ request. here_of self.old moment (limits_of request.tenant limits.now)) (λ t. local_in t self.old)
+            self.new.cache.refused) }
         ensures front { OnOk result ((before : List ℕ) → bytes_of connection self.old.front ≡ Some before →
             (c : ℕ) → bytes_of c self.new.front ≡
             (if c == connection then left_open (verdict (before ++ piece.now)) (before ++ piece.now)
@@ -137,6 +154,7 @@ impl Instance {
         ensures up { self.new.up ≡ self.old.up }
         ensures incarnation { self.new.incarnation ≡ self.old.incarnation }
         ensures number { self.new.number ≡ self.old.number }
+        ensures refused { HasMore self.old.cache.refused self.new.cache.refused }
     {
         match self.front.feed(alloc, connection, piece)? {
             Fed::Waits => Ok(()),
@@ -150,7 +168,10 @@ impl Instance {
                 outputs.push(Output::Reply { connection, bytes })?;
                 Ok(())
             }
-            Fed::Request(request) => { self.answer(alloc, connection, &request, moment, outputs) }
+            Fed::Request(request) => {
+                let limits = limits.of(&request.tenant);
+                self.answer(alloc, connection, &request, limits, moment, outputs)
+            }
         }
     }
 
@@ -160,24 +181,23 @@ impl Instance {
         alloc: Global,
         connection: ConnectionId,
         request: &Request,
+        limits: Limits,
         moment: Moment,
         outputs: &mut Vec<Output>,
     ) -> Result<(), Fault>
-        ensures outputs { OnOk result (outputs.new.items ≡ outputs.old.items ++ outputs_said request.now.tenant
-            (asked (here_of self.old moment) connection request.now (local_in request.now.tenant self.old))) }
+        ensures brings { OnOk result ((book : List ℕ → Limits) → book request.now.tenant ≡ limits →
+            Brings (Fed.Request request.now) connection moment book self.old self.new
+            outputs.old.items outputs.new.items) }
         ensures silent { OnErr result (outputs.new.items ≡ outputs.old.items) }
-        ensures counts { Counted result
-            (asked (here_of self.old moment) connection request.now (local_in request.now.tenant self.old)).fits }
-        ensures local { OnOk result ((t : List ℕ) → local_in t self.new ≡
-            (if same t request.now.tenant then local_after
-            (asked (here_of self.old moment) connection request.now (local_in request.now.tenant self.old)) (local_in t self.old)
-            else local_in t self.old)) }
+        ensures cause { IfErr result (λ fault. StopsFor fault request.now (here_of self.old moment limits)
+            (local_in request.now.tenant self.old) self.new.cache.refused) }
         ensures front { self.new.front ≡ self.old.front }
         ensures up { self.new.up ≡ self.old.up }
         ensures incarnation { self.new.incarnation ≡ self.old.incarnation }
         ensures number { self.new.number ≡ self.old.number }
+        ensures refused { HasMore self.old.cache.refused self.new.cache.refused }
     {
-        let decided = self.decide(alloc, request, moment)?;
+        let decided = self.decide(alloc, request, limits, moment)?;
         let bytes = reply_bytes(alloc, decided.status, decided.body.as_slice())?;
         self.keep(alloc, &request.tenant, decided.items)?;
         outputs.push(Output::Reply { connection, bytes })?;
@@ -185,25 +205,36 @@ impl Instance {
     }
 
     /// The decision on a request of a tenant, by what is held of the tenant.
-    fn decide(&self, alloc: Global, request: &Request, moment: Moment) -> Result<Decided, Fault>
-        ensures decision { IfOk result (λ d. decision_of d ≡
-            decision_at (here_of self.now moment) request.now (local_in request.now.tenant self.now)) }
-        ensures counts { Counted result
-            (counts_fit (decision_at (here_of self.now moment) request.now (local_in request.now.tenant self.now)).items) }
+    fn decide(
+        &mut self,
+        alloc: Global,
+        request: &Request,
+        limits: Limits,
+        moment: Moment,
+    ) -> Result<Decided, Fault>
+        ensures decision { IfOk result (λ d. MayDecide self.new.cache.refused request.now
+            (decision_at (here_of self.old moment limits) request.now (local_in request.now.tenant self.old)) (decision_of d)) }
+        ensures fits { IfOk result (λ d. counts_fit d.items.items ≡ true) }
+        ensures room { IfOk result (λ d. 0 < length d.items.items →
+            count_of request.now.tenant self.old.counts + length d.items.items ≤ greatest_count) }
+        ensures cause { IfErr result (λ fault. StopsFor fault request.now (here_of self.old moment limits)
+            (local_in request.now.tenant self.old) self.new.cache.refused) }
+        ensures local { (t : List ℕ) → local_in t self.new ≡ local_in t self.old }
+        ensures counts { self.new.counts ≡ self.old.counts }
+        ensures front { self.new.front ≡ self.old.front }
+        ensures up { self.new.up ≡ self.old.up }
+        ensures incarnation { self.new.incarnation ≡ self.old.incarnation }
+        ensures number { self.new.number ≡ self.old.number }
+        ensures refused { HasMore self.old.cache.refused self.new.cache.refused }
     {
         let maker = Maker {
             instance: self.number,
             incarnation: self.incarnation,
             used: self.counts.used(&request.tenant),
         };
-        let decided = decide(
-            alloc,
-            request,
-            self.book.held(&request.tenant),
-            moment,
-            maker,
-        )?;
-        Ok(decided)
+        let (held, config) = self.holdings.in_use(alloc, &request.tenant)?;
+        let cache = &mut self.cache;
+        decide(alloc, request, held, config, limits, moment, maker, cache)
     }
 
     /// Keeps the items of a tenant, and counts their stamps. No count may pass the greatest.
@@ -224,10 +255,11 @@ impl Instance {
         ensures up { self.new.up ≡ self.old.up }
         ensures incarnation { self.new.incarnation ≡ self.old.incarnation }
         ensures number { self.new.number ≡ self.old.number }
+        ensures refused { self.new.cache.refused ≡ self.old.cache.refused }
     {
         let used = self.counts.used(tenant);
         let count = used + items.len() as u64;
-        self.book.put_all(alloc, tenant, items)?;
+        self.holdings.put_all(alloc, tenant, items)?;
         self.counts.set(alloc, tenant, count)?;
         Ok(())
     }

@@ -1,15 +1,16 @@
 //! The eight instances, by number.
 
-ghost use Rattle.std.specs.Prelude.{◌≡◌, ◌==◌, ◌+◌, ℕ, List, [], ◌++◌, Option, None, Some, IfOk, OnOk, OnErr, IfSome, IfNone, IsSome, IsTrue, find, is_some, option_copied, if◌then◌else◌};
-ghost use Rattle.am_world.specs.Reaction.{Brought, Counted};
+ghost use Rattle.std.specs.Prelude.{◌≡◌, ◌==◌, ◌+◌, ◌<◌, ℕ, List, [], ◌++◌, Option, None, Some, IfOk, OnOk, OnErr, IfSome, IfNone, IsSome, IsTrue, find, is_some, option_copied, if◌then◌else◌};
+ghost use Rattle.am_limit.specs.Books.{limits_of};
 ghost use Rattle.am_world.specs.Roster.{IsSameRoster, opened_roster};
 ghost use Rattle.am_world.specs.Setup.{Origin, is_instance};
-ghost use Rattle.am_world.specs.Taking.{Takes, taken_at};
+ghost use Rattle.am_world.specs.Taking.{Takes};
 
 use crate::event::Output;
 use crate::instance::Instance;
 use am_http::ConnectionId;
 use am_item::Fault;
+use am_limit::LimitBook;
 use am_text::Moment;
 use std::alloc::{AllocError, Global};
 use std::marker::Model;
@@ -39,19 +40,28 @@ impl Model for Instances {
 }
 
 impl Instances {
-    ghost use Rattle.am_world.specs.Places.{IsDownAt, IsReadOnce, SameElsewhere, bytes_at, cause_at, incarnation_at, instance_at, local_at, reader_of, reads, roster_of, up_at};
+    ghost use Rattle.am_world.specs.Places.{IsDownAt, IsReadOnce, KeepRefused, SameElsewhere, bytes_at, cause_at, incarnation_at, instance_at, local_at, reader_of, reads, refused_at, roster_of, up_at};
     ghost use Rattle.am_world.specs.Reaction.{blank};
 
-    /// All instances in their first incarnation. None reads or has anything, and those that serve are up.
-    pub fn open(alloc: Global, first: u32) -> Result<Instances, AllocError>
+    /// All instances in their first incarnation. None reads or has anything, and those that serve are up. Each keeps at
+    /// most `capacity` patterns built, by hashes of which `hash_key` is the secret.
+    pub fn open(
+        alloc: Global,
+        first: u32,
+        capacity: usize,
+        hash_key: [u8; 16],
+    ) -> Result<Instances, AllocError>
+        requires { 0 < capacity }
         ensures roster { IfOk result (λ instances. (origin : Origin) → origin.first ≡ first →
             IsSameRoster (roster_of instances) (opened_roster origin)) }
         ensures unread { IfOk result (λ instances. (c i : ℕ) → bytes_at c i instances ≡ None) }
         ensures local { IfOk result (λ instances. (t : List ℕ) (i : ℕ) → local_at t i instances ≡ blank) }
+        ensures refused { IfOk result (λ instances. (i : ℕ) → refused_at i instances ≡ []) }
     {
         let mut list = Vec::with_capacity(alloc, NUMBERS.len())?;
         for number in NUMBERS {
-            list.push(Instance::new(alloc, number, number == SERVING, first)?)?;
+            let serves = number == SERVING;
+            list.push(Instance::new(alloc, number, serves, first, capacity, hash_key)?)?;
         }
         Ok(Instances { list })
     }
@@ -125,6 +135,7 @@ impl Instances {
         ensures local { OnOk result ((t : List ℕ) (i : ℕ) → local_at t i self.new ≡ local_at t i self.old) }
         ensures others { OnErr result (SameElsewhere number self.old self.new) }
         ensures roster { IsSameRoster (roster_of self.new) (roster_of self.old) }
+        ensures refused { (i : ℕ) → refused_at i self.new ≡ refused_at i self.old }
     {
         let reader = self.reader_of(connection);
         self.open_at(alloc, number, connection)?;
@@ -148,6 +159,7 @@ impl Instances {
         ensures local { OnOk result ((t : List ℕ) (i : ℕ) → local_at t i self.new ≡ local_at t i self.old) }
         ensures others { SameElsewhere number self.old self.new }
         ensures roster { IsSameRoster (roster_of self.new) (roster_of self.old) }
+        ensures refused { (i : ℕ) → refused_at i self.new ≡ refused_at i self.old }
     {
         self.list[place(number)].open(alloc, connection)
     }
@@ -159,11 +171,12 @@ impl Instances {
             (if i == number then (if c == connection then None else bytes_at c i self.old) else bytes_at c i self.old) }
         ensures local { (t : List ℕ) (i : ℕ) → local_at t i self.new ≡ local_at t i self.old }
         ensures roster { IsSameRoster (roster_of self.new) (roster_of self.old) }
+        ensures refused { (i : ℕ) → refused_at i self.new ≡ refused_at i self.old }
     {
         self.list[place(number)].close(connection);
     }
 
-    /// Gives a piece to the instance that reads its connection.
+    /// Gives a piece to the instance that reads its connection, where tenants have these limits.
     pub fn feed(
         &mut self,
         alloc: Global,
@@ -171,20 +184,19 @@ impl Instances {
         connection: ConnectionId,
         piece: &[u8],
         moment: Moment,
+        limits: &LimitBook,
         outputs: &mut Vec<Output>,
     ) -> Result<(), Fault>
         requires { IsSome (bytes_at connection number self.old) }
-        ensures outputs { OnOk result ((before : List ℕ) → bytes_at connection number self.old ≡ Some before →
-            outputs.new.items ≡ outputs.old.items ++ (taken_at number connection (before ++ piece.now) moment self.old).outputs) }
-        ensures silent { OnErr result (outputs.new.items ≡ outputs.old.items) }
-        ensures counts { (before : List ℕ) → bytes_at connection number self.old ≡ Some before →
-            Counted result (taken_at number connection (before ++ piece.now) moment self.old).fits }
         ensures takes { OnOk result ((before : List ℕ) → bytes_at connection number self.old ≡ Some before →
-            Takes number connection (before ++ piece.now) moment self.old self.new) }
+            Takes number connection (before ++ piece.now) moment (λ t. limits_of t limits.now) self.old self.new
+            outputs.old.items outputs.new.items) }
+        ensures silent { OnErr result (outputs.new.items ≡ outputs.old.items) }
         ensures others { SameElsewhere number self.old self.new }
         ensures incarnation { incarnation_at number self.new ≡ incarnation_at number self.old }
+        ensures refused { KeepRefused self.old self.new }
     {
-        self.list[place(number)].feed(alloc, connection, piece, moment, outputs)
+        self.list[place(number)].feed(alloc, connection, piece, moment, limits, outputs)
     }
 
     /// Stops an instance for a fault, as a crash does: it is down, and all that it had is lost.
@@ -194,6 +206,7 @@ impl Instances {
         ensures cause { cause_at number self.new ≡ Some fault }
         ensures others { SameElsewhere number self.old self.new }
         ensures incarnation { incarnation_at number self.new ≡ incarnation_at number self.old }
+        ensures refused { (i : ℕ) → refused_at i self.new ≡ refused_at i self.old }
     {
         self.list[place(number)].stop(alloc, fault);
     }

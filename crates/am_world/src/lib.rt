@@ -1,8 +1,6 @@
-//! Events, the instances, the decision, and the theorem: every tenant as if alone.
+//! Events, the instances, and the theorem: every tenant as if alone.
 #![tactic(auto)]
 
-mod alert_json;
-mod decision;
 pub mod event;
 mod instance;
 mod instances;

@@ -1,6 +1,6 @@
 //! What a world is opened with.
 
-ghost use Rattle.std.specs.Prelude.{◌≡◌, ◌↔◌, IsTrue, IsSome, IfSome};
+ghost use Rattle.std.specs.Prelude.{◌≡◌, ◌↔◌, ◌<◌, IsTrue, IsSome, IfSome};
 ghost use Rattle.std.specs.List.{list_all};
 ghost use Rattle.am_world.specs.Setup.{all_differ, is_instance, is_ring, is_setup};
 
@@ -16,6 +16,7 @@ pub struct Setup {
 }
 
 impl Model for Setup {
+    ghost use Rattle.std.specs.Prelude.{◌≡◌, ◌<◌, length};
     ghost use Rattle.am_world.specs.Setup.{Settings, ring_in};
 
     ghost Value = { Settings };
@@ -24,12 +25,14 @@ impl Model for Setup {
       origin = record { service_key = s.key; ring = ring_in s.ring; first = s.start };
       cache = s.cache;
     } };
+
+    ghost invariant = { λ s. (0 < s.cache) × (length s.key ≡ 32) };
 }
 
 impl Setup {
     /// Settings out of the service key, the ring's instances (3 to 8 different numbers of 1 to 8), the
     /// capacity of an instance's cache of patterns (1 to 65,536) and the first incarnation (not 0). None where
-    /// one of them is out of its range. Key, ring and capacity aren't used yet.
+    /// one of them is out of its range. The ring isn't used yet.
     pub fn new(key: [u8; 32], ring: &[u8], cache: u32, start: u32) -> Option<Setup>
         ensures valid { IsSome result ↔ IsTrue (is_setup ring.now cache start) }
         ensures settings { IfSome result (λ setup. setup ≡ record {
@@ -55,6 +58,20 @@ impl Setup {
         ensures { result ≡ self.now.origin.first }
     {
         self.start
+    }
+
+    /// How many patterns an instance keeps built at most.
+    pub fn capacity(&self) -> usize
+        ensures { 0 < result }
+    {
+        self.cache as usize
+    }
+
+    /// The secret of the hashes by which an instance keeps patterns: the first half of the service key.
+    pub fn hash_key(&self) -> [u8; 16] {
+        let mut hash_key = [0; 16];
+        hash_key.copy_from_slice(&self.key[..16]);
+        hash_key
     }
 }
 

@@ -1,6 +1,6 @@
 //! The world: one way in, one way out.
 
-ghost use Rattle.std.specs.Prelude.{◌≡◌, ◌+◌, ◌-◌, ◌^◌, ◌≤◌, Some, min, IfOk, OnErr, IsOk, IsTrue, MatchOption};
+ghost use Rattle.std.specs.Prelude.{◌≡◌, ◌+◌, ◌-◌, ◌^◌, ◌≤◌, ℕ, Some, min, IfOk, OnErr, IsOk, IsTrue, MatchOption};
 
 use crate::event::{Event, LAST_MOMENT, Output, Refused};
 use crate::instances::Instances;
@@ -24,7 +24,7 @@ pub struct World {
 
 impl World {
     ghost use Rattle.am_world.specs.Moments.{last_moment, effective};
-    ghost use Rattle.am_world.specs.Places.{IsDownAt, SameElsewhere, cause_at, incarnation_at};
+    ghost use Rattle.am_world.specs.Places.{IsDownAt, SameElsewhere, cause_at, incarnation_at, refused_at};
     ghost use Rattle.am_world.specs.Refusal.{refusal};
     ghost use Rattle.am_world.specs.Runs.{Run, Headline, Prefixes, Forgets};
     ghost use Rattle.am_world.specs.Setup.{is_instance};
@@ -34,7 +34,8 @@ impl World {
     pub fn open(alloc: Global, setup: Setup) -> Result<World, AllocError>
         ensures { IfOk result (Opens setup.origin) }
     {
-        let instances = Instances::open(alloc, setup.start())?;
+        let first = setup.start();
+        let instances = Instances::open(alloc, first, setup.capacity(), setup.hash_key())?;
         Ok(World {
             clock: Moment::from_milliseconds(0).unwrap(),
             instances,
@@ -151,11 +152,16 @@ impl World {
             return Err(Refused::NotReading);
         };
         let at = self.effective(moment);
-        let outputs = &mut self.outputs;
-        match self
-            .instances
-            .feed(alloc, reader, connection, piece.as_slice(), at, outputs)
-        {
+        let (limits, outputs) = (&self.limits, &mut self.outputs);
+        match self.instances.feed(
+            alloc,
+            reader,
+            connection,
+            piece.as_slice(),
+            at,
+            limits,
+            outputs,
+        ) {
             Ok(()) => Ok(()),
             Err(fault) => {
                 self.stop(alloc, reader, fault);
@@ -220,6 +226,7 @@ impl World {
         ensures outputs { self.new.outputs.items ≡ self.old.outputs.items }
         ensures clock { self.new.clock ≡ self.old.clock }
         ensures limits { self.new.limits ≡ self.old.limits }
+        ensures refused { (i : ℕ) → refused_at i self.new.instances ≡ refused_at i self.old.instances }
     {
         self.instances.stop(alloc, instance, fault);
         self.count_fault();

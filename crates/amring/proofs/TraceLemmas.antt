@@ -2,17 +2,18 @@
 use Rattle.std.proofs.Common.{◌≡◌, ◌∙◌, ℕ, ◌+◌, Bool, true, false, is_none, List, [], ◌∷◌, ◌++◌, MatchOption, Option, None, Some, refl, sym, ap}
 use Rattle.am_world.specs.declared.event.Event.TheVariants as event
 use Rattle.am_world.specs.declared.event.Event.{Event}
+use Rattle.am_world.specs.declared.event.Output.{Output}
 use Rattle.am_world.specs.declared.world.World.{World}
 use Rattle.am_world.specs.Refusal.{refusal}
 use Rattle.am_world.specs.Runs.{Alone, Forgets}
 use Rattle.am_world.specs.Setup.{Origin}
-use Rattle.am_world.specs.Simulation.{Step, fault_count, put_out}
+use Rattle.am_world.specs.Simulation.{Step, fault_count, put_out, refused_by}
 use Rattle.am_world.specs.View.{first_watch, names_once}
 use Rattle.am_world.proofs.Steps.{Steps, alone}
 use Rattle.amring.specs.Line.{command_of}
 use Rattle.amring.specs.Playing.{Happens, Either, Come, Gives, Calls, Obeys, Plays, IsStart, goes_on}
 use Rattle.amring.specs.Scenario.{Course, AloneUntilFault}
-use Rattle.amring.specs.Trace.{Happened, events, outputs, no_fault}
+use Rattle.amring.specs.Trace.{Happened, events, outputs, no_fault, unbuilt, unbuilt_after}
 use Rattle.amring.specs.declared.command.Command.{Command}
 use Rattle.amring.specs.declared.command.Command.TheVariants.{Skip, At, Tick, Open, Bytes, Call, Limits, Pump}
 use Rattle.amring.specs.declared.play.Played.{Played}
@@ -24,13 +25,13 @@ abbrev pub Traced : World → List Happened → World → Type 0
 Traced w [] w' = w' ≡ w
 Traced w (h ∷ trace) w' =
     (before mid : World) × Forgets w before × Step before h.event mid × (h.outputs ≡ put_out mid) ×
-    (h.faults ≡ fault_count mid) × Traced mid trace w'
+    (h.faults ≡ fault_count mid) × ((i : ℕ) → h.unbuilt i ≡ refused_by mid i) × Traced mid trace w'
 
 traced_more : (w : World) (first rest : List Happened) (mid w' : World) → Traced w first mid → Traced mid rest w' →
     Traced w (first ++ rest) w'
 traced_more w [] rest mid w' same more = rw (← same) more
-traced_more w (h ∷ first) rest mid w' (before, next, forgets, step, outs, faults, traced) more =
-    (before, next, forgets, step, outs, faults, traced_more next first rest mid w' traced more)
+traced_more w (h ∷ first) rest mid w' (before, next, forgets, step, outs, faults, refused, traced) more =
+    (before, next, forgets, step, outs, faults, refused, traced_more next first rest mid w' traced more)
 
 -- nothing happened
 traced_nothing : (p p' : Player) (trace : List Happened) → p'.world ≡ p.world → trace ≡ [] →
@@ -39,7 +40,7 @@ traced_nothing p p' trace same none = rw none same
 
 happens_traced : (p : Player) (e : Event) (p' : Player) (trace : List Happened) → Happens p e p' trace →
     Traced p.world trace p'.world
-happens_traced p e p' trace h = rw h.traced (h.before, p'.world, h.forgets, h.step, refl, refl, refl)
+happens_traced p e p' trace h = rw h.traced (h.before, p'.world, h.forgets, h.step, refl, refl, λ i. refl, refl)
 
 come_traced : (c : ℕ) (p : Player) (pieces : List (List ℕ)) (left : List ℕ) (p' : Player) (trace : List Happened) →
     Come c p pieces left p' trace → Traced p.world trace p'.world
@@ -103,21 +104,39 @@ plays_traced n p (line ∷ lines) played trace p' plays =
 traced_steps : (w : World) (trace : List Happened) (w' : World) → Traced w trace w' →
     Steps w (events trace) (outputs trace) w'
 traced_steps w [] w' same = (same, refl)
-traced_steps w (h ∷ trace) w' (before, mid, forgets, step, outs, faults, traced) =
+traced_steps w (h ∷ trace) w' (before, mid, forgets, step, outs, faults, refused, traced) =
     (before, mid, outputs trace, forgets, step, ap (λ os. os ++ outputs trace) outs, traced_steps mid trace w' traced)
+
+-- what was refused at its end
+traced_unbuilt : (w : World) (trace : List Happened) (w' : World) (before : ℕ → List (List ℕ)) → Traced w trace w' →
+    ((i : ℕ) → before i ≡ refused_by w i) → (i : ℕ) → unbuilt_after before trace i ≡ refused_by w' i
+traced_unbuilt w [] w' before same is i = is i ∙ ap (λ (x : World). refused_by x i) (sym same)
+traced_unbuilt w (h ∷ trace) w' before (other, mid, forgets, step, outs, faults, refused, traced) is i =
+    traced_unbuilt mid trace w' h.unbuilt traced refused i
+
+-- what is said of a tenant depends on what was refused at each number alone
+alone_by : (origin : Origin) (es : List Event) (refused other : ℕ → List (List ℕ)) (outs : List Output) →
+    ((i : ℕ) → refused i ≡ other i) → Alone origin es other outs → Alone origin es refused outs
+alone_by origin es refused other outs same alone = record {
+  tenants = λ t built. alone.tenants t (λ i. rw (same i) at (built i));
+  front = alone.front;
+  owned = alone.owned;
+}
 
 -- each tenant is as if alone, where no fault came and no connection's name was used twice
 traced_alone : (origin : Origin) (p : Player) (trace : List Happened) (w' : World) → IsStart origin p →
     Traced p.world trace w' → fault_count w' ≡ 0 → names_once (first_watch origin) (events trace) →
-    Alone origin (events trace) (outputs trace)
+    Alone origin (events trace) (unbuilt trace) (outputs trace)
 traced_alone origin p trace w' start traced none once =
-    alone origin p.world (events trace) (outputs trace) w' start.opens (traced_steps p.world trace w' traced)
-    none once
+    alone_by origin (events trace) (unbuilt trace) (refused_by w') (outputs trace)
+    (traced_unbuilt p.world trace w' (λ i. []) traced (λ i. sym (start.opens.refused i)))
+    (alone origin p.world (events trace) (outputs trace) w' start.opens (traced_steps p.world trace w' traced)
+    none once)
 
 pub course_alone : (origin : Origin) (p : Player) (bytes : Option (List ℕ)) (played : Played) (trace : List Happened)
     (p' : Player) → IsStart origin p →
     Course p bytes played trace p' → fault_count p'.world ≡ 0 → names_once (first_watch origin) (events trace) →
-    Alone origin (events trace) (outputs trace)
+    Alone origin (events trace) (unbuilt trace) (outputs trace)
 course_alone origin p bytes played trace p' start course =
     traced_alone origin p trace p'.world start (plays_traced 1 p course.lines played trace p' course.plays)
 
@@ -125,14 +144,14 @@ course_alone origin p bytes played trace p' start course =
 traced_first : (w : World) (first rest : List Happened) (w' : World) → Traced w (first ++ rest) w' → (mid : World) ×
     Traced w first mid
 traced_first w [] rest w' traced = (w, refl)
-traced_first w (h ∷ first) rest w' (before, next, forgets, step, outs, faults, traced) =
+traced_first w (h ∷ first) rest w' (before, next, forgets, step, outs, faults, refused, traced) =
     let later = traced_first next first rest w' traced in
-    (later.0, (before, next, forgets, step, outs, faults, later.1))
+    (later.0, (before, next, forgets, step, outs, faults, refused, later.1))
 
 traced_no_fault : (w : World) (trace : List Happened) (w' : World) → Traced w trace w' → fault_count w ≡ 0 →
     no_fault trace → fault_count w' ≡ 0
 traced_no_fault w [] w' same none nowhere = ap fault_count same ∙ none
-traced_no_fault w (h ∷ trace) w' (before, next, forgets, step, outs, faults, traced) none nowhere =
+traced_no_fault w (h ∷ trace) w' (before, next, forgets, step, outs, faults, refused, traced) none nowhere =
     traced_no_fault next trace w' traced (sym faults ∙ nowhere.0) nowhere.1
 
 pub course_until_fault : (origin : Origin) (p : Player) (bytes : Option (List ℕ)) (played : Played)

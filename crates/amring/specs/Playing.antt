@@ -7,7 +7,7 @@ use Rattle.am_world.specs.declared.world.World.{World}
 use Rattle.am_world.specs.Runs.{Forgets}
 use Rattle.am_world.specs.Setup.{Origin}
 use Rattle.am_world.specs.Refusal.{refusal}
-use Rattle.am_world.specs.Simulation.{Opens, Step, fault_count, put_out}
+use Rattle.am_world.specs.Simulation.{Opens, Step, fault_count, put_out, refused_by}
 use Rattle.amring.specs.declared.command.Command.{Command}
 use Rattle.amring.specs.declared.command.Command.TheVariants.{Skip, At, Tick, Open, Bytes, Call, Limits, Pump}
 use Rattle.amring.specs.declared.play.Played.{Played}
@@ -27,6 +27,7 @@ happened p e p' = record {
   refused = refusal p.world e;
   names = p.connections;
   faults = fault_count p'.world;
+  unbuilt = refused_by p'.world;
 }
 
 -- an event came to the world, which forgot its outputs first; a refused one did nothing

@@ -8,7 +8,7 @@ use Rattle.am_world.specs.View.{first_watch, names_once}
 use Rattle.amring.specs.declared.play.Played.{Played}
 use Rattle.amring.specs.declared.play.Player.{Player}
 use Rattle.amring.specs.Playing.{Plays, IsStart}
-use Rattle.amring.specs.Trace.{Happened, events, outputs, no_fault}
+use Rattle.amring.specs.Trace.{Happened, events, outputs, no_fault, unbuilt}
 
 -- the lines, which end at LF; what follows the last LF is a line too
 abbrev pub lines_of : List ℕ → List (List ℕ)
@@ -37,4 +37,4 @@ pub record Scenario (origin : Origin) (bytes : Known) (played : Played) (trace :
 -- wherever a trace is cut: where no fault came before the cut, each tenant is as if alone until there
 abbrev pub AloneUntilFault : Origin → List Happened → Type 0
 AloneUntilFault origin trace = (first rest : List Happened) → trace ≡ first ++ rest → no_fault first →
-    names_once (first_watch origin) (events first) → Alone origin (events first) (outputs first)
+    names_once (first_watch origin) (events first) → Alone origin (events first) (unbuilt first) (outputs first)

@@ -22,14 +22,15 @@ abbrev pub refusal_line : Option Refused → List ℕ
 refusal_line None = []
 refusal_line (Some refused) = codes "refused " ++ (code_of refused ++ 10 ∷ [])
 
--- what the trace keeps of an event: its outputs, why it was refused, if it was, the names of connections, and how many
--- faults had come then
+-- what the trace keeps of an event: its outputs, why it was refused, if it was, the names of connections, how many
+-- faults had come then, and which patterns each instance had been refused the build of
 pub record Happened : Type 0 where
   pub event : Event
   pub outputs : List Output
   pub refused : Option Refused
   pub names : List (List ℕ)
   pub faults : ℕ
+  pub unbuilt : ℕ → List (List ℕ)
 
 -- the lines of what happened: those of its outputs, and then that of its refusal
 abbrev pub text_of : Happened → List ℕ
@@ -49,6 +50,16 @@ printed trace = flat_map text_of trace
 abbrev pub no_fault : List Happened → Type 0
 no_fault [] = Unit {0}
 no_fault (h ∷ trace) = (h.faults ≡ 0) × no_fault trace
+
+-- the patterns that each instance had been refused the build of at the end of a trace, where it had been refused these
+-- before it
+abbrev pub unbuilt_after : (ℕ → List (List ℕ)) → List Happened → ℕ → List (List ℕ)
+unbuilt_after before [] = before
+unbuilt_after before (h ∷ trace) = unbuilt_after h.unbuilt trace
+
+-- .. of a trace that begins with a new world
+abbrev pub unbuilt : List Happened → ℕ → List (List ℕ)
+unbuilt trace = unbuilt_after (λ i. []) trace
 
 -- a text grew by the lines of a trace of which this holds
 abbrev pub Prints : List ℕ → List ℕ → (List Happened → Type 0) → Type 0

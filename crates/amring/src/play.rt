@@ -8,7 +8,7 @@ ghost use Rattle.am_world.specs.View.{first_watch, names_once};
 ghost use Rattle.amring.specs.Output.{reply_line, is_answered};
 ghost use Rattle.amring.specs.Playing.{Happens, Gives, Calls, Obeys, ending, faults_line, instance_of};
 ghost use Rattle.amring.specs.Scenario.{Course, Scenario, AloneUntilFault};
-ghost use Rattle.amring.specs.Trace.{Happened, Prints, events, outputs, printed, output_line, refusal_line};
+ghost use Rattle.amring.specs.Trace.{Happened, Prints, events, outputs, printed, output_line, refusal_line, unbuilt};
 
 use crate::command::{Command, Request};
 use crate::connections::Connections;
@@ -40,7 +40,8 @@ pub enum Played {
 ///
 /// What is written are the lines of a trace: what happened, event by event. Whatever the other tenants do, a tenant's
 /// outputs in it are, byte for byte and in order, those of a private cluster that has this tenant alone; provided
-/// that no connection's name is opened twice, and up to a first fault.
+/// that no connection's name is opened twice and no pattern that the tenant brings was refused its build, and up to a first
+/// fault.
 ///
 /// An error is one of reading or writing, or has the kind `OutOfMemory`; what was written stays.
 pub fn play<R: BufRead + Drop, W: Write, E: Write>(
@@ -54,7 +55,8 @@ pub fn play<R: BufRead + Drop, W: Write, E: Write>(
     ensures { IfOk result (λ played. (trace : List Happened) × (faults : ℕ)
         × Scenario setup.origin (R.remaining reader) played trace faults
         × Appends (W.contents writer.old) (W.contents writer.new) (printed trace ++ ending played faults)
-        × (faults ≡ 0 → names_once (first_watch setup.origin) (events trace) → Alone setup.origin (events trace) (outputs trace))
+        × (faults ≡ 0 → names_once (first_watch setup.origin) (events trace) →
+        Alone setup.origin (events trace) (unbuilt trace) (outputs trace))
         × AloneUntilFault setup.origin trace) }
 {
     let world = World::open(alloc, setup)?;

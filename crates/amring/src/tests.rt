@@ -142,16 +142,52 @@ faults 0
 "#,
 );
 
-// The receivers are listed; a path doesn't take each method, and no configuration can be stored.
+// The receivers are listed; a path doesn't take each method; a document without a configuration is refused, and none is
+// there to be read.
 const RECEIVERS: (&str, &str) = (
     r#"at 1750000000000
 call r 1 a GET /alertmanager/api/v2/receivers
 call p 1 a POST /alertmanager/api/v2/receivers "{}"
 call c 1 a POST /api/v1/alerts "{}"
+call k 1 a GET /api/v1/alerts
 "#,
     r#"reply r "HTTP/1.1 200 OK\r\nContent-Type: application/json\r\nContent-Length: 20\r\nConnection: close\r\n\r\n[{\"name\":\"default\"}]"
 reply p "HTTP/1.1 405 Method Not Allowed\r\nContent-Type: application/json\r\nContent-Length: 13\r\nConnection: close\r\n\r\n{\"code\":\"H6\"}"
-reply c "HTTP/1.1 404 Not Found\r\nContent-Type: application/json\r\nContent-Length: 13\r\nConnection: close\r\n\r\n{\"code\":\"H5\"}"
+reply c "HTTP/1.1 400 Bad Request\r\nContent-Type: application/json\r\nContent-Length: 13\r\nConnection: close\r\n\r\n{\"code\":\"C2\"}"
+reply k "HTTP/1.1 404 Not Found\r\nContent-Type: application/json\r\nContent-Length: 13\r\nConnection: close\r\n\r\n{\"code\":\"K1\"}"
+faults 0
+"#,
+);
+
+// Two tenants with configurations and limits of their own, as in examples/configured.scn.
+const CONFIGURED: (&str, &str) = (
+    r#"at 1750000000000
+tick
+limits team-b 1 1000 131072 16384 60
+
+call a1 1 team-a POST /api/v1/alerts "{\"alertmanager_config\":\"{\\\"route\\\":{\\\"receiver\\\":\\\"rest\\\",\\\"routes\\\":[{\\\"receiver\\\":\\\"disks\\\",\\\"matchers\\\":[\\\"alertname=~\\\\\\\"Disk.*\\\\\\\"\\\"]}]},\\\"receivers\\\":[{\\\"name\\\":\\\"rest\\\"},{\\\"name\\\":\\\"disks\\\"}]}\"}"
+call b1 1 team-b POST /api/v1/alerts "{\"alertmanager_config\":\"{\\\"route\\\":{\\\"receiver\\\":\\\"on-call\\\"},\\\"receivers\\\":[{\\\"name\\\":\\\"on-call\\\"}]}\"}"
+
+call a2 1 team-a POST /alertmanager/api/v2/alerts "[{\"labels\":{\"alertname\":\"DiskFull\"}},{\"labels\":{\"alertname\":\"NoPing\"}}]"
+call b2 1 team-b POST /alertmanager/api/v2/alerts "[{\"labels\":{\"alertname\":\"DiskFull\"}},{\"labels\":{\"alertname\":\"NoPing\"}}]"
+call b3 1 team-b POST /alertmanager/api/v2/alerts "[{\"labels\":{\"alertname\":\"DiskFull\"}}]"
+
+call a3 1 team-a GET /alertmanager/api/v2/alerts?receiver=disks
+call a4 1 team-a GET /alertmanager/api/v2/receivers
+call b4 1 team-b GET /alertmanager/api/v2/alerts
+call b5 1 team-b DELETE /api/v1/alerts
+call b6 1 team-b GET /alertmanager/api/v2/receivers
+"#,
+    r#"reply a1 "HTTP/1.1 201 Created\r\nContent-Type: application/json\r\nContent-Length: 0\r\nConnection: close\r\n\r\n"
+reply b1 "HTTP/1.1 201 Created\r\nContent-Type: application/json\r\nContent-Length: 0\r\nConnection: close\r\n\r\n"
+reply a2 "HTTP/1.1 200 OK\r\nContent-Type: application/json\r\nContent-Length: 0\r\nConnection: close\r\n\r\n"
+reply b2 "HTTP/1.1 429 Too Many Requests\r\nContent-Type: application/json\r\nContent-Length: 14\r\nConnection: close\r\n\r\n{\"code\":\"Li1\"}"
+reply b3 "HTTP/1.1 200 OK\r\nContent-Type: application/json\r\nContent-Length: 0\r\nConnection: close\r\n\r\n"
+reply a3 "HTTP/1.1 200 OK\r\nContent-Type: application/json\r\nContent-Length: 310\r\nConnection: close\r\n\r\n[{\"annotations\":{},\"endsAt\":\"2025-06-15T15:11:40.000Z\",\"fingerprint\":\"744e61ca074bea90\",\"generatorURL\":\"\",\"labels\":{\"alertname\":\"DiskFull\"},\"receivers\":[{\"name\":\"disks\"}],\"startsAt\":\"2025-06-15T15:06:40.000Z\",\"status\":{\"inhibitedBy\":[],\"silencedBy\":[],\"state\":\"active\"},\"updatedAt\":\"2025-06-15T15:06:40.000Z\"}]"
+reply a4 "HTTP/1.1 200 OK\r\nContent-Type: application/json\r\nContent-Length: 34\r\nConnection: close\r\n\r\n[{\"name\":\"rest\"},{\"name\":\"disks\"}]"
+reply b4 "HTTP/1.1 200 OK\r\nContent-Type: application/json\r\nContent-Length: 312\r\nConnection: close\r\n\r\n[{\"annotations\":{},\"endsAt\":\"2025-06-15T15:11:40.000Z\",\"fingerprint\":\"744e61ca074bea90\",\"generatorURL\":\"\",\"labels\":{\"alertname\":\"DiskFull\"},\"receivers\":[{\"name\":\"on-call\"}],\"startsAt\":\"2025-06-15T15:06:40.000Z\",\"status\":{\"inhibitedBy\":[],\"silencedBy\":[],\"state\":\"active\"},\"updatedAt\":\"2025-06-15T15:06:40.000Z\"}]"
+reply b5 "HTTP/1.1 200 OK\r\nContent-Type: application/json\r\nContent-Length: 0\r\nConnection: close\r\n\r\n"
+reply b6 "HTTP/1.1 200 OK\r\nContent-Type: application/json\r\nContent-Length: 20\r\nConnection: close\r\n\r\n[{\"name\":\"default\"}]"
 faults 0
 "#,
 );
@@ -184,6 +220,7 @@ fn scenarios(rt: HostRuntime) -> Result<(), Fail> {
         MANY_LABELS,
         OPENED_AGAIN,
         RECEIVERS,
+        CONFIGURED,
     ] {
         let (end, written) = played(rt.alloc(), scenario.as_bytes())?;
         assert_eq!(rt; end, Played::All, "{scenario}");
@@ -269,10 +306,6 @@ fn bad_lines(rt: HostRuntime) -> Result<(), Fail> {
         b"call c 1 a GET /x ",
         b"call c 1  GET /x",
         b"call c 1 a GET /x []",
-        b"limits a 1 2 3 4",
-        b"limits a 1 2 3 4 5 6",
-        b"limits a|b 1 2 3 4 5",
-        b"limits - 1 2 3 4 5",
         b"join 4",
         b"# a comment\xff",
         b"open \xff 1",
@@ -316,7 +349,6 @@ fn lines_that_are_taken(rt: HostRuntime) -> Result<(), Fail> {
         ("bytes c \t\"a\" \r\n", "refused We5\nfaults 0\n"),
         ("bytes c \"\"", "faults 0\n"),
         ("call c 2 - GET /x \"body\"", "refused We2\nfaults 0\n"),
-        ("limits a 1 02 3 4 5", "faults 0\n"),
     ] {
         let (end, written) = played(rt.alloc(), scenario.as_bytes())?;
         assert_eq!(rt; end, Played::All, "{scenario}");

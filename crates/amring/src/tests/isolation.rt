@@ -5,6 +5,7 @@ use crate::play::Played;
 use am_http::ConnectionId;
 use am_text::Octets;
 use am_world::event::{Event, Output};
+use am_world::setup::Setup;
 use am_world::theorem::run_both;
 use am_world::world::World;
 use std::alloc::Global;
@@ -52,6 +53,13 @@ const POST_B: &str =
 
 const POST_C: &str =
     "POST /alertmanager/api/v2/alerts HTTP/1.1\r\nX-Scope-OrgID: c\r\nContent-Length: 15\r\n\r\n[{\"labels\":{}}]";
+
+// A pattern of the tenant's own, and one of another tenant's that is too large to be built.
+const QUERY_A: &str =
+    "GET /alertmanager/api/v2/alerts?filter=a%3D~%22b%7Cc%22 HTTP/1.1\r\nX-Scope-OrgID: a\r\n\r\n";
+
+const QUERY_B: &str =
+    "GET /alertmanager/api/v2/alerts?receiver=%5Cw%7B200%7D HTTP/1.1\r\nX-Scope-OrgID: b\r\n\r\n";
 
 const READ_B: &str = "GET /alertmanager/api/v2/alerts HTTP/1.1\r\nX-Scope-OrgID: b\r\n\r\n";
 
@@ -125,21 +133,23 @@ fn equal_views_give_equal_outputs(rt: HostRuntime) -> Result<(), Fail> {
     let alloc = rt.alloc();
     let mut events = Vec::new(alloc);
     asked(alloc, &mut events, 0, POST_A)?;
-    asked(alloc, &mut events, 1, READ)?;
+    asked(alloc, &mut events, 1, QUERY_A)?;
     let mut among = Vec::new(alloc);
     asked(alloc, &mut among, 2, POST_B)?;
     asked(alloc, &mut among, 0, POST_A)?;
-    asked(alloc, &mut among, 3, READ_B)?;
-    asked(alloc, &mut among, 1, READ)?;
+    asked(alloc, &mut among, 3, QUERY_B)?;
+    asked(alloc, &mut among, 1, QUERY_A)?;
     let (world, other) = run_both(
         alloc,
         setup()?,
         events.as_slice(),
-        setup()?,
+        Setup::new([0; 32], &[1, 2, 3], 1, 1).ok_or("no settings")?,
         among.as_slice(),
     )?;
     assert_eq!(rt; world.outputs().len(), 2);
     assert_eq!(rt; other.outputs().len(), 4);
+    let refused = reply_on(&other, 3).ok_or("no reply")?;
+    assert!(rt; refused.ends_with(b"{\"code\":\"B2\"}"));
     for connection in 0..2 {
         assert!(rt;
             reply_on(&world, connection).is_some(),

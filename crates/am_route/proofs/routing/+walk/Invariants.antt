@@ -1,5 +1,6 @@
 use Rattle.std.proofs.Common.{◌≡◌, ◌+◌, ◌*◌, ◌++◌, ◌≤◌, ◌^◌, length}
 use Rattle.am_pattern.specs.Asking.{Stays}
+use Rattle.am_route.specs.Answers.{AreKnown}
 use Rattle.am_route.specs.Asked.{asked_among}
 use Rattle.am_route.specs.Routes.{routes_among}
 use Rattle.am_draft.specs.Forests.{IsForest, forest_of}
@@ -16,6 +17,7 @@ abbrev pub invariant-walk-sibling : goal.invariant-walk-sibling
 invariant-walk-sibling l =
     record {
       forest : IsForest l.rest;
+      known : AreKnown l.labels l.rest l.number l.known;
       few : l.number + length l.rest ≤ 2 ^ 62;
       asked : AreAmong (asked_among l.labels (forest_of l.rest)) (asked_among l.labels (forest_of l.nodes));
       shorter : length l.rest ≤ length l.nodes;

@@ -39,7 +39,7 @@ returns-clause-ok g c clean store =
     let out : TakesOut 1 (hit of_tenant (Text c.args.tenant.now ∷ [])) old.now mid.now =
     subst (λ db. TakesOut 1 (hit of_tenant (Text c.args.tenant.now ∷ [])) db mid.now) same (c.in_ok-take_out.ensures.ok clean_mid (subst IsStore (sym same) store)) in
     on_ok_weaker c.put_in.result
-    (λ put. config_stores old.now mid.now new.now c.args.tenant.now c.args.stamp.now c.args.body.now store c.put_in.ensures.name c.requires c.put_in.ensures.text out put (told ∙ none))
+    (λ put. config_stores old.now mid.now new.now c.args.tenant.now c.args.stamp.now c.args.body.now store c.put_in.ensures.name c.put_in.ensures.stamp c.put_in.ensures.text out put (told ∙ none))
     (c.put_in.ensures.ok clean out.schema)
 
 pub returns-then-branch-clause-inside : goal.returns-then-branch-clause-inside

@@ -1,5 +1,3 @@
-use Rattle.std.proofs.Common.{◌≡◌, ◌+◌, ◌<◌, ℕ, List, get_or, All, take}
-use Rattle.sqlite.specs.Order.{Row}
 use Rattle.am_store.proofs.Rising.{RiseTo}
 use Rattle.am_store.proofs.opening.test_rowids.Given as goal
 

@@ -39,7 +39,7 @@ returns-clause-ok g c clean store =
     let out : TakesOut 3 (hit of_silence (Text c.args.tenant.now ∷ Text (id_text c.args.silence.now.id) ∷ [])) old.now mid.now =
     subst (λ db. TakesOut 3 (hit of_silence (Text c.args.tenant.now ∷ Text (id_text c.args.silence.now.id) ∷ [])) db mid.now) same (rw c.text_of-id.ensures.text at (c.in_ok-take_out.ensures.ok clean_mid (subst IsStore (sym same) store))) in
     on_ok_weaker c.put_in.result
-    (λ put. silence_stores old.now mid.now new.now c.args.tenant.now c.args.stamp.now (silence_text c.args.silence.now) store c.put_in.ensures.name c.requires.stamp c.requires.silence out put (told ∙ none))
+    (λ put. silence_stores old.now mid.now new.now c.args.tenant.now c.args.stamp.now (silence_text c.args.silence.now) store c.put_in.ensures.name c.put_in.ensures.stamp c.put_in.ensures.valid out put (told ∙ none))
     (c.put_in.ensures.ok clean out.schema)
 
 pub returns-then-branch-clause-inside : goal.returns-then-branch-clause-inside

@@ -1,4 +1,4 @@
-use Rattle.std.proofs.Common.{cond, Some, ◌∙◌}
+use Rattle.std.proofs.Common.{Some, ◌∙◌}
 use Rattle.std.proofs.lemmas.Bool.{cond-false}
 use Rattle.am_tenant.proofs.Same.{is_eq-name_cmp, same-sym}
 use Rattle.am_current.specs.Current.{read_for}

@@ -1,17 +1,26 @@
-use Rattle.am_world.specs.Reaction.{decision_at}
-use Rattle.am_world.specs.Places.{local_in}
-use Rattle.am_world.proofs.Counts.{counted_after}
+use Rattle.std.proofs.Common.{refl}
+use Rattle.am_world.specs.Places.{here_of, local_in}
+use Rattle.am_world.proofs.Deciding.{items_have_room, may_decide, returned_at, stops_for}
 use Rattle.am_world.proofs.instance.Instance.decide.Goals as goal
 
 pub returns-clause-decision : goal.returns-clause-decision
-unfolding decision_at local_in
-returns-clause-decision c = rw (← c.held.ensures.items, ← c.used.ensures) c.in_ok-decided.ensures.0
+unfolding local_in
+returns-clause-decision c = may_decide _ c.decide.result c.args.request.now _ _
+    (returned_at _ c.decide.result c.args.request.now (here_of c.args.self.now c.args.moment c.args.limits) (local_in c.args.request.now.tenant c.args.self.now) _ _ _
+    c.in_ok-held.ensures.held c.in_ok-held.ensures.configuration c.used.ensures c.decide.ensures.decides)
 
-pub returns-clause-counts : goal.returns-clause-counts
-unfolding decision_at local_in
-returns-clause-counts c = rw (← c.held.ensures.items, ← c.used.ensures) c.in_ok-decided.ensures.1
+pub returns-clause-room : goal.returns-clause-room
+unfolding local_in
+returns-clause-room c = items_have_room _ c.decide.result c.args.request.now _ _
+    (returned_at _ c.decide.result c.args.request.now (here_of c.args.self.now c.args.moment c.args.limits) (local_in c.args.request.now.tenant c.args.self.now) _ _ _
+    c.in_ok-held.ensures.held c.in_ok-held.ensures.configuration c.used.ensures c.decide.ensures.decides)
 
-pub returns-in_err-decided-clause-counts : goal.returns-in_err-decided-clause-counts
-unfolding decision_at local_in
-returns-in_err-decided-clause-counts c =
-    rw (← c.held.ensures.items, ← c.used.ensures) (counted_after _ c.from_residual.result _ c.from_residual.ensures.1 c.in_err-decided.ensures)
+pub returns-clause-cause : goal.returns-clause-cause
+unfolding local_in
+returns-clause-cause c = stops_for _ c.decide.result c.args.request.now _ _
+    (returned_at _ c.decide.result c.args.request.now (here_of c.args.self.now c.args.moment c.args.limits) (local_in c.args.request.now.tenant c.args.self.now) _ _ _
+    c.in_ok-held.ensures.held c.in_ok-held.ensures.configuration c.used.ensures c.decide.ensures.decides)
+
+pub returns-clause-local : goal.returns-clause-local
+unfolding local_in
+returns-clause-local c t = rw c.in_use.follows.holds-at-none refl

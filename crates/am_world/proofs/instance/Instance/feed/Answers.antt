@@ -1,30 +1,38 @@
-use Rattle.std.proofs.Common.{refl}
-use Rattle.std.proofs.lemmas.Result.{on_ok_weaker}
+use Rattle.std.proofs.Common.{◌∙◌, ◌++◌, ◌∷◌, [], ap, refl, sym}
+use Rattle.std.proofs.lemmas.Result.{IfErr-weaker, on_ok_weaker}
+use Rattle.am_limit.specs.Books.{limits_of}
+use Rattle.am_world.specs.declared.event.Output.TheVariants.{Reply}
 use Rattle.am_world.specs.Places.{local_in}
+use Rattle.am_world.proofs.Deciding.{brings_ready, brings_refused, brings_waits}
 use Rattle.am_world.proofs.instance.Instance.feed.Goals as goal
 
-pub returns-in-Waits-clause-local : goal.returns-in-Waits-clause-local
+pub returns-in-Waits-clause-brings : goal.returns-in-Waits-clause-brings
 unfolding local_in
-returns-in-Waits-clause-local c before here t = rw (← c.in_ok-feed.ensures.verdict before here, c.in-Waits.is) refl
+returns-in-Waits-clause-brings c before here =
+    rw (← c.in_ok-feed.ensures.verdict before here, c.in-Waits.is) (brings_waits _ _ _ _ _ _ (λ t. refl))
 
-pub returns-in_ok-push-in-Refused-clause-local : goal.returns-in_ok-push-in-Refused-clause-local
+pub returns-in_ok-push-in-Refused-clause-brings : goal.returns-in_ok-push-in-Refused-clause-brings
 unfolding local_in
-returns-in_ok-push-in-Refused-clause-local c before here t = rw (← c.in_ok-feed.ensures.verdict before here, c.in-Refused.is) refl
+returns-in_ok-push-in-Refused-clause-brings c before here =
+    rw (← c.in_ok-feed.ensures.verdict before here, c.in-Refused.is) (brings_refused c.in-Refused.reason _ _ _ _ _ _ _
+    (c.in_ok-push-in-Refused.ensures.items ∙ ap (λ bytes. c.args.outputs.now.items ++ Reply c.args.connection bytes ∷ []) c.in_ok-bytes-in-Refused.ensures)
+    (λ t. refl))
 
-pub returns-in_ok-push-in-Ready-clause-local : goal.returns-in_ok-push-in-Ready-clause-local
+pub returns-in_ok-push-in-Ready-clause-brings : goal.returns-in_ok-push-in-Ready-clause-brings
 unfolding local_in
-returns-in_ok-push-in-Ready-clause-local c before here t = rw (← c.in_ok-feed.ensures.verdict before here, c.in-Ready.is) refl
+returns-in_ok-push-in-Ready-clause-brings c before here =
+    rw (← c.in_ok-feed.ensures.verdict before here, c.in-Ready.is) (brings_ready _ _ _ _ _ _ _
+    (c.in_ok-push-in-Ready.ensures.items ∙ ap (λ bytes. c.args.outputs.now.items ++ Reply c.args.connection bytes ∷ []) c.in_ok-bytes-in-Ready.ensures)
+    (λ t. refl))
 
-pub returns-in-Request-clause-outputs : goal.returns-in-Request-clause-outputs
+pub returns-in-Request-clause-brings : goal.returns-in-Request-clause-brings
 unfolding local_in
-returns-in-Request-clause-outputs c =
-    on_ok_weaker c.answer.result (λ said before here. rw (← c.in_ok-feed.ensures.verdict before here, c.in-Request.is) said) c.answer.ensures.outputs
+returns-in-Request-clause-brings c = on_ok_weaker c.answer.result (λ brings before here.
+    rw (← c.in_ok-feed.ensures.verdict before here, c.in-Request.is)
+    (let b = brings (λ t. limits_of t c.args.limits.now) (sym c.of-limits.ensures) in
+    record { decide = b.decide; decided = b.decided; outputs = b.outputs; fits = b.fits; local = b.local })) c.answer.ensures.brings
 
-pub returns-in-Request-clause-counts : goal.returns-in-Request-clause-counts
+pub returns-in-Request-clause-cause : goal.returns-in-Request-clause-cause
 unfolding local_in
-returns-in-Request-clause-counts c before here = rw (← c.in_ok-feed.ensures.verdict before here, c.in-Request.is) c.answer.ensures.counts
-
-pub returns-in-Request-clause-local : goal.returns-in-Request-clause-local
-unfolding local_in
-returns-in-Request-clause-local c =
-    on_ok_weaker c.answer.result (λ local before here t. rw (← c.in_ok-feed.ensures.verdict before here, c.in-Request.is) (local t)) c.answer.ensures.local
+returns-in-Request-clause-cause c = IfErr-weaker c.answer.result _ _ (λ fault cause before here.
+    rw (← c.in_ok-feed.ensures.verdict before here, c.in-Request.is, ← c.of-limits.ensures) cause) c.answer.ensures.cause

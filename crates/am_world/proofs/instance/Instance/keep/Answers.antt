@@ -11,7 +11,7 @@ pub returns-clause-local : goal.returns-clause-local
 unfolding local_in
 returns-clause-local c t =
     let size : vec_len c.args.items ≡ length c.args.items.items = search rules in
-    parts_by (same t c.args.tenant.now) (items_of t c.args.self.now.book) _ (all_joined (items_of t c.args.self.now.book) c.args.items.items)
+    parts_by (same t c.args.tenant.now) (items_of t c.args.self.now.holdings) _ (all_joined (items_of t c.args.self.now.holdings) c.args.items.items)
     (count_of t c.args.self.now.counts) _ (count_of t c.args.self.now.counts + length c.args.items.items) (c.in_ok-put_all.ensures.joined t)
     (under_same t c.args.tenant.now (λ s. count_of s c.args.self.now.counts + length c.args.items.items) _ _
     (rw (c.used-used.ensures, c.len.ensures, size) at (c.in_ok-set.ensures.counted t)))

@@ -6,4 +6,4 @@ use Rattle.am_world.proofs.instance.Instance.new.Goals as goal
 
 pub returns-clause-local : goal.returns-clause-local
 unfolding local_in items_of count_of
-returns-clause-local c t = rw (c.new-2.ensures, c.new-3.ensures) refl
+returns-clause-local c t = rw (c.in_ok-new-2.ensures, c.new-3.ensures) refl

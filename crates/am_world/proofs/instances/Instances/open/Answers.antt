@@ -2,7 +2,7 @@ use Rattle.std.proofs.Common.{◌∙◌, ◌++◌, ◌∷◌, [], ap, sym, take}
 use Rattle.std.proofs.lemmas.List.{take_all, take_more}
 use Rattle.am_world.specs.Places.{numbers}
 use Rattle.am_world.specs.Roster.{serves}
-use Rattle.am_world.proofs.Opening.{IsFresh, roster_opening, fresh_push, local_opening, numbers_push, unread_opening}
+use Rattle.am_world.proofs.Opening.{IsFresh, roster_opening, fresh_push, local_opening, numbers_push, refused_opening, unread_opening}
 use Rattle.am_world.proofs.instances.Instances.open.Goals as goal
 
 pub returns-clause-roster : goal.returns-clause-roster
@@ -14,9 +14,12 @@ returns-clause-unread c connection i = unread_opening c.args.first connection i 
 pub returns-clause-local : goal.returns-clause-local
 returns-clause-local c t i = local_opening c.args.first t i c.loop-number.list.items c.loop-number.invariant.1
 
+pub returns-clause-refused : goal.returns-clause-refused
+returns-clause-refused c i = refused_opening c.args.first i c.loop-number.list.items c.loop-number.invariant.1
+
 pub loop-number-preserved : goal.loop-number-preserved
 loop-number-preserved c =
-    let fresh : IsFresh c.args.first c.in_ok-new.field-0 = record { up = c.in_ok-new.ensures.up ∙ ap serves (sym c.in_ok-new.ensures.number); incarnation = c.in_ok-new.ensures.incarnation; unread = c.in_ok-new.ensures.unread; local = c.in_ok-new.ensures.local } in
+    let fresh : IsFresh c.args.first c.in_ok-new.field-0 = record { up = c.in_ok-new.ensures.up ∙ ap serves (sym c.in_ok-new.ensures.number); incarnation = c.in_ok-new.ensures.incarnation; unread = c.in_ok-new.ensures.unread; local = c.in_ok-new.ensures.local; refused = c.in_ok-new.ensures.refused } in
     rw (c.in_ok-push.ensures.items) (
       numbers_push c.loop-number.list.items c.in_ok-new.field-0 ∙ ap (λ ns. ns ++ c.in_ok-new.field-0.number ∷ []) c.loop-number.invariant.0
           ∙ ap (λ n. take c.loop-number.number-index numbers ++ n ∷ []) c.in_ok-new.ensures.number

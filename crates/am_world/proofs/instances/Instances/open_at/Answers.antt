@@ -1,6 +1,6 @@
 use Rattle.std.proofs.Common.{◌≡◌, ◌∙◌, Some, None, [], length, vec_len, rules}
 use Rattle.std.proofs.lemmas.Result.{on_ok_weaker}
-use Rattle.am_world.proofs.InstancesLemmas.{at_number, bytes_exist, changed_at, local_kept, number_of, reading_put, roster_kept, up_exists, within}
+use Rattle.am_world.proofs.InstancesLemmas.{at_number, bytes_exist, changed_at, local_kept, number_of, reading_put, refused_kept, roster_kept, up_exists, within}
 use Rattle.am_world.proofs.instances.Instances.open_at.Goals as goal
 
 pub place-requires : goal.place-requires
@@ -46,3 +46,10 @@ returns-clause-roster c =
     let here = at_number c.self.inside.list.items c.place.result c.args.number _ c.self.invariant c.place.ensures exists c.index_mut.ensures.value in
     let change = changed_at c.self.inside.list.items c.place.result c.args.number c.open.new.self c.self.invariant c.place.ensures exists (c.open.ensures.number ∙ number_of c.args.number _ _ here) in
     rw (← c.self.view_is) (roster_kept c.args.number _ _ _ _ here change c.open.ensures.up c.open.ensures.incarnation)
+
+pub returns-clause-refused : goal.returns-clause-refused
+returns-clause-refused c =
+    let exists = up_exists c.args.number _ c.self.invariant (rw (← c.self.view_is) at c.requires) in
+    let here = at_number c.self.inside.list.items c.place.result c.args.number _ c.self.invariant c.place.ensures exists c.index_mut.ensures.value in
+    let change = changed_at c.self.inside.list.items c.place.result c.args.number c.open.new.self c.self.invariant c.place.ensures exists (c.open.ensures.number ∙ number_of c.args.number _ _ here) in
+    rw (← c.self.view_is) (refused_kept c.args.number _ _ _ _ here change c.open.ensures.refused)

@@ -1,6 +1,6 @@
 use Rattle.std.proofs.Common.{◌≡◌, ◌∙◌, length, vec_len, rules, sym}
 use Rattle.am_world.specs.Places.{cause_at}
-use Rattle.am_world.proofs.InstancesLemmas.{at_number, changed_at, down_here, incarnation_here, number_of, within}
+use Rattle.am_world.proofs.InstancesLemmas.{at_number, changed_at, down_here, incarnation_here, number_of, refused_kept, within}
 use Rattle.am_world.proofs.instances.Instances.stop.Goals as goal
 
 pub index_mut-requires : goal.index_mut-requires
@@ -39,3 +39,9 @@ returns-clause-cause c =
     let here = at_number c.self.inside.list.items c.place.result c.args.number _ c.self.invariant c.place.ensures c.requires c.index_mut.ensures.value in
     let change = changed_at c.self.inside.list.items c.place.result c.args.number c.stop.new.self c.self.invariant c.place.ensures c.requires (c.stop.ensures.number ∙ number_of c.args.number _ _ here) in
     rw (change.here) c.stop.ensures.cause
+
+pub returns-clause-refused : goal.returns-clause-refused
+returns-clause-refused c =
+    let here = at_number c.self.inside.list.items c.place.result c.args.number _ c.self.invariant c.place.ensures c.requires c.index_mut.ensures.value in
+    let change = changed_at c.self.inside.list.items c.place.result c.args.number c.stop.new.self c.self.invariant c.place.ensures c.requires (c.stop.ensures.number ∙ number_of c.args.number _ _ here) in
+    rw (← c.self.view_is) (refused_kept c.args.number _ _ _ _ here change c.stop.ensures.refused)

@@ -1,0 +1,91 @@
+-- Why a posted configuration is refused.
+use Rattle.std.proofs.Common.{◌≡◌, ◌⊎◌, ℕ, ◌≤◌, nat_lt, false, List, Result, Ok, Err, length, refl, ap, ◌∙◌, inl, inr, arith, subst, sym}
+use Rattle.std.proofs.lemmas.Bool.Decides.{nat_tests}
+use Rattle.am_pattern.specs.Cache.{Cache}
+use Rattle.am_match.specs.Checking.{AreRefusedRightly}
+use Rattle.am_draft.specs.declared.draft.Draft.{Draft}
+use Rattle.am_draft.specs.declared.refusal.DraftRefusal.{DraftRefusal}
+use Rattle.am_config.specs.declared.refusal.ConfigRefusal.{ConfigRefusal}
+use Rattle.am_config.specs.declared.refusal.ConfigRefusal.TheVariants.{NotJson, BadForm, BadReceiver, RootMatchers, BadDuration, LeftOut, BadMatcher, TooMany, BadUrl, BuildRefused}
+use Rattle.am_config.specs.Judging.{IsRefusalOf, configuration}
+use Rattle.am_config.specs.Matching.{patterns_of_draft}
+use Rattle.am_draft.specs.Drafts.{posted}
+use Rattle.am_config.specs.Configuration as config
+use Rattle.am_config.specs.Refusals as config_refusals
+use Rattle.am_limit.specs.declared.limits.Limits.{Limits}
+use Rattle.am_item.specs.declared.fault.Fault.{Fault}
+use Rattle.am_item.specs.declared.fault.Fault.TheVariants.{CountsExhausted, OutOfMemory, PatternNotBuilt}
+use Rattle.am_item.specs.declared.item.Item.{Item}
+use Rattle.am_alert.specs.declared.maker.Maker.{Maker}
+use Rattle.am_api.specs.declared.decision.Decided.{Decided}
+use Rattle.am_api.specs.Deciding.{Decides, DecidesUnless}
+use Rattle.am_http.specs.declared.request.Endpoint.{Endpoint}
+use Rattle.am_http.specs.declared.request.Endpoint.TheVariants.{Configuration}
+use Rattle.am_http.specs.declared.request.Method.TheVariants.{Post}
+use Rattle.am_http.specs.declared.request.Request.{Request}
+use Rattle.am_api.specs.Decision.{accepted_or_refused, configuration_decided, configuration_posted, decided_by, refused as refused_with, status_of}
+use Rattle.am_api.specs.Patterns.{HasRefused, patterns_by, patterns_of_document}
+use Rattle.am_api.proofs.Builds.{decides_unless, rightly_or_refused}
+
+-- a refusal of a matcher
+abbrev pub IsOfMatcher : ConfigRefusal → Type 0
+IsOfMatcher refusal = (refusal ≡ BuildRefused) ⊎ (refusal ≡ BadMatcher)
+
+module _ (drafted : Result Draft DraftRefusal) (old new : Cache) where
+  of_matcher : (refusal : ConfigRefusal) → IsOfMatcher refusal → (AreRefusedRightly new.refused (patterns_of_draft drafted) → configuration drafted ≡ Err refusal) →
+      (configuration drafted ≡ Err refusal) ⊎ (IsOfMatcher refusal × HasRefused new.refused (patterns_of_draft drafted))
+  of_matcher refusal is means =
+      elim (rightly_or_refused new.refused (patterns_of_draft drafted)) [ inl rightly ↦ inl (means rightly) | inr found ↦ inr (is, found) ]
+
+  -- it is the one that the document has, or one for a pattern that isn't built
+  pub configuration_refused : (refusal : ConfigRefusal) → IsRefusalOf drafted old new refusal →
+      (AreRefusedRightly new.refused (patterns_of_draft drafted) → configuration drafted ≡ Err refusal) →
+      (configuration drafted ≡ Err refusal) ⊎ (IsOfMatcher refusal × HasRefused new.refused (patterns_of_draft drafted))
+  configuration_refused NotJson found means = inl found.0
+  configuration_refused BadForm found means = inl found.0
+  configuration_refused BadReceiver found means = inl found.0
+  configuration_refused RootMatchers found means = inl found.0
+  configuration_refused BadDuration found means = inl found.0
+  configuration_refused LeftOut found means = inl found.0
+  configuration_refused BadMatcher found means = of_matcher BadMatcher (inr refl) means
+  configuration_refused TooMany found means = inl found.0
+  configuration_refused BadUrl found means = inl found.0
+  configuration_refused BuildRefused found means = of_matcher BuildRefused (inl refl) means
+
+-- ---- the reply to it
+
+by_refusal : (refused own stored : List (List ℕ)) (refusal : ConfigRefusal) (held : List Item) (moment : ℕ) (maker : Maker) (outcome : Result config.Configuration ConfigRefusal)
+    (result : Result Decided Fault) → (outcome ≡ Err refusal) ⊎ (IsOfMatcher refusal × HasRefused refused own) →
+    Decides result (refused_with (status_of refusal) (config_refusals.code_of refusal)) → DecidesUnless refused own stored result (accepted_or_refused held moment maker outcome)
+by_refusal refused own stored refusal held moment maker outcome result (inl is) decides = rw is (decides_unless refused own stored result _ decides)
+by_refusal refused own stored refusal held moment maker outcome (Ok d) (inr (inl build, found)) decides = inr (inl (decides.0 ∙ ap (λ r. refused_with (status_of r) (config_refusals.code_of r)) build), found)
+by_refusal refused own stored refusal held moment maker outcome (Ok d) (inr (inr bad, found)) decides = inr (inr (inr (decides.0 ∙ ap (λ r. refused_with (status_of r) (config_refusals.code_of r)) bad)), found)
+by_refusal refused own stored refusal held moment maker outcome (Err CountsExhausted) (inr either) decides = absurd (cc)
+by_refusal refused own stored refusal held moment maker outcome (Err OutOfMemory) (inr either) decides = tt
+by_refusal refused own stored refusal held moment maker outcome (Err PatternNotBuilt) (inr either) decides = absurd decides
+
+-- the decision on a posted document, as that on its request
+pub posted_decides : (refused stored : List (List ℕ)) (result : Result Decided Fault) (request : Request) (held : List Item) (limits : Limits)
+    (moment : ℕ) (maker : Maker) (document : List ℕ) → request.method ≡ Post → document ≡ request.body →
+    DecidesUnless refused (patterns_of_draft (posted document)) stored result (configuration_posted limits held moment maker document) →
+    DecidesUnless refused (patterns_of_document request.method request) stored result (configuration_decided request request.method held limits moment maker)
+posted_decides refused stored result request held limits moment maker document method body decides = rw method (rw body at decides)
+
+-- and that on a request to the configuration, as that on all requests
+pub configuration_decides : (refused stored : List (List ℕ)) (result : Result Decided Fault) (request : Request) (c : config.Configuration) (held : List Item) (limits : Limits)
+    (moment : ℕ) (maker : Maker) → request.endpoint ≡ Configuration →
+    DecidesUnless refused (patterns_of_document request.method request) stored result (configuration_decided request request.method held limits moment maker) →
+    DecidesUnless refused (patterns_by request.endpoint request) stored result (decided_by c request request.endpoint held limits moment maker)
+configuration_decides refused stored result request c held limits moment maker endpoint decides =
+    subst (λ (e : Endpoint). DecidesUnless refused (patterns_by e request) stored result (decided_by c request e held limits moment maker)) (sym endpoint) decides
+
+-- a document within the limit that is refused
+pub refusal_decides : (old new : Cache) (refusal : ConfigRefusal) (limits : Limits) (held : List Item) (moment : ℕ) (maker : Maker) (document : List ℕ) →
+    length document ≤ limits.configuration → IsRefusalOf (posted document) old new refusal →
+    (AreRefusedRightly new.refused (patterns_of_draft (posted document)) → configuration (posted document) ≡ Err refusal) →
+    (result : Result Decided Fault) → Decides result (refused_with (status_of refusal) (config_refusals.code_of refusal)) →
+    (others : List (List ℕ)) → DecidesUnless new.refused (patterns_of_draft (posted document)) others result (configuration_posted limits held moment maker document)
+refusal_decides old new refusal limits held moment maker document within found means result decides others =
+    let fits : nat_lt limits.configuration (length document) ≡ false = grind (arith, nat_tests) in
+    rw fits (by_refusal new.refused (patterns_of_draft (posted document)) others refusal held moment maker (configuration (posted document)) result
+    (configuration_refused (posted document) old new refusal found means) decides)

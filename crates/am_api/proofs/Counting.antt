@@ -1,0 +1,137 @@
+-- How posted label sets that aren't held are counted, and receivers once each.
+use Rattle.std.proofs.Common.{◌≡◌, ℕ, suc, ◌+◌, ◌-◌, ◌<◌, ◌≤◌, ◌==◌, nat_lt, nat_cmp, List, [], ◌∷◌, ◌++◌, Bool, true, false, not, cond, ◌||◌, if◌then◌else◌, None, Some, filter, length, drop, get_or, refl, sym, ap, ◌∙◌, inl, inr, arith, append_assoc}
+use Rattle.std.specs.Cmp.{eq_by_cmp_equiv, nat_cmp_is}
+use Rattle.std.specs.List.{filter_map, list_any}
+use Rattle.std.specs.Ordering.{eq_by_cmp, is_eq}
+use Rattle.std.specs.Set.{distinct_count, is_member}
+use Rattle.std.specs.declared.cmp.Ordering.TheVariants.{Less, Equal, Greater}
+use Rattle.std.proofs.Math.Seq.{drop-cons}
+use Rattle.std.proofs.lemmas.Bool.Decides.{eqb_tells, leb_tells, nat_tests}
+use Rattle.std.proofs.lemmas.List.Folds.{list_any-append}
+use Rattle.am_labels.specs.declared.Label.{Label}
+use Rattle.am_labels.specs.Labels.{labels_cmp, labels_total}
+use Rattle.am_item.specs.declared.item.Alert.{Alert}
+use Rattle.am_item.specs.declared.item.Item.{Item}
+use Rattle.am_item.specs.Held.{items_by}
+use Rattle.am_item.specs.Kinds.{alerts_of}
+use Rattle.am_config.specs.Configuration.{Configuration}
+use Rattle.am_api.specs.Decision.{count_with, is_held, new_count, new_sets}
+use Rattle.am_api.specs.Receivers.{once, receiver_at}
+use Rattle.am_api.proofs.Lists.{apart, apart-new, apart-seen}
+
+-- ---- label sets
+
+-- the alert before the others comes to them
+pub regrouped : (whole old front later : List Alert) (alert : Alert) → whole ≡ old ++ later → old ≡ front ++ alert ∷ [] → whole ≡ front ++ alert ∷ later
+regrouped whole old front later alert before split = before ∙ ap (λ xs. xs ++ later) split ∙ append_assoc front (alert ∷ []) later
+
+sets_more : (held : List Item) (later : List Alert) (alert : Alert) → is_held held alert.labels ≡ false → new_sets held (alert ∷ later) ≡ alert.labels ∷ new_sets held later
+sets_more held later alert fresh = rw fresh refl
+
+or_cond : (b c : Bool) → cond b true c ≡ b || c
+or_cond true c = refl
+or_cond false c = refl
+
+-- whether a label set is among those that are new
+pub known_more : (held : List Item) (later : List Alert) (alert : Alert) (key : List Label) (old new : Bool) → is_held held alert.labels ≡ false →
+    old ≡ is_member (eq_by_cmp labels_cmp) (new_sets held later) key → new ≡ cond (is_eq (labels_cmp alert.labels key)) true old →
+    new ≡ is_member (eq_by_cmp labels_cmp) (new_sets held (alert ∷ later)) key
+known_more held later alert key old new fresh before now =
+    now ∙ or_cond (is_eq (labels_cmp alert.labels key)) old ∙ ap (λ b. b || old) ((eq_by_cmp_equiv labels_total).symm alert.labels key)
+    ∙ ap (λ c. is_eq (labels_cmp key alert.labels) || c) before ∙ ap (λ sets. is_member (eq_by_cmp labels_cmp) sets key) (sym (sets_more held later alert fresh))
+
+counted : (sets : List (List Label)) (set : List Label) (b : Bool) → is_member (eq_by_cmp labels_cmp) sets set ≡ b →
+    distinct_count (eq_by_cmp labels_cmp) sets + (if not b then 1 else 0) ≡ distinct_count (eq_by_cmp labels_cmp) (set ∷ sets)
+counted sets set true is = rw is (omega arith)
+counted sets set false is = rw is (omega arith)
+
+-- and how many they are
+pub count_more : (held : List Item) (later : List Alert) (alert : Alert) (old new : ℕ) (known added : Bool) → is_held held alert.labels ≡ false →
+    old ≡ new_count held later → known ≡ is_member (eq_by_cmp labels_cmp) (new_sets held later) alert.labels → added ≡ not known →
+    new ≡ old + (if added then 1 else 0) → new ≡ new_count held (alert ∷ later)
+count_more held later alert old new known added fresh before knows adds now =
+    now ∙ ap (λ n. n + (if added then 1 else 0)) before ∙ ap (λ b. new_count held later + (if b then 1 else 0)) adds
+    ∙ counted (new_sets held later) alert.labels known (sym knows) ∙ ap (distinct_count (eq_by_cmp labels_cmp)) (sym (sets_more held later alert fresh))
+
+length-items_by : {K V : Type 0} (item_of : K → V → Item) (entries : List (K × V)) → length (items_by item_of entries) ≡ length entries
+length-items_by item_of [] = refl
+length-items_by item_of ((key, value) ∷ entries) = ap suc (length-items_by item_of entries)
+
+-- all that are held, and those that are new
+pub whole_count : {K V : Type 0} (item_of : K → V → Item) (entries : List (K × V)) (held : List Item) (posted : List Alert) (len new : ℕ) → items_by item_of entries ≡ alerts_of held →
+    len ≡ length entries → new ≡ new_count held posted → count_with held posted ≡ len + new
+unfolding count_with
+whole_count item_of entries held posted len new are lens news =
+    rw (lens, news) (ap (λ n. n + new_count held posted) (ap length (sym are) ∙ length-items_by item_of entries))
+
+pub past_none : (limit len new whole : ℕ) → whole ≡ len + new → ¬ (len ≤ limit) → true ≡ nat_lt limit whole
+past_none limit len new whole is past = grind (arith, nat_tests)
+
+pub past_some : (limit len new whole room : ℕ) → whole ≡ len + new → len ≤ limit → room ≡ limit - len → nat_lt room new ≡ nat_lt limit whole
+past_some limit len new whole room is within left = grind (arith, nat_tests)
+
+-- ---- receivers once each
+
+same_number : (p q : ℕ) → is_eq (nat_cmp p q) ≡ (q == p)
+same_number p q =
+    elim (eqb_tells q p) [
+      | inl same ↦ rw (same.0, same.1, ← nat_cmp_is p p Equal refl)
+      | inr other ↦ elim (leb_tells p q) [
+        | inl below ↦ (let less : p < q = omega (arith, below.1, other.1) in rw (other.0, ← nat_cmp_is p q Less less))
+        | inr above ↦ rw (other.0, ← nat_cmp_is p q Greater above.1)
+      ]
+    ]
+
+-- what was seen, once one more was
+pub seen_more : (done : List ℕ) (p q : ℕ) (old new : Bool) → old ≡ list_any (λ d. q == d) done → new ≡ cond (is_eq (nat_cmp p q)) true old →
+    new ≡ list_any (λ d. q == d) (done ++ p ∷ [])
+seen_more done p q old new before now =
+    now ∙ ap (λ b. cond b true old) (same_number p q) ∙ ap (cond (q == p) true) before ∙ at_end (q == p) (list_any (λ d. q == d) done)
+    ∙ sym (list_any-append (λ d. q == d) done (p ∷ []))
+  where
+    at_end : (a b : Bool) → cond a true b ≡ (b || (a || false))
+    at_end true true = refl
+    at_end true false = refl
+    at_end false true = refl
+    at_end false false = refl
+
+-- and once one was seen again
+pub seen_again : (done : List ℕ) (p q : ℕ) (old new : Bool) → list_any (λ d. p == d) done ≡ true → old ≡ list_any (λ d. q == d) done →
+    new ≡ cond (is_eq (nat_cmp p q)) true old → new ≡ list_any (λ d. q == d) done
+seen_again done p q old new there before now =
+    elim (eqb_tells q p) [
+      | inl same ↦ now ∙ ap (λ b. cond b true old) (same_number p q ∙ same.0) ∙ sym (rw same.1 there)
+      | inr other ↦ now ∙ ap (λ b. cond b true old) (same_number p q ∙ other.0) ∙ before
+    ]
+
+module _ (c : Configuration) (routes : List ℕ) (i : ℕ) (route : ℕ) (whole : List ℕ) where
+  -- the places that are left
+  abbrev pub left_at : ℕ → List ℕ
+  left_at n = once (filter_map (receiver_at c) (drop n routes))
+
+  module _ (within : i < length routes) (is : route ≡ get_or routes i route) where
+    next_route : drop i routes ≡ route ∷ drop (i + 1) routes
+    next_route = let next : suc i ≡ i + 1 = omega arith in drop-cons routes i route within ∙ rw (← is, next)
+
+    left_none : receiver_at c route ≡ None → left_at i ≡ left_at (i + 1)
+    left_none none = ap (λ rest. once (filter_map (receiver_at c) rest)) next_route ∙ rw none refl
+
+    left_some : (place : ℕ) → receiver_at c route ≡ Some place → left_at i ≡ place ∷ filter (λ y. not (y == place)) (left_at (i + 1))
+    left_some place some = ap (λ rest. once (filter_map (receiver_at c) rest)) next_route ∙ rw some refl
+
+    -- a route that has no receiver
+    pub route_skipped : (done : List ℕ) → receiver_at c route ≡ None → done ++ apart done (left_at i) ≡ whole → done ++ apart done (left_at (i + 1)) ≡ whole
+    route_skipped done none so_far = ap (λ rest. done ++ apart done rest) (sym (left_none none)) ∙ so_far
+
+    -- one whose receiver was seen
+    pub route_seen : (done : List ℕ) (place : ℕ) → receiver_at c route ≡ Some place → list_any (λ d. place == d) done ≡ true →
+        done ++ apart done (left_at i) ≡ whole → done ++ apart done (left_at (i + 1)) ≡ whole
+    route_seen done place some there so_far =
+        ap (λ rest. done ++ rest) (sym (apart-seen done place (left_at (i + 1)) there)) ∙ ap (λ rest. done ++ apart done rest) (sym (left_some place some)) ∙ so_far
+
+    -- one whose receiver is new
+    pub route_new : (done now : List ℕ) (place : ℕ) → receiver_at c route ≡ Some place → list_any (λ d. place == d) done ≡ false → now ≡ done ++ place ∷ [] →
+        done ++ apart done (left_at i) ≡ whole → now ++ apart now (left_at (i + 1)) ≡ whole
+    route_new done now place some none is_now so_far =
+        ap (λ ps. ps ++ apart ps (left_at (i + 1))) is_now ∙ append_assoc done (place ∷ []) (apart (done ++ place ∷ []) (left_at (i + 1)))
+        ∙ ap (λ rest. done ++ rest) (sym (apart-new done place (left_at (i + 1)) none)) ∙ ap (λ rest. done ++ apart done rest) (sym (left_some place some)) ∙ so_far

@@ -1,0 +1,9 @@
+use Rattle.am_api.proofs.ConfigurationLemmas.{refusal_decides}
+use Rattle.am_api.proofs.configuration.post_configuration.Goals as goal
+
+pub returns-in-Err-Refused-clause-decides : goal.returns-in-Err-Refused-clause-decides
+returns-in-Err-Refused-clause-decides c =
+    refusal_decides _ _ c.in-Err-Refused.refusal c.args.limits c.args.held.now c.args.moment c.args.maker c.args.document.now c.if-limits-document.false
+    (rw c.in-Err-Refused.field-0-is at c.in-Err-Refused.ensures.failure)
+    (rw c.in-Err-Refused.field-0-is at c.in-Err-Refused.ensures.meaning) c.refuse-in-Err-Refused.result
+    (rw (c.status_of.ensures, c.code.ensures, c.in-Err-Refused.refusal-is) at c.refuse-in-Err-Refused.ensures)

@@ -1,0 +1,180 @@
+-- What is decided on a request: the items that it brings, and the reply.
+use Rattle.std.specs.Prelude.{ℕ, ◌+◌, nat_lt, Bool, not, List, [], ◌∷◌, codes, filter, length, map, is_some, Option, Some, None, option_map, Result, Ok, Err, if◌then◌else◌}
+use Rattle.std.specs.Ordering.{eq_by_cmp}
+use Rattle.std.specs.Set.{distinct_count}
+use Rattle.am_labels.specs.declared.Label.{Label}
+use Rattle.am_labels.specs.Labels.{labels_cmp}
+use Rattle.am_http.specs.Replies.{refusal}
+use Rattle.am_http.specs.declared.request.Method.{Method}
+use Rattle.am_http.specs.declared.request.Method.TheVariants.{Get, Post, Delete}
+use Rattle.am_http.specs.declared.request.Endpoint.{Endpoint}
+use Rattle.am_http.specs.declared.request.Endpoint.TheVariants.{Alerts, AlertGroups, Silences, Silence, Receivers, Configuration}
+use Rattle.am_http.specs.declared.request.Request.{Request}
+use Rattle.am_limit.specs.declared.limits.Limits.{Limits}
+use Rattle.am_draft.specs.Drafts as drafts
+use Rattle.am_config.specs.declared.refusal.ConfigRefusal.{ConfigRefusal}
+use Rattle.am_config.specs.declared.refusal.ConfigRefusal.TheVariants.{BuildRefused}
+use Rattle.am_config.specs.Configuration as config
+use Rattle.am_config.specs.Judging.{configuration}
+use Rattle.am_config.specs.Refusals as config_refusals
+use Rattle.am_item.specs.declared.item.Alert.{Alert}
+use Rattle.am_item.specs.declared.item.Item.{Item}
+use Rattle.am_item.specs.declared.item.Thing.{Thing}
+use Rattle.am_item.specs.declared.item.Thing.TheVariants as thing
+use Rattle.am_item.specs.Best.{item_at}
+use Rattle.am_item.specs.Key.{AlertKey, ConfigurationKey}
+use Rattle.am_item.specs.Kinds.{alerts_of}
+use Rattle.am_alert.specs.declared.maker.Maker.{Maker}
+use Rattle.am_alert.specs.declared.refusal.PostedRefusal.{PostedRefusal}
+use Rattle.am_alert.specs.Made.{made, stamp_moment}
+use Rattle.am_alert.specs.Posted as alerts
+use Rattle.am_current.specs.Current.{configuration_in}
+use Rattle.am_api.specs.declared.query.Query.{Query}
+use Rattle.am_api.specs.declared.refusal.QueryRefusal.{QueryRefusal}
+use Rattle.am_api.specs.Queries as queries
+use Rattle.am_api.specs.Receivers.{shown}
+use Rattle.am_api.specs.Written.{alerts_text, document_text, receivers_text}
+
+-- the items that are stored, and the status and the body of the reply
+pub record Decision : Type 0 where
+  pub items : List Item
+  pub status : ℕ
+  pub body : List ℕ
+
+-- a reply, and nothing is stored
+abbrev pub replied : ℕ → List ℕ → Decision
+replied status body = record { items = []; status = status; body = body }
+
+-- a refusal shows its code, and nothing is stored
+abbrev pub refused : ℕ → List ℕ → Decision
+refused status code = replied status (refusal code)
+
+-- ---- the alerts
+
+-- the alerts that fire and that the query asks for are listed
+abbrev pub listed_or_refused : config.Configuration → List Item → ℕ → Result Query QueryRefusal → Decision
+listed_or_refused c held moment (Ok query) = replied 200 (alerts_text c (shown c query moment held))
+listed_or_refused c held moment (Err reason) = refused (queries.status_of reason) (queries.code_of reason)
+
+-- an alert with this label set is held
+abbrev pub is_held : List Item → List Label → Bool
+is_held held labels = is_some (item_at (AlertKey labels) held)
+
+-- the label sets that are posted and aren't held
+abbrev pub new_sets : List Item → List Alert → List (List Label)
+new_sets held posted = filter (λ labels. not (is_held held labels)) (map (λ (alert : Alert). alert.labels) posted)
+
+-- how many they are: those that are equal count once
+abbrev pub new_count : List Item → List Alert → ℕ
+new_count held posted = distinct_count (eq_by_cmp labels_cmp) (new_sets held posted)
+
+-- how many alerts are held once posted ones have come to them
+unfoldable pub count_with : List Item → List Alert → ℕ
+count_with held posted = length (alerts_of held) + new_count held posted
+
+-- posted alerts are stored as items, unless more would then be held than the limit says
+abbrev pub stored_within : ℕ → List Item → ℕ → Maker → List Alert → Decision
+stored_within limit held moment maker posted =
+    if nat_lt limit (count_with held posted) then refused 429 (codes "Li1")
+    else record { items = made held moment maker posted; status = 200; body = [] }
+
+-- a posted list is stored whole, or refused whole
+abbrev pub stored_or_refused : ℕ → List Item → ℕ → Maker → Result (List Alert) PostedRefusal → Decision
+stored_or_refused limit held moment maker (Ok posted) = stored_within limit held moment maker posted
+stored_or_refused limit held moment maker (Err reason) = refused 400 (alerts.code_of reason)
+
+-- GET lists those that fire, by its query; POST stores those of its body, where one without an end ends as the
+-- configuration says. (The front lets no other method through.)
+abbrev pub alerts_decided : config.Configuration → Request → Method → List Item → Limits → ℕ → Maker → Decision
+alerts_decided c request Get held limits moment maker = listed_or_refused c held moment (queries.query_in request.query)
+alerts_decided c request Post held limits moment maker =
+    stored_or_refused limits.alerts held moment maker (alerts.posted moment c.resolve_timeout request.body)
+alerts_decided c request Delete held limits moment maker = refused 405 (codes "H6")
+
+-- ---- the receivers
+
+-- GET lists those of the configuration. (The front lets no other method through.)
+abbrev pub receivers_decided : config.Configuration → Method → Decision
+receivers_decided c Get = replied 200 (receivers_text c)
+receivers_decided c Post = refused 405 (codes "H6")
+receivers_decided c Delete = refused 405 (codes "H6")
+
+-- ---- the configuration
+
+-- the stamp moment of the configuration that is held, also of one that was deleted
+abbrev pub seen : List Item → Option ℕ
+seen held = option_map (λ (item : Item). item.stamp.moment) (item_at ConfigurationKey held)
+
+-- a configuration's text, or its deletion, as an item with the next count
+abbrev pub configuration_item : List Item → ℕ → Maker → Option (List ℕ) → Item
+configuration_item held moment maker text = record {
+  stamp = record {
+    moment = stamp_moment moment (seen held);
+    instance = maker.instance;
+    incarnation = maker.incarnation;
+    count = maker.used + 1;
+  };
+  thing = thing.Configuration text;
+}
+
+-- it is stored
+abbrev pub configuration_stored : ℕ → List Item → ℕ → Maker → Option (List ℕ) → Decision
+configuration_stored status held moment maker text =
+    record { items = configuration_item held moment maker text ∷ []; status = status; body = [] }
+
+-- the status code of a configuration that is refused
+abbrev pub status_of : ConfigRefusal → ℕ
+status_of BuildRefused = 503
+status_of _ = 400
+
+-- the text of a configuration that passes every check is stored, without the document around it
+abbrev pub accepted_or_refused : List Item → ℕ → Maker → Result config.Configuration ConfigRefusal → Decision
+accepted_or_refused held moment maker (Ok c) = configuration_stored 201 held moment maker (Some c.text)
+accepted_or_refused held moment maker (Err reason) = refused (status_of reason) (config_refusals.code_of reason)
+
+-- a document within the limit is judged
+abbrev pub configuration_posted : Limits → List Item → ℕ → Maker → List ℕ → Decision
+configuration_posted limits held moment maker document =
+    if nat_lt limits.configuration (length document) then refused 400 (codes "Li3")
+    else accepted_or_refused held moment maker (configuration (drafts.posted document))
+
+-- the text of a thing that is a configuration, unless it was deleted
+abbrev pub text_in : Thing → Option (List ℕ)
+text_in (thing.Configuration text) = text
+text_in (thing.Silence silence) = None
+text_in (thing.Alert alert) = None
+text_in (thing.SentEntry entry) = None
+
+-- the text of the item, where there is one
+abbrev pub text_at : Option Item → Option (List ℕ)
+text_at None = None
+text_at (Some item) = text_in item.thing
+
+-- the text is read, where there is one
+abbrev pub read_or_none : Option (List ℕ) → Decision
+read_or_none None = refused 404 (codes "K1")
+read_or_none (Some text) = replied 200 (document_text text)
+
+-- GET reads the text that is held, POST stores the text of its document, DELETE stores that there is none, whether or
+-- not there was one
+abbrev pub configuration_decided : Request → Method → List Item → Limits → ℕ → Maker → Decision
+configuration_decided request Get held limits moment maker = read_or_none (text_at (item_at ConfigurationKey held))
+configuration_decided request Post held limits moment maker = configuration_posted limits held moment maker request.body
+configuration_decided request Delete held limits moment maker = configuration_stored 200 held moment maker None
+
+-- ---- all requests
+
+-- by what the request speaks of, where this configuration is in use; the front lets no request of the others through
+abbrev pub decided_by : config.Configuration → Request → Endpoint → List Item → Limits → ℕ → Maker → Decision
+decided_by c request Alerts held limits moment maker = alerts_decided c request request.method held limits moment maker
+decided_by c request AlertGroups held limits moment maker = refused 404 (codes "H5")
+decided_by c request Silences held limits moment maker = refused 404 (codes "H5")
+decided_by c request (Silence id) held limits moment maker = refused 404 (codes "H5")
+decided_by c request Receivers held limits moment maker = receivers_decided c request.method
+decided_by c request Configuration held limits moment maker =
+    configuration_decided request request.method held limits moment maker
+
+-- the decision on a request, from the items held of its tenant, its limits, the moment, and who makes items
+unfoldable pub decided : Request → List Item → Limits → ℕ → Maker → Decision
+decided request held limits moment maker =
+    decided_by (configuration_in held) request request.endpoint held limits moment maker

@@ -1,0 +1,17 @@
+//! The decision on a request: what is stored, and the reply.
+#![tactic(auto)]
+
+mod configuration;
+mod decision;
+pub mod laws;
+mod listing;
+mod posting;
+mod query;
+mod receivers;
+mod refusal;
+mod writing;
+
+pub use decision::{Decided, decide};
+
+#[cfg(test)]
+mod tests;

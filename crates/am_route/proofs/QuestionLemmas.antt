@@ -1,0 +1,143 @@
+-- The matchers of routes with the routes' numbers: they are those of the routes, and answer for them.
+use Rattle.std.proofs.Common.{◌≡◌, ◌≢◌, ◌∙◌, ℕ, zero, suc, ◌+◌, ◌<◌, ◌≤◌, ◌==◌, ◌&&◌, ◌||◌, not, Bool, true, false, List, All, [], ◌∷◌, ◌++◌, length, map, take, get_or, refl, sym, ap, append_assoc, append-nil, inl, inr, arith}
+use Rattle.std.specs.List.{Contains, list_all}
+use Rattle.std.specs.List.Sorted.{IsPermutation}
+use Rattle.std.proofs.lemmas.Bool.{cases_Bool, ne_eqb, eq-eqb}
+use Rattle.std.proofs.lemmas.List.{length-take, take_more}
+use Rattle.std.proofs.lemmas.List.Elements.{All-append, All-cons, All-contains, All-map, All-nil}
+use Rattle.std.proofs.lemmas.List.Sums.{AllPass-from_list_all, list_all-from_AllPass}
+use Rattle.std.proofs.lemmas.List.Folds.{list_all-append}
+use Rattle.std.proofs.lemmas.List.Sorted.{All-permutation, IsPermutation-sym}
+use Rattle.am_labels.specs.declared.Label.{Label}
+use Rattle.am_match.specs.Matchers.{MatcherText}
+use Rattle.am_match.specs.Meaning.{takes_labels}
+use Rattle.am_text.specs.declared.tree.Node.{Node}
+use Rattle.am_config.specs.declared.parts.Route.{Route}
+use Rattle.am_route.specs.Answers.{answer_of, questions_from}
+use Rattle.am_route.specs.Asked.{route_matchers}
+use Rattle.am_route.specs.Routes.{route_takes}
+use Rattle.am_route.proofs.FailureLemmas.{AreAmong, in_back, in_front}
+
+-- a matcher of the route of this number
+abbrev pub numbered : ℕ → List MatcherText → List (ℕ × MatcherText)
+numbered number matchers = map (λ matcher. (number, matcher)) matchers
+
+-- those of one route more
+pub questions_more : (first : ℕ) (nodes : List (Node Route)) (node : Node Route) →
+    questions_from first (nodes ++ node ∷ []) ≡ questions_from first nodes ++ numbered (first + length nodes) node.item.matchers
+questions_more first [] node =
+    let same : first + 0 ≡ first = omega arith in
+    append-nil (numbered first node.item.matchers) ∙ ap (λ n. numbered n node.item.matchers) (sym same)
+questions_more first (other ∷ nodes) node =
+    let same : first + 1 + length nodes ≡ first + suc (length nodes) = omega arith in
+    ap (λ rest. numbered first other.item.matchers ++ rest) (questions_more (first + 1) nodes node)
+    ∙ ap (λ n. numbered first other.item.matchers ++ (questions_from (first + 1) nodes ++ numbered n node.item.matchers)) same
+    ∙ sym (append_assoc (numbered first other.item.matchers) (questions_from (first + 1) nodes) (numbered (first + suc (length nodes)) node.item.matchers))
+
+-- the numbers are places of routes
+numbers_of : (P : ℕ → Type 0) (number : ℕ) (matchers : List MatcherText) → P number → All (λ (q : ℕ × MatcherText). P q.0) (numbered number matchers)
+numbers_of P number [] fine = All-nil (λ (q : ℕ × MatcherText). P q.0)
+numbers_of P number (m ∷ ms) fine = All-cons (λ (q : ℕ × MatcherText). P q.0) (number, m) (numbered number ms) fine (numbers_of P number ms fine)
+
+pub numbers_fit : (top first : ℕ) (nodes : List (Node Route)) → first + length nodes ≤ top → All (λ (q : ℕ × MatcherText). q.0 < top) (questions_from first nodes)
+numbers_fit top first [] h = All-nil (λ (q : ℕ × MatcherText). q.0 < top)
+numbers_fit top first (node ∷ nodes) h =
+    All-append (λ (q : ℕ × MatcherText). q.0 < top) (numbered first node.item.matchers) (questions_from (first + 1) nodes)
+    (numbers_of (λ n. n < top) first node.item.matchers (omega (arith, h)))
+    (numbers_fit top (first + 1) nodes (omega (arith, h)))
+
+-- the matchers are those of the routes
+module _ (P : MatcherText → Type 0) where
+  matchers_of : (number : ℕ) (matchers : List MatcherText) → ((m : MatcherText) → Contains matchers m → P m) → All (λ (q : ℕ × MatcherText). P q.1) (numbered number matchers)
+  matchers_of number [] fine = All-nil (λ (q : ℕ × MatcherText). P q.1)
+  matchers_of number (m ∷ ms) fine =
+      All-cons (λ (q : ℕ × MatcherText). P q.1) (number, m) (numbered number ms) (fine m (0, omega arith, refl))
+      (matchers_of number ms (λ other at. fine other (in_back (m ∷ []) ms other at)))
+
+  pub matchers_fit : (first : ℕ) (nodes : List (Node Route)) → ((m : MatcherText) → Contains (route_matchers nodes) m → P m) →
+      All (λ (q : ℕ × MatcherText). P q.1) (questions_from first nodes)
+  matchers_fit first [] fine = All-nil (λ (q : ℕ × MatcherText). P q.1)
+  matchers_fit first (node ∷ nodes) fine =
+      All-append (λ (q : ℕ × MatcherText). P q.1) (numbered first node.item.matchers) (questions_from (first + 1) nodes)
+      (matchers_of first node.item.matchers (λ m at. fine m (in_front node.item.matchers (route_matchers nodes) m at)))
+      (matchers_fit (first + 1) nodes (λ m at. fine m (in_back node.item.matchers (route_matchers nodes) m at)))
+
+-- ---- what they answer
+
+-- a matcher that counts for a route
+abbrev counts : ℕ → List Label → ℕ × MatcherText → Bool
+counts number labels q = not (q.0 == number) || takes_labels q.1 labels
+
+pub and_true : (b : Bool) → (b && true) ≡ b
+and_true true = refl
+and_true false = refl
+
+module _ (labels : List Label) where
+  own_answer : (number : ℕ) (ms : List MatcherText) → list_all (counts number labels) (numbered number ms) ≡ list_all (λ m. takes_labels m labels) ms
+  own_answer number [] = refl
+  own_answer number (m ∷ ms) = rw (eq-eqb number number refl, own_answer number ms) refl
+
+  other_answer : (number other : ℕ) → other ≢ number → (ms : List MatcherText) → list_all (counts number labels) (numbered other ms) ≡ true
+  other_answer number other apart [] = refl
+  other_answer number other apart (m ∷ ms) = rw (ne_eqb other number apart, other_answer number other apart ms) refl
+
+  later_answer : (number first : ℕ) (nodes : List (Node Route)) → number < first → list_all (counts number labels) (questions_from first nodes) ≡ true
+  later_answer number first [] below = refl
+  later_answer number first (node ∷ nodes) below =
+      list_all-append (counts number labels) (numbered first node.item.matchers) (questions_from (first + 1) nodes)
+      ∙ ap (λ b. b && list_all (counts number labels) (questions_from (first + 1) nodes)) (other_answer number first (omega (arith, below)) node.item.matchers)
+      ∙ later_answer number (first + 1) nodes (omega (arith, below))
+
+  -- a route's answer is that of its matchers among all
+  pub answer_from : (first i number : ℕ) (nodes : List (Node Route)) (other : Node Route) → number ≡ first + i → i < length nodes →
+      answer_of (questions_from first nodes) number labels ≡ route_takes (get_or nodes i other).item labels
+  answer_from first i number [] other is below = absurd (omega arith)
+  answer_from first zero number (node ∷ nodes) other is below =
+      let same : number ≡ first = omega (arith, is) in
+      list_all-append (counts number labels) (numbered first node.item.matchers) (questions_from (first + 1) nodes)
+      ∙ ap (λ b. list_all (counts number labels) (numbered first node.item.matchers) && b) (later_answer number (first + 1) nodes (omega (arith, is)))
+      ∙ and_true (list_all (counts number labels) (numbered first node.item.matchers))
+      ∙ ap (λ n. list_all (counts n labels) (numbered first node.item.matchers)) same
+      ∙ own_answer first node.item.matchers
+  answer_from first (suc i) number (node ∷ nodes) other is below =
+      list_all-append (counts number labels) (numbered first node.item.matchers) (questions_from (first + 1) nodes)
+      ∙ ap (λ b. b && list_all (counts number labels) (questions_from (first + 1) nodes)) (other_answer number first (omega (arith, is)) node.item.matchers)
+      ∙ answer_from (first + 1) i number nodes other (omega (arith, is)) (omega (arith, below))
+
+-- the order doesn't matter
+pub all_in_any_order : {A : Type 0} (test : A → Bool) (xs ys : List A) → IsPermutation xs ys → list_all test ys ≡ list_all test xs
+all_in_any_order test xs ys same =
+    elim (cases_Bool (list_all test xs)) [
+      | inl all ↦ list_all-from_AllPass test ys (All-permutation (λ x. test x ≡ true) xs ys same (AllPass-from_list_all test xs all)) ∙ sym all
+      | inr some ↦ elim (cases_Bool (list_all test ys)) [
+        | inl all ↦ all ∙ sym (list_all-from_AllPass test xs
+            (All-permutation (λ x. test x ≡ true) ys xs (IsPermutation-sym xs ys same) (AllPass-from_list_all test ys all)))
+        | inr none ↦ none ∙ sym some
+      ]
+    ]
+
+-- those of the next route
+pub questions_at : (nodes : List (Node Route)) (number : ℕ) (node : Node Route) → number < length nodes → node ≡ get_or nodes number node →
+    questions_from 0 (take number nodes) ++ numbered number node.item.matchers ≡ questions_from 0 (take (number + 1) nodes)
+questions_at nodes number node within is =
+    let long : 0 + length (take number nodes) ≡ number = omega (arith, length-take number nodes, within) in
+    sym
+    (ap (questions_from 0) (take_more nodes number node within ∙ ap (λ n. take number nodes ++ n ∷ []) (sym is))
+    ∙ questions_more 0 (take number nodes) node
+    ∙ ap (λ n. questions_from 0 (take number nodes) ++ numbered n node.item.matchers) long)
+
+-- the questions are about matchers of the routes
+pub among_routes : (nodes : List (Node Route)) (qs : List (ℕ × MatcherText)) → IsPermutation (questions_from 0 nodes) qs →
+    AreAmong (map (λ (q : ℕ × MatcherText). q.1) qs) (route_matchers nodes)
+among_routes nodes qs same m at =
+    All-contains (Contains (route_matchers nodes)) (map (λ (q : ℕ × MatcherText). q.1) qs) m
+    (All-map (Contains (route_matchers nodes)) (λ (q : ℕ × MatcherText). q.1) qs
+    (All-permutation (λ (q : ℕ × MatcherText). Contains (route_matchers nodes) q.1) (questions_from 0 nodes) qs same
+    (matchers_fit (Contains (route_matchers nodes)) 0 nodes (λ other there. there))))
+    at
+
+-- and about routes
+pub among_numbers : (nodes : List (Node Route)) (qs : List (ℕ × MatcherText)) (count : ℕ) → IsPermutation (questions_from 0 nodes) qs → count ≡ length nodes →
+    All (λ (q : ℕ × MatcherText). q.0 < count) qs
+among_numbers nodes qs count same is =
+    All-permutation (λ (q : ℕ × MatcherText). q.0 < count) (questions_from 0 nodes) qs same (numbers_fit count 0 nodes (omega (arith, is)))

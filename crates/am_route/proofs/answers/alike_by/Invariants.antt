@@ -1,0 +1,7 @@
+use Rattle.std.proofs.Common.{map}
+use Rattle.am_route.proofs.TableLemmas.{AreFirsts, AreAlikeSoFar}
+use Rattle.am_route.proofs.answers.alike_by.Given as goal
+
+abbrev pub invariant-loop-place : goal.invariant-loop-place
+invariant-loop-place l =
+    AreFirsts l.name (map (λ set. set.now) l.sets) l.firsts × AreAlikeSoFar l.name (map (λ set. set.now) l.sets) l.place l.places.items

@@ -1,0 +1,12 @@
+use Rattle.std.proofs.Common.{◌++◌, List, ℕ, ◌∙◌, ap, map}
+use Rattle.sqlite.specs.Order.{Row, bytes, column}
+use Rattle.am_store.proofs.Named.{all_named}
+use Rattle.am_store.proofs.tenants.tenants.Goals as goal
+
+pub returns-clause-names : goal.returns-clause-names
+returns-clause-names g c clean store t =
+    let name : Row → List ℕ = λ r. bytes (column r 0) in
+    let cs = c.in_ok-configs.configs.items in
+    let ss = c.in_ok-configs.silences.items in
+    let are = (rw c.deref-2.ensures.value at c.in_ok-push_names-2.ensures) ∙ ap (λ xs. xs ++ map name ss) ((rw c.deref.ensures.value at c.in_ok-push_names.ensures) ∙ ap (λ xs. xs ++ map name cs) c.new-names.ensures.items) in
+    c.in_ok-sort.ensures.same t ∙ all_named t c.push_names-2.new.names.items cs ss are ∙ c.in_ok-configs.ensures.names clean store t

@@ -1,0 +1,20 @@
+//! How what a store has of a tenant goes with the best of the items that were put: laws, which no program needs to
+//! call.
+
+ghost use Rattle.std.specs.Prelude.{◌≡◌, ℕ, List, []};
+ghost use Rattle.am_item.specs.Best.{IsRising, all_joined, best};
+ghost use Rattle.am_item.specs.declared.item.Item.{Item};
+ghost use Rattle.am_share.specs.Pairs.{Drops};
+ghost use Rattle.am_store.specs.Best.{Holds};
+ghost use Rattle.am_store.specs.Stored.{Puts, Stored, stored_items};
+
+/// What a store has of a tenant under each key is the best of the items that were put since the tenant was last
+/// dropped: a drop leaves what the empty list has, and what is put joins the list.
+pub fn rows_are_the_best()
+    ensures dropped { (tenant : List ℕ) (old new : List (List ℕ × Stored)) → Drops tenant old new
+        → Holds tenant [] new }
+    ensures put { (tenant : List ℕ) (held items : List Item) (old new : List (List ℕ × Stored)) → IsRising held
+        → Holds tenant held old → Puts tenant (stored_items items) old new → Holds tenant (all_joined held items) new }
+    ensures best { (tenant : List ℕ) (items : List Item) (old new : List (List ℕ × Stored)) → Holds tenant [] old
+        → Puts tenant (stored_items items) old new → Holds tenant (best items) new }
+{}

@@ -1,0 +1,69 @@
+-- patterns that were refused a build, and what that leaves of others
+use Rattle.std.proofs.Common.{◌≡◌, ◌∙◌, ◌||◌, ℕ, Bool, true, false, List, [], ◌∷◌, ◌++◌, All, refl, sym, ap}
+use Rattle.std.specs.Str.{bytes_eq}
+use Rattle.std.proofs.lemmas.Grind.{flat_map-append}
+use Rattle.std.proofs.lemmas.List.{append-nil, append_assoc}
+use Rattle.std.proofs.lemmas.List.Elements.{All-cons, All-contains, All-head, All-nil, All-tail, All-weaker}
+use Rattle.std.proofs.lemmas.List.Folds.{list_any-append}
+use Rattle.am_api.specs.Patterns.{HasRefused}
+use Rattle.am_match.specs.Checking.{AreRefusedRightly}
+use Rattle.am_pattern.specs.Refused.{IsRefusedRightly, has_text}
+use Rattle.am_world.specs.declared.instance.Instance.{Instance}
+use Rattle.am_world.specs.Places.{AreBuilt, HasMore, KeepRefused, refused_at}
+use Rattle.am_world.specs.PrivateCluster.{Happening, patterns_brought, patterns_in}
+
+-- ---- what grows
+
+pub more_then : (xs ys zs : List (List ℕ)) → HasMore xs ys → HasMore ys zs → HasMore xs zs
+more_then xs ys zs (first, is) (next, then) = (first ++ next, then ∙ ap (λ l. l ++ next) is ∙ append_assoc xs first next)
+
+pub more_nothing : (xs ys : List (List ℕ)) → ys ≡ xs → HasMore xs ys
+more_nothing xs ys e = ([], e ∙ sym (append-nil xs))
+
+pub keep_then : (xs ys zs : List Instance) → KeepRefused xs ys → KeepRefused ys zs → KeepRefused xs zs
+keep_then xs ys zs first next i = more_then _ _ _ (first i) (next i)
+
+pub keep_same : (xs ys : List Instance) → ((i : ℕ) → refused_at i ys ≡ refused_at i xs) → KeepRefused xs ys
+keep_same xs ys same i = more_nothing _ _ (same i)
+
+pub keep_equal : (xs ys : List Instance) → ys ≡ xs → KeepRefused xs ys
+keep_equal xs ys e = keep_same xs ys (λ i. ap (refused_at i) e)
+
+-- ---- what was built
+
+left_any : (a b : Bool) → a ≡ true → (a || b) ≡ true
+left_any true b e = refl
+left_any false b e = cc
+
+rightly_before : (old new : List (List ℕ)) (p : List ℕ) → HasMore old new → IsRefusedRightly new p → IsRefusedRightly old p
+rightly_before old new p (more, is) rightly found =
+    rightly (ap (λ texts. has_text texts p) is ∙ list_any-append (bytes_eq p) old more ∙ left_any _ _ found)
+
+all_before : (old new : List (List ℕ)) (texts : List (List ℕ)) → HasMore old new → AreRefusedRightly new texts → AreRefusedRightly old texts
+all_before old new texts more rightly =
+    All-weaker (IsRefusedRightly new) (IsRefusedRightly old) (λ p. rightly_before old new p more) texts rightly
+
+-- what was not refused by the end was not refused before
+pub built_before : (xs ys : List Instance) (texts : List (List ℕ)) → KeepRefused xs ys → AreBuilt (λ i. refused_at i ys) texts →
+    AreBuilt (λ i. refused_at i xs) texts
+built_before xs ys texts keep built i = all_before _ _ texts (keep i) (built i)
+
+all_split : (P : List ℕ → Type 0) (xs ys : List (List ℕ)) → All P (xs ++ ys) → All P xs × All P ys
+all_split P [] ys all = (All-nil P, all)
+all_split P (x ∷ xs) ys all =
+    let both = all_split P xs ys (All-tail P x (xs ++ ys) all) in
+    (All-cons P x xs (All-head P x (xs ++ ys) all) both.0, both.1)
+
+-- the patterns of happenings are those of the first and those of the others
+pub built_parts : (refused : ℕ → List (List ℕ)) (first rest : List Happening) → AreBuilt refused (patterns_in (first ++ rest)) →
+    AreBuilt refused (patterns_in first) × AreBuilt refused (patterns_in rest)
+built_parts refused first rest built = (λ i. (both i).0, λ i. (both i).1)
+  where
+    both : (i : ℕ) → AreRefusedRightly (refused i) (patterns_in first) × AreRefusedRightly (refused i) (patterns_in rest)
+    both i = all_split (IsRefusedRightly (refused i)) (patterns_in first) (patterns_in rest)
+        (rw (flat_map-append patterns_brought first rest) at (built i))
+
+-- patterns of which none was refused a build have none that was
+pub none_refused : (refused texts : List (List ℕ)) → AreRefusedRightly refused texts → HasRefused refused texts → ⊥
+none_refused refused texts rightly (text, (among, (is_pattern, found))) =
+    All-contains (IsRefusedRightly refused) texts text rightly among found is_pattern

@@ -1,0 +1,114 @@
+-- what was decided on a request, as the instance sees it
+use Rattle.std.proofs.Common.{◌≡◌, ◌⊎◌, inl, inr, ◌∙◌, ℕ, ◌+◌, ◌<◌, ◌≤◌, Bool, true, List, [], ◌∷◌, ◌++◌, length, Result, Ok, Err, IfOk, IfErr, refl, sym, ap, arith}
+use Rattle.am_alert.specs.Made.{counts_fit, greatest_count}
+use Rattle.am_alert.specs.declared.maker.Maker.{Maker}
+use Rattle.am_api.specs.Deciding.{DecidesUnless, IsUnbuilt, decision_of}
+use Rattle.am_api.specs.Decision.{Decision, decided}
+use Rattle.am_api.specs.Patterns.{patterns_of_request, patterns_of_routes}
+use Rattle.am_api.specs.declared.decision.Decided.{Decided}
+use Rattle.am_api.proofs.Counts.{room}
+use Rattle.am_config.specs.Configuration.{Configuration}
+use Rattle.am_current.specs.Current.{configuration_in}
+use Rattle.am_http.specs.declared.request.Request.{Request}
+use Rattle.am_item.specs.declared.fault.Fault.{Fault}
+use Rattle.am_item.specs.declared.fault.Fault.TheVariants.{CountsExhausted, OutOfMemory, PatternNotBuilt}
+use Rattle.am_item.specs.declared.item.Item.{Item}
+use Rattle.std.proofs.lemmas.List.{append-nil}
+use Rattle.am_http.specs.Replies.{ready_reply}
+use Rattle.am_http.specs.declared.refusal.FrontRefusal.{FrontRefusal}
+use Rattle.am_http.specs.declared.request.Fed.TheVariants as fed
+use Rattle.am_limit.specs.declared.limits.Limits.{Limits}
+use Rattle.am_world.specs.declared.event.Output.{Output}
+use Rattle.am_world.specs.declared.event.Output.TheVariants.{Reply}
+use Rattle.am_world.specs.declared.instance.Instance.{Instance}
+use Rattle.am_world.specs.Places.{here_of, local_in}
+use Rattle.am_world.specs.Reaction.{Here, Local, MayDecide, StopsFor, decision_at, maker, refusal_reply}
+use Rattle.am_world.specs.Taking.{Brings}
+
+-- a refusal for a pattern has no items
+no_items : (d : Decision) → IsUnbuilt d → d.items ≡ []
+no_items d (inl e) = ap (λ (x : Decision). x.items) e
+no_items d (inr (inl e)) = ap (λ (x : Decision). x.items) e
+no_items d (inr (inr e)) = ap (λ (x : Decision). x.items) e
+
+-- what was returned for a request of a tenant of whom the instance has this
+abbrev pub Returns : List (List ℕ) → Result Decided Fault → Request → Here → Local → Type 0
+Returns refused result request here local =
+    DecidesUnless refused (patterns_of_request request) (patterns_of_routes (configuration_in local.held).routes) result (decision_at here request local)
+
+pub returned_at : (refused : List (List ℕ)) (result : Result Decided Fault) (request : Request) (here : Here) (local : Local) (held : List Item)
+    (config : Configuration) (used : ℕ) → held ≡ local.held → config ≡ configuration_in local.held → used ≡ local.ledger.stamps →
+    DecidesUnless refused (patterns_of_request request) (patterns_of_routes config.routes) result
+    (decided request held here.limits here.moment (record { instance = here.instance; incarnation = here.incarnation; used = used })) →
+    Returns refused result request here local
+unfolding decision_at
+returned_at refused result request here local held config used held_is config_is used_is returned = rw (held_is, config_is, used_is) at returned
+
+pub may_decide : (refused : List (List ℕ)) (result : Result Decided Fault) (request : Request) (here : Here) (local : Local) →
+    Returns refused result request here local → IfOk result (λ d. MayDecide refused request (decision_at here request local) (decision_of d))
+may_decide refused (Ok d) request here local (inl right) = inl right.0
+may_decide refused (Ok d) request here local (inr unbuilt) = inr unbuilt
+may_decide refused (Err fault) request here local returned = tt
+
+pub items_fit : (refused : List (List ℕ)) (result : Result Decided Fault) (request : Request) (here : Here) (local : Local) →
+    Returns refused result request here local → IfOk result (λ d. counts_fit d.items.items ≡ true)
+items_fit refused (Ok d) request here local (inl right) = ap (λ (x : Decision). counts_fit x.items) right.0 ∙ right.1
+items_fit refused (Ok d) request here local (inr unbuilt) = ap counts_fit (no_items (decision_of d) unbuilt.0)
+items_fit refused (Err fault) request here local returned = tt
+
+pub items_have_room : (refused : List (List ℕ)) (result : Result Decided Fault) (request : Request) (here : Here) (local : Local) →
+    Returns refused result request here local →
+    IfOk result (λ d. 0 < length d.items.items → local.ledger.stamps + length d.items.items ≤ greatest_count)
+unfolding decision_at
+items_have_room refused (Ok d) request here local (inl right) = λ some.
+    let items = ap (λ (x : Decision). x.items) right.0 in
+    rw items (room request local.held here.limits here.moment (maker here local.ledger) right.1 (rw items at some))
+items_have_room refused (Ok d) request here local (inr unbuilt) = λ some.
+    let none = no_items (decision_of d) unbuilt.0 in
+    let never : 0 < 0 = rw none at some in absurd (omega arith)
+items_have_room refused (Err fault) request here local returned = tt
+
+pub stops_for : (refused : List (List ℕ)) (result : Result Decided Fault) (request : Request) (here : Here) (local : Local) →
+    Returns refused result request here local → IfErr result (λ fault. StopsFor fault request here local refused)
+stops_for refused (Ok d) request here local returned = tt
+stops_for refused (Err OutOfMemory) request here local returned = tt
+stops_for refused (Err CountsExhausted) request here local returned = returned
+stops_for refused (Err PatternNotBuilt) request here local returned = returned
+
+-- ---- what bytes that are no request of a tenant bring
+
+-- where nothing is asked, any decision will do
+abbrev any_decision : (m : ℕ) (limits : List ℕ → Limits) (x : Instance) → Request → Decision
+any_decision m limits x r = decision_at (here_of x m (limits r.tenant)) r (local_in r.tenant x)
+
+pub brings_waits : (c m : ℕ) (limits : List ℕ → Limits) (x x' : Instance) (outs : List Output) →
+    ((t : List ℕ) → local_in t x' ≡ local_in t x) → Brings fed.Waits c m limits x x' outs outs
+brings_waits c m limits x x' outs local = record {
+  decide = any_decision m limits x;
+  decided = λ r is. inl refl;
+  outputs = sym (append-nil outs);
+  fits = refl;
+  local = local;
+}
+
+pub brings_refused : (reason : FrontRefusal) (c m : ℕ) (limits : List ℕ → Limits) (x x' : Instance) (outs outs' : List Output) →
+    outs' ≡ outs ++ Reply c (refusal_reply reason) ∷ [] → ((t : List ℕ) → local_in t x' ≡ local_in t x) →
+    Brings (fed.Refused reason) c m limits x x' outs outs'
+brings_refused reason c m limits x x' outs outs' said local = record {
+  decide = any_decision m limits x;
+  decided = λ r is. inl refl;
+  outputs = said;
+  fits = refl;
+  local = local;
+}
+
+pub brings_ready : (c m : ℕ) (limits : List ℕ → Limits) (x x' : Instance) (outs outs' : List Output) →
+    outs' ≡ outs ++ Reply c ready_reply ∷ [] → ((t : List ℕ) → local_in t x' ≡ local_in t x) →
+    Brings fed.Ready c m limits x x' outs outs'
+brings_ready c m limits x x' outs outs' said local = record {
+  decide = any_decision m limits x;
+  decided = λ r is. inl refl;
+  outputs = said;
+  fits = refl;
+  local = local;
+}
