@@ -1,10 +1,11 @@
 -- How the label sets that are taken become fewer, matcher by matcher.
-use Rattle.std.proofs.Common.{◌≡◌, ℕ, zero, suc, ◌+◌, ◌<◌, ◌≤◌, List, [], ◌∷◌, All, Bool, true, false, ◌&&◌, map, take, length, get_or, slice_index_or, slice_set, replicate, refl, sym, ap, ◌∙◌, inl, inr, arith}
+use Rattle.std.proofs.Common.{◌≡◌, ℕ, zero, suc, ◌+◌, ◌<◌, ◌≤◌, List, [], ◌∷◌, All, Bool, true, false, ◌&&◌, filter, map, take, zip, length, get_or, slice_index_or, replicate, refl, sym, ap, ◌∙◌, inl, inr, arith}
 use Rattle.std.specs.List.{Contains}
 use Rattle.std.proofs.lemmas.Bool.{cases_Bool}
 use Rattle.std.proofs.lemmas.List.Elements.{All-head, All-tail}
 use Rattle.std.proofs.lemmas.List.Folds.{list_all_more}
 use Rattle.am_labels.specs.declared.Label.{Label}
+use Rattle.am_labels.specs.Sets.{value_of}
 use Rattle.am_text.specs.declared.failure.Failure.{Failure}
 use Rattle.am_text.specs.declared.failure.Failure.TheVariants.{Refused, OutOfMemory}
 use Rattle.am_pattern.specs.Asking.{Stays}
@@ -13,60 +14,61 @@ use Rattle.am_pattern.specs.Refused.{noted, IsRefusedRightly}
 use Rattle.am_pattern.specs.Taking.{IsPattern}
 use Rattle.am_pattern.specs.declared.refusal.PatternRefusal.{PatternRefusal}
 use Rattle.am_pattern.proofs.AskingLemmas.{refused-rightly, stays-trans}
-use Rattle.am_match.specs.Asking.{IsFailureOf, IsFailureAmong, narrowed}
+use Rattle.am_match.specs.Asking.{IsFailureOf, IsFailureAmong, answered, narrowed, narrowed_by}
 use Rattle.am_match.specs.Checking.{AreRefusedRightly}
 use Rattle.am_match.specs.Matchers.{MatcherText, patterns_of, is_on_pattern}
-use Rattle.am_match.specs.Meaning.{takes_labels, all_take}
+use Rattle.am_match.specs.Meaning.{all_take, passes, takes_labels}
 
 -- ---- one matcher
 
-module _ {A : Type 0} (test : A → Bool) where
-  -- the flags of things once the first so many of them were asked
-  abbrev pub partly : ℕ → List A → List Bool → List Bool
-  partly zero xs flags = flags
-  partly (suc n) [] flags = flags
-  partly (suc n) (x ∷ xs) [] = []
-  partly (suc n) (x ∷ xs) (b ∷ flags) = (b && test x) ∷ partly n xs flags
+-- flags that get their answers are those of the values that pass
+pub answered-narrowed : {A : Type 0} (m : MatcherText) (view : A → List ℕ) (xs : List A) (flags : List Bool) → length flags ≡ length xs →
+    answered flags (map (λ x. passes m.operator m.value (view x)) (map (λ (pair : A × Bool). pair.0) (filter (λ (pair : A × Bool). pair.1) (zip xs flags))))
+    ≡ narrowed_by m (map view xs) flags
+answered-narrowed m view [] [] each = refl
+answered-narrowed m view [] (flag ∷ flags) each = absurd (omega (arith, each))
+answered-narrowed m view (x ∷ xs) [] each = absurd (omega (arith, each))
+answered-narrowed m view (x ∷ xs) (true ∷ flags) each =
+    ap (λ rest. passes m.operator m.value (view x) ∷ rest) (answered-narrowed m view xs flags (omega (arith, each)))
+answered-narrowed m view (x ∷ xs) (false ∷ flags) each =
+    ap (λ rest. false ∷ rest) (answered-narrowed m view xs flags (omega (arith, each)))
 
-  -- no flag goes
-  pub length-partly : (n : ℕ) (xs : List A) (flags : List Bool) → length (partly n xs flags) ≡ length flags
-  length-partly zero xs flags = refl
-  length-partly (suc n) [] flags = refl
-  length-partly (suc n) (x ∷ xs) [] = refl
-  length-partly (suc n) (x ∷ xs) (b ∷ flags) = ap suc (length-partly n xs flags)
+-- of the values of the matcher's label it is the label sets that are narrowed
+pub narrowed-values : {A : Type 0} (m : MatcherText) (view : A → List Label) (xs : List A) (flags : List Bool) →
+    narrowed_by m (map (λ x. value_of m.name (view x)) xs) flags ≡ narrowed m (map view xs) flags
+narrowed-values m view [] flags = refl
+narrowed-values m view (x ∷ xs) [] = refl
+narrowed-values m view (x ∷ xs) (flag ∷ flags) =
+    ap (λ rest. (flag && takes_labels m (view x)) ∷ rest) (narrowed-values m view xs flags)
 
-  -- the next thing wasn't taken before
-  pub partly-same : (n : ℕ) (xs : List A) (flags : List Bool) (b : Bool) → n < length xs → n < length flags →
-      b ≡ slice_index_or (partly n xs flags) n b → b ≡ false → partly n xs flags ≡ partly (suc n) xs flags
-  partly-same n [] flags b in_things in_flags flag not_taken = absurd (omega arith)
-  partly-same n (y ∷ xs) [] b in_things in_flags flag not_taken = absurd (omega arith)
-  partly-same zero (y ∷ xs) (f ∷ flags) b in_things in_flags flag not_taken =
-      let off : f ≡ false = sym flag ∙ not_taken in rw off
-  partly-same (suc n) (y ∷ xs) (f ∷ flags) b in_things in_flags flag not_taken =
-      ap (λ rest. (f && test y) ∷ rest) (partly-same n xs flags b (omega arith) (omega arith) flag not_taken)
+-- no flag goes
+pub length-narrowed : (m : MatcherText) (values : List (List ℕ)) (flags : List Bool) → length flags ≡ length values →
+    length (narrowed_by m values flags) ≡ length flags
+length-narrowed m [] [] each = refl
+length-narrowed m [] (flag ∷ flags) each = absurd (omega (arith, each))
+length-narrowed m (value ∷ values) [] each = absurd (omega (arith, each))
+length-narrowed m (value ∷ values) (flag ∷ flags) each = ap suc (length-narrowed m values flags (omega (arith, each)))
 
-  -- the next thing was taken before, and now as the test says
-  pub partly-set : (n : ℕ) (xs : List A) (flags : List Bool) (x : A) (b : Bool) → n < length xs → n < length flags →
-      x ≡ get_or xs n x → b ≡ slice_index_or (partly n xs flags) n b → b ≡ true →
-      slice_set (partly n xs flags) n (test x) ≡ partly (suc n) xs flags
-  partly-set n [] flags x b in_things in_flags here flag was_taken = absurd (omega arith)
-  partly-set n (y ∷ xs) [] x b in_things in_flags here flag was_taken = absurd (omega arith)
-  partly-set zero (y ∷ xs) (f ∷ flags) x b in_things in_flags here flag was_taken =
-      let on : f ≡ true = sym flag ∙ was_taken in rw (on, ← here)
-  partly-set (suc n) (y ∷ xs) (f ∷ flags) x b in_things in_flags here flag was_taken =
-      ap (λ rest. (f && test y) ∷ rest) (partly-set n xs flags x b (omega arith) (omega arith) here flag was_taken)
+-- ---- how many patterns are asked for
 
--- once all were asked
-pub partly-all : {A : Type 0} (m : MatcherText) (view : A → List Label) (n : ℕ) (xs : List A) (flags : List Bool) →
-    length flags ≡ length xs → length xs ≤ n →
-    partly (λ x. takes_labels m (view x)) n xs flags ≡ narrowed m (map view xs) flags
-partly-all m view zero [] [] same all = refl
-partly-all m view (suc n) [] [] same all = refl
-partly-all m view n [] (b ∷ flags) same all = absurd (omega arith)
-partly-all m view n (x ∷ xs) [] same all = absurd (omega arith)
-partly-all m view zero (x ∷ xs) (b ∷ flags) same all = absurd (omega arith)
-partly-all m view (suc n) (x ∷ xs) (b ∷ flags) same all =
-    ap (λ rest. (b && takes_labels m (view x)) ∷ rest) (partly-all m view n xs flags (omega (arith, same)) (omega (arith, all)))
+-- of one matcher more
+pub patterns-more : (ms : List MatcherText) (i : ℕ) (m : MatcherText) → i < length ms → m ≡ get_or ms i m →
+    length (patterns_of (take (i + 1) ms)) ≡ length (patterns_of (take i ms)) + length (patterns_of (m ∷ []))
+patterns-more [] i m within is = absurd (omega (arith, within))
+patterns-more (n ∷ ms) zero m within is = rw (← is) (omega arith)
+patterns-more (n ∷ ms) (suc i) m within is =
+    let more = patterns-more ms i m (omega (arith, within)) is in
+    let next : suc i + 1 ≡ suc (i + 1) = omega arith in
+    ap (λ k. length (patterns_of (take k (n ∷ ms)))) next
+    ∙ elim (cases_Bool (is_on_pattern n.operator)) [ inl on ↦ rw on (omega (arith, more)) | inr off ↦ rw off more ]
+
+-- of some of them, no more than of all
+pub patterns-some : (ms : List MatcherText) (i : ℕ) → length (patterns_of (take i ms)) ≤ length (patterns_of ms)
+patterns-some ms zero = omega arith
+patterns-some [] (suc i) = omega arith
+patterns-some (n ∷ ms) (suc i) =
+    let some = patterns-some ms i in
+    elim (cases_Bool (is_on_pattern n.operator)) [ inl on ↦ rw on (omega (arith, some)) | inr off ↦ rw off some ]
 
 -- ---- one matcher after another
 

@@ -15,7 +15,7 @@ mod refusal;
 mod spelling;
 mod taking;
 
-pub use asking::taken_by_all;
+pub use asking::{narrow, taken_by_all, values_of};
 pub use checking::{check_pattern, check_patterns, read_matchers, reread_matchers};
 pub use matcher::{Matcher, Operator};
 pub use printing::print_matchers;

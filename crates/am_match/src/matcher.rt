@@ -1,12 +1,13 @@
-ghost use Rattle.std.specs.Prelude.{◌≡◌, IfOk, IfErr, IsTrue, SomeIff, IsUtf8};
+ghost use Rattle.std.specs.Prelude.{◌≡◌, ◌+◌, ◌≤◌, ◌∷◌, [], IfOk, IfErr, IsTrue, SomeIff, IsUtf8, length, map, not};
+ghost use Rattle.std.specs.Str.{bytes_eq};
 ghost use Rattle.am_labels.specs.Labels.{is_label_name};
 ghost use Rattle.am_text.specs.Outcome.{Gives};
 ghost use Rattle.am_pattern.specs.Asking.{Asked};
 ghost use Rattle.am_pattern.specs.Refused.{IsRefusedRightly};
 ghost use Rattle.am_pattern.specs.Taking.{IsPattern};
 ghost use Rattle.am_match.specs.Asking.{IsFailureOf};
-ghost use Rattle.am_match.specs.Matchers.{is_on_pattern};
-ghost use Rattle.am_match.specs.Meaning.{takes_labels, taking_of};
+ghost use Rattle.am_match.specs.Matchers.{is_on_pattern, patterns_of};
+ghost use Rattle.am_match.specs.Meaning.{passes, takes_labels, taking_of};
 
 use am_labels::{LabelSet, is_label_name};
 use am_pattern::{PatternCache, PatternRefusal};
@@ -128,6 +129,36 @@ impl Matcher {
         }
     }
 
+    /// For each of the values whether it meets the condition, as a value of the label. Where there are none the pattern
+    /// isn't asked for, else once.
+    pub(crate) fn passes_each(
+        &self,
+        alloc: Global,
+        values: &[&str],
+        cache: &mut PatternCache,
+    ) -> Result<Vec<bool>, Failure<PatternRefusal>>
+        ensures values { IfOk result (λ v. v.items ≡ map (λ value. passes self.now.operator self.now.value value.now) values.now) }
+        ensures asked { Asked result cache.old cache.new }
+        ensures misses { cache.new.misses ≤ cache.old.misses + length (patterns_of (self.now ∷ [])) }
+        ensures failure { IfErr result (IsFailureOf self.now cache.old cache.new) }
+    {
+        if values.is_empty() {
+            return Ok(Vec::new(alloc));
+        }
+        match self.operator {
+            Operator::Equal => Ok(are_equal(alloc, self.value(), values)?),
+            Operator::NotEqual => {
+                let equal = are_equal(alloc, self.value(), values)?;
+                Ok(turned(alloc, &equal)?)
+            }
+            Operator::Match => cache.answer_each(alloc, self.value(), values),
+            Operator::NotMatch => {
+                let taken = cache.answer_each(alloc, self.value(), values)?;
+                Ok(turned(alloc, &taken)?)
+            }
+        }
+    }
+
     /// An equal matcher.
     pub fn copy(&self, alloc: Global) -> Result<Matcher, AllocError>
         ensures { IfOk result (λ m. m ≡ self.now) }
@@ -138,4 +169,18 @@ impl Matcher {
             value: self.value.copy(alloc)?,
         })
     }
+}
+
+// For each of the values whether it is the wanted one.
+fn are_equal(alloc: Global, wanted: &str, values: &[&str]) -> Result<Vec<bool>, AllocError>
+    ensures { IfOk result (λ v. v.items ≡ map (λ value. bytes_eq wanted.now value.now) values.now) }
+{
+    values.iter().map(|value| wanted == *value).collect(alloc)
+}
+
+// The flags, each turned.
+fn turned(alloc: Global, flags: &[bool]) -> Result<Vec<bool>, AllocError>
+    ensures { IfOk result (λ v. v.items ≡ map not flags.now) }
+{
+    flags.iter().map(|flag| !*flag).collect(alloc)
 }

@@ -224,7 +224,7 @@ fn labels_are_matched(rt: HostRuntime) -> Result<(), Fail> {
     let expected = [false, true, true, true, true, false, false];
     let repeated = longer(rt.alloc(), "", '+', 250)?;
     // Where another tenant's patterns were refused before, each for its depth, the answers are the same.
-    for refused_before in [0, 4] {
+    for refused_before in [0, 1000] {
         let mut cache = PatternCache::new(rt.alloc(), 2, [7; 16])?;
         for n in 0..refused_before {
             let pattern = format!(in rt.alloc(); "{n}{repeated}")?;
@@ -247,16 +247,19 @@ fn label_sets_are_asked_together(rt: HostRuntime) -> Result<(), Fail> {
         labels(rt.alloc(), Some(("a", "a")))?,
     ];
     let sets = [&sets[0], &sets[1], &sets[2], &sets[3]];
+    // With how many patterns are built, where the cache keeps the last that was read.
     let rows = [
-        ("a=~\"a|ab\",a!~\"b\"", [true, false, false, true]),
-        ("a!~\"a|ab\"", [false, true, true, false]),
-        ("a!~\"\",a!=ab,c=\"\"", [false, true, false, true]),
+        ("a=~\"a|ab\",a!~\"b\"", [true, false, false, true], 2),
+        ("a!~\"a|ab\"", [false, true, true, false], 0),
+        ("a!~\"\",a!=ab,c=\"\"", [false, true, false, true], 0),
     ];
     let mut cache = cache_of_one(rt.alloc())?;
-    for (text, expected) in rows {
+    for (text, expected, built) in rows {
         let matchers = read_matchers(rt.alloc(), text, &mut cache)?;
+        let before = cache.misses();
         let taken = taken_by_all(rt.alloc(), &matchers, &sets, &mut cache)?;
         assert_eq!(rt; taken.as_slice(), expected.as_slice(), "{text}");
+        assert_eq!(rt; cache.misses().wrapping_sub(before), built, "{text}");
         assert_eq!(rt;
             taken_by_all(rt.alloc(), &matchers, &[], &mut cache)?.len(),
             0

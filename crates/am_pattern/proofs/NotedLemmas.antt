@@ -9,7 +9,7 @@ use Rattle.std.proofs.lemmas.Map.Views.{any-filter_same}
 use Rattle.std.proofs.lemmas.Slice.Eq.{bytes_eq-Decides}
 use Rattle.am_pattern.specs.Cache.{Cache}
 use Rattle.am_pattern.specs.Taking.{IsPattern, is_pattern}
-use Rattle.am_pattern.specs.Refused.{has_text, noted, patterns_among}
+use Rattle.am_pattern.specs.Refused.{has_text, noted, patterns_among, with_text}
 use Rattle.am_pattern.specs.Asking.{Grows}
 use Rattle.am_pattern.proofs.Decided.{IsPattern-from_test, test-from_IsPattern, list_any-map}
 use Rattle.std.proofs.lemmas.List.{map-append}
@@ -76,3 +76,14 @@ pub noted_inserted : {K : Type 0} (text : K → List ℕ) (ks : List K) (k : K) 
 noted_inserted text ks k p key new =
     let absent : list_any (λ y. bytes_eq p (text y)) ks ≡ false = sym (list_any-map (bytes_eq p) text ks) ∙ new in
     rw (key, absent, map-append, key) (noted_new (map text ks) p new)
+
+-- a known text leaves all that are held
+pub held_known : (raw : List (List ℕ)) (p : List ℕ) → has_text raw p ≡ true → raw ≡ with_text raw p
+held_known raw p there = rw there refl
+
+-- a key that is put to others in order is held with its text
+pub held_inserted : {K : Type 0} (text : K → List ℕ) (ks : List K) (k : K) (p : List ℕ) → text k ≡ p → has_text (map text ks) p ≡ false →
+    map text (insert_key (λ x y. bytes_eq (text x) (text y)) ks k) ≡ with_text (map text ks) p
+held_inserted text ks k p key new =
+    let absent : list_any (λ y. bytes_eq p (text y)) ks ≡ false = sym (list_any-map (bytes_eq p) text ks) ∙ new in
+    rw (key, absent, map-append, key, new) refl

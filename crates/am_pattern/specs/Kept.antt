@@ -1,20 +1,30 @@
 -- Which patterns a cache keeps built, and what they take.
-use Rattle.std.specs.Prelude.{◌≡◌, ℕ, ◌+◌, ◌^◌, ◌<◌, ◌≤◌, true, ◌∷◌, List, All, Bool, Result, Ok, Err, map, take, length}
+use Rattle.std.specs.Prelude.{◌≡◌, ℕ, ◌+◌, ◌-◌, ◌^◌, ◌<◌, ◌≤◌, true, ◌∷◌, List, All, Result, Ok, Err, map, min, take, length, if◌then◌else◌}
 use Rattle.std.specs.List.{sum_by}
 use Rattle.std.specs.Set.{remove_key}
 use Rattle.std.specs.Str.{bytes_eq}
 use Rattle.am_text.specs.declared.failure.Failure.{Failure}
 use Rattle.am_pattern.specs.declared.refusal.PatternRefusal.{PatternRefusal}
 use Rattle.am_pattern.specs.Taking.{anchored, is_shallow}
+use Rattle.am_pattern.specs.Refused.{has_text}
+use Rattle.am_pattern.specs.Cache.{Cache}
 
 -- of these texts the first `capacity`, once p was asked: p is the first, and the others follow as they stood
 abbrev pub asked_first : ℕ → List (List ℕ) → List ℕ → List (List ℕ)
 asked_first capacity texts p = take capacity (p ∷ remove_key (bytes_eq p) texts)
 
 -- the patterns that are kept after an answer: an error changes nothing
-abbrev pub kept_after : ℕ → List (List ℕ) → List ℕ → Result Bool (Failure PatternRefusal) → List (List ℕ)
+abbrev pub kept_after : {X : Type 0} → ℕ → List (List ℕ) → List ℕ → Result X (Failure PatternRefusal) → List (List ℕ)
 kept_after capacity texts p (Ok _) = asked_first capacity texts p
 kept_after capacity texts p (Err _) = texts
+
+-- the number after it, but none past 64 bits
+abbrev pub counted_on : ℕ → ℕ
+counted_on n = min (n + 1) (2 ^ 64 - 1)
+
+-- the misses after p was asked: one more where it wasn't kept
+abbrev pub misses_after : Cache → List ℕ → ℕ
+misses_after cache p = if has_text cache.kept p then cache.misses else counted_on cache.misses
 
 -- how many bytes the tables of one built pattern may take
 abbrev pub largest : ℕ

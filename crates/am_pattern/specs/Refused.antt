@@ -51,12 +51,29 @@ has_text texts p = list_any (bytes_eq p) texts
 abbrev pub patterns_among : List (List ℕ) → List (List ℕ)
 patterns_among texts = filter is_pattern texts
 
+-- the texts with one more, where it is not among them
+abbrev pub with_text : List (List ℕ) → List ℕ → List (List ℕ)
+with_text texts p = if has_text texts p then texts else texts ++ p ∷ []
+
 -- the texts with one more, where it is a pattern and not among them
 abbrev pub noted : List (List ℕ) → List ℕ → List (List ℕ)
-noted texts p = if is_pattern p then (if has_text texts p then texts else texts ++ p ∷ []) else texts
+noted texts p = if is_pattern p then with_text texts p else texts
+
+-- the texts that are held as refused once this one gave no regex: it is held unless the grammar didn't read it
+abbrev pub held_after : List (List ℕ) → List ℕ → Cause → List (List ℕ)
+held_after texts p NotRead = texts
+held_after texts p TooDeep = with_text texts p
+held_after texts p TooBig = with_text texts p
+
+-- what an answer leaves held: a pattern whose build was refused, and it may be a text that is too deep; else the same
+abbrev pub IsHeldAfter : {X : Type 0} → List (List ℕ) → List (List ℕ) → List ℕ → Result X (Failure PatternRefusal) → Type 0
+IsHeldAfter old new p (Ok _) = new ≡ old
+IsHeldAfter old new p (Err (Refused BadPattern)) = (new ≡ old) ⊎ ((new ≡ with_text old p) × (is_shallow p ≡ false))
+IsHeldAfter old new p (Err (Refused BuildRefused)) = new ≡ with_text old p
+IsHeldAfter old new p (Err OutOfMemory) = new ≡ old
 
 -- the refused texts after an answer: one more where the build was refused for another cause than memory
-abbrev pub refused_after : List (List ℕ) → List ℕ → Result Bool (Failure PatternRefusal) → List (List ℕ)
+abbrev pub refused_after : {X : Type 0} → List (List ℕ) → List ℕ → Result X (Failure PatternRefusal) → List (List ℕ)
 refused_after texts p (Ok _) = texts
 refused_after texts p (Err (Refused refusal)) = noted texts p
 refused_after texts p (Err OutOfMemory) = texts

@@ -1,8 +1,9 @@
 //! The regex of a pattern.
 
-ghost use Rattle.std.specs.Prelude.{◌≡◌, ◌≤◌, true, IfOk, IfErr};
+ghost use Rattle.std.specs.Prelude.{◌≡◌, ◌≤◌, true, IfOk, IfErr, map};
 ghost use Rattle.regex.specs.Patterns.{default_config};
-ghost use Rattle.regex.specs.Strings.{regex_source, regex_config, regex_size, IsReadFromSource};
+ghost use Rattle.regex.specs.Strings.{matcher_pattern, regex_source, regex_config, regex_pattern, regex_size, IsReadFromSource};
+ghost use Rattle.regex.specs.declared.string.regex.Regex.{Regex};
 ghost use Rattle.am_text.specs.Outcome.{ForRefused};
 ghost use Rattle.am_pattern.specs.Taking.{anchored, has_match, is_parsed, is_shallow, IsPattern};
 ghost use Rattle.am_pattern.specs.Refused.{IsBuildingCause, IsPatternCause};
@@ -10,7 +11,7 @@ ghost use Rattle.am_pattern.specs.Kept.{largest};
 
 use crate::reading::{Cause, MAX_PATTERN, parse_text};
 use am_text::Failure;
-use regex::{Error, Regex, RegexBuilder};
+use regex::{Error, Matcher, Regex, RegexBuilder};
 use regex_syntax::ErrorKind;
 use std::alloc::{AllocError, Global};
 use std::marker::Model;
@@ -38,13 +39,30 @@ impl Model for Built {
 }
 
 impl Built {
-    /// Whether the text has a match in the value.
-    pub(crate) fn has_match(&self, alloc: Global, value: &str) -> Result<bool, AllocError>
-        ensures { IfOk result (λ found. found ≡ has_match self.now.source value.now) }
+    /// For each of the values, whether the text has a match in it. What searches for matches is made once.
+    pub(crate) fn have_matches(
+        &self,
+        alloc: Global,
+        values: &[&str],
+    ) -> Result<Vec<bool>, AllocError>
+        ensures { IfOk result (λ v. v.items ≡ map (λ value. has_match self.now.source value.now) values.now) }
     {
         let mut matcher = self.regex.matcher(alloc)?;
-        Ok(matcher.is_match(value))
+        let mut found = Vec::with_capacity(alloc, values.len())?;
+        for value in values {
+            found.push(is_found(&mut matcher, value))?;
+        }
+        Ok(found)
     }
+}
+
+// Whether what searches for matches of a regex finds one in the value.
+fn is_found(matcher: &mut Matcher<'_>, value: &str) -> bool
+    ensures found { (regex : Regex) → matcher_pattern matcher.old ≡ regex_pattern regex → regex_config regex ≡ default_config
+        → IsReadFromSource regex → result ≡ has_match (regex_source regex) value.now }
+    ensures same { matcher_pattern matcher.new ≡ matcher_pattern matcher.old }
+{
+    matcher.is_match(value)
 }
 
 // Builds the text as it stands.

@@ -1,8 +1,10 @@
-ghost use Rattle.std.specs.Prelude.{◌≡◌, ◌≢◌, ◌<◌, ◌≤◌, ◌*◌, [], None, true, false, IfOk, IfErr, IfSome, IfNone, OnOk, OnErr};
+ghost use Rattle.std.specs.Prelude.{◌≡◌, ◌<◌, ◌≤◌, ◌*◌, [], true, false, is_some, map, string_bytes, IfOk, IfErr, IfSome, IfNone, OnOk, OnErr};
+ghost use Rattle.std.specs.Str.{bytes_eq};
+ghost use Rattle.lru.specs.LruCache.{lru_cache, promoted};
 ghost use Rattle.am_text.specs.Outcome.{ForRefused};
 ghost use Rattle.am_pattern.specs.Taking.{IsPattern, is_shallow, anchored, takes};
-ghost use Rattle.am_pattern.specs.Refused.{IsCauseOf, IsPatternCause, IsReasonOf, has_text, noted, refused_after, IsRefusedRightly, IsMeaningOf};
-ghost use Rattle.am_pattern.specs.Kept.{kept_after, largest, asked_first};
+ghost use Rattle.am_pattern.specs.Refused.{IsCauseOf, IsPatternCause, IsReasonOf, has_text, held_after, noted, refused_after, with_text, IsHeldAfter, IsRefusedRightly, IsMeaningOf};
+ghost use Rattle.am_pattern.specs.Kept.{kept_after, largest, asked_first, counted_on, misses_after};
 ghost use Rattle.am_pattern.specs.Asking.{Asked, Grows, IsRefused};
 
 use crate::building::{Built, build_pattern};
@@ -24,6 +26,8 @@ pub struct PatternCache {
     built: LruCache<String, Built, KeyedHashing>,
     // texts whose build was refused for another cause than memory; among those that nest too deep some may be no pattern
     refused: IndexSet<String, KeyedHashing>,
+    // questions whose pattern was not kept; it stops at the greatest number
+    misses: u64,
 }
 
 impl Model for PatternCache {
@@ -37,9 +41,11 @@ impl Model for PatternCache {
 
     ghost view = { λ c. record {
       refused = patterns_among (map string_bytes c.refused.keys);
+      held = map string_bytes c.refused.keys;
       kept = texts_of string_bytes c.built.entries;
       capacity = c.built.cap;
       size = size_of c.built.entries;
+      misses = c.misses;
     } };
 
     ghost invariant = { λ c. IsSound string_bytes c.built.entries c.built.cap };
@@ -55,7 +61,9 @@ impl PatternCache {
     ) -> Result<PatternCache, AllocError>
         requires { 0 < capacity }
         ensures refused { IfOk result (λ c. c.refused ≡ []) }
+        ensures held { IfOk result (λ c. c.held ≡ []) }
         ensures kept { IfOk result (λ c. c.kept ≡ []) }
+        ensures misses { IfOk result (λ c. c.misses ≡ 0) }
         ensures capacity { IfOk result (λ c. c.capacity ≡ capacity) }
     {
         let Some(most) = NonZeroUsize::new(capacity) else {
@@ -65,6 +73,7 @@ impl PatternCache {
         Ok(PatternCache {
             built: LruCache::with_hasher(alloc, most, hashing)?,
             refused: IndexSet::with_hasher(alloc, hashing),
+            misses: 0,
         })
     }
 
@@ -86,7 +95,9 @@ impl PatternCache {
         ensures cause { IfErr result (IsCauseOf pattern.now) }
         ensures kept { self.new.kept ≡ kept_after self.old.capacity self.old.kept pattern.now result }
         ensures refused { self.new.refused ≡ refused_after self.old.refused pattern.now result }
+        ensures held { IsHeldAfter self.old.held self.new.held pattern.now result }
         ensures capacity { self.new.capacity ≡ self.old.capacity }
+        ensures misses { self.new.misses ≡ misses_after self.old pattern.now }
 
         // Where no build of this pattern was refused, the answer is its meaning.
         ensures meaning { IsRefusedRightly self.new.refused pattern.now → IsMeaningOf pattern.now value.now result }
@@ -99,12 +110,47 @@ impl PatternCache {
         // What it keeps is bounded.
         ensures size { self.new.size ≤ self.new.capacity * largest }
     {
-        if let Some(taken) = self.recall(alloc, pattern, value)? {
+        let taken = self.answer_each(alloc, pattern, &[value])?;
+        Ok(taken[0])
+    }
+
+    /// For each of the values, in their order, whether the pattern takes it: what [`answer`](PatternCache::answer) says,
+    /// as one question. The pattern is looked for once and built at most once, and so is what searches the values. Also
+    /// where there are no values the pattern is asked for, and is kept then.
+    ///
+    /// # Errors
+    /// Those of [`answer`](PatternCache::answer), which leave the same.
+    pub fn answer_each(
+        &mut self,
+        alloc: Global,
+        pattern: &str,
+        values: &[&str],
+    ) -> Result<Vec<bool>, Failure<PatternRefusal>>
+        ensures is_pattern { IfOk result (λ _. IsPattern pattern.now) }
+        ensures values { IfOk result (λ v. v.items ≡ map (λ value. takes pattern.now value.now) values.now) }
+        ensures cause { IfErr result (IsCauseOf pattern.now) }
+        ensures kept { self.new.kept ≡ kept_after self.old.capacity self.old.kept pattern.now result }
+        ensures refused { self.new.refused ≡ refused_after self.old.refused pattern.now result }
+        ensures held { IsHeldAfter self.old.held self.new.held pattern.now result }
+        ensures capacity { self.new.capacity ≡ self.old.capacity }
+        ensures misses { self.new.misses ≡ misses_after self.old pattern.now }
+
+        // Where no build of this pattern was refused, it fails only as no pattern, memory aside.
+        ensures meaning { IsRefusedRightly self.new.refused pattern.now → IfErr result (λ failure. ForRefused failure
+            (λ refusal. (refusal ≡ PatternRefusal.BadPattern) × ¬ IsPattern pattern.now)) }
+
+        ensures shallow { IfOk result (λ _. is_shallow pattern.now ≡ true) }
+        ensures asked { Asked result self.old self.new }
+        ensures refusal { IfErr result (λ failure. ForRefused failure (IsRefused self.new pattern.now)) }
+        ensures size { self.new.size ≤ self.new.capacity * largest }
+    {
+        if let Some(taken) = self.recall(alloc, pattern, values)? {
             return Ok(taken);
         }
+        self.count_miss();
         match build_pattern(alloc, pattern) {
             Ok(built) => {
-                let taken = built.has_match(alloc, value)?;
+                let taken = built.have_matches(alloc, values)?;
                 self.keep(alloc, pattern, built)?;
                 Ok(taken)
             }
@@ -123,31 +169,49 @@ impl PatternCache {
         self.built.contains(pattern)
     }
 
-    // The answer of a pattern that is kept, which is then the last that was asked.
+    /// How many questions found their pattern not kept, so that it had to be built. It stops at the greatest number.
+    pub fn misses(&self) -> u64
+        ensures { result ≡ self.now.misses }
+    {
+        self.misses
+    }
+
+    // The answers of a pattern that is kept, which is then the last that was asked.
     fn recall(
         &mut self,
         alloc: Global,
         pattern: &str,
-        value: &str,
-    ) -> Result<Option<bool>, AllocError>
+        values: &[&str],
+    ) -> Result<Option<Vec<bool>>, AllocError>
         ensures is_pattern { IfOk result (λ found. IfSome found (λ _. IsPattern pattern.now)) }
         ensures shallow { IfOk result (λ found. IfSome found (λ _. is_shallow pattern.now ≡ true)) }
-        ensures value { IfOk result (λ found. IfSome found (λ taken. taken ≡ takes pattern.now value.now)) }
+        ensures values { IfOk result (λ found. IfSome found (λ v.
+            v.items ≡ map (λ value. takes pattern.now value.now) values.now)) }
         ensures kept { IfOk result (λ found. IfSome found (λ _.
             self.new.kept ≡ asked_first self.old.capacity self.old.kept pattern.now)) }
-        ensures missing { IfOk result (λ found. IfNone found (has_text self.old.kept pattern.now ≡ false)) }
+        ensures hit { IfOk result (λ found. has_text self.old.kept pattern.now ≡ is_some found) }
         ensures none { IfOk result (λ found. IfNone found (self.new ≡ self.old)) }
         ensures err { OnErr result (self.new ≡ self.old) }
+        ensures err_hit { OnErr result (has_text self.old.kept pattern.now ≡ true) }
         ensures refused { self.new.refused ≡ self.old.refused }
+        ensures held { self.new.held ≡ self.old.held }
         ensures capacity { self.new.capacity ≡ self.old.capacity }
+        ensures misses { self.new.misses ≡ self.old.misses }
         ensures size { self.new.size ≤ self.new.capacity * largest }
     {
         let Some(built) = self.built.peek(pattern) else {
             return Ok(None);
         };
-        let taken = built.has_match(alloc, value)?;
-        self.built.promote(pattern);
+        let taken = built.have_matches(alloc, values)?;
+        make_first(&mut self.built, pattern);
         Ok(Some(taken))
+    }
+
+    // Counts a question whose pattern is not kept.
+    fn count_miss(&mut self)
+        ensures { self.new ≡ record self.old { misses = counted_on self.old.misses } }
+    {
+        self.misses = self.misses.saturating_add(1);
     }
 
     // Keeps a pattern that was built and asked.
@@ -159,7 +223,9 @@ impl PatternCache {
         ensures kept { OnOk result (self.new.kept ≡ asked_first self.old.capacity self.old.kept pattern.now) }
         ensures err { OnErr result (self.new ≡ self.old) }
         ensures refused { self.new.refused ≡ self.old.refused }
+        ensures held { self.new.held ≡ self.old.held }
         ensures capacity { self.new.capacity ≡ self.old.capacity }
+        ensures misses { self.new.misses ≡ self.old.misses }
         ensures size { OnOk result (self.new.size ≤ self.new.capacity * largest) }
     {
         let key = String::from_str(alloc, pattern)?;
@@ -167,7 +233,7 @@ impl PatternCache {
         Ok(())
     }
 
-    // The refusal of a pattern that gave no regex. Where the text may be a pattern, it is kept as refused.
+    // The refusal of a text that gave no regex, which is kept as refused where it may be a pattern.
     fn refuse(
         &mut self,
         alloc: Global,
@@ -177,6 +243,7 @@ impl PatternCache {
         requires { IsPatternCause pattern.now cause }
         ensures reason { IfOk result (IsReasonOf pattern.now) }
         ensures refused { OnOk result (self.new.refused ≡ noted self.old.refused pattern.now) }
+        ensures held { OnOk result (self.new.held ≡ held_after self.old.held pattern.now cause) }
         ensures refusal { IfOk result (IsRefused self.new pattern.now) }
         ensures meaning { IfOk result (λ refusal. IsRefusedRightly self.new.refused pattern.now →
             (refusal ≡ PatternRefusal.BadPattern) × ¬ IsPattern pattern.now) }
@@ -184,27 +251,42 @@ impl PatternCache {
         ensures err { OnErr result (self.new ≡ self.old) }
         ensures kept { self.new.kept ≡ self.old.kept }
         ensures capacity { self.new.capacity ≡ self.old.capacity }
+        ensures misses { self.new.misses ≡ self.old.misses }
+        ensures size { self.new.size ≡ self.old.size }
+    {
+        self.hold(alloc, pattern, cause)?;
+        match cause {
+            Cause::NotRead => Ok(PatternRefusal::BadPattern),
+            Cause::TooDeep => Ok(PatternRefusal::BadPattern),
+            Cause::TooBig => Ok(PatternRefusal::BuildRefused),
+        }
+    }
+
+    // Keeps a text that gave no regex as refused, unless the grammar didn't read it.
+    fn hold(&mut self, alloc: Global, pattern: &str, cause: Cause) -> Result<(), AllocError>
+        requires { IsPatternCause pattern.now cause }
+        ensures ok { OnOk result (self.new.refused ≡ noted self.old.refused pattern.now) }
+        ensures held { OnOk result (self.new.held ≡ held_after self.old.held pattern.now cause) }
+        ensures err { OnErr result (self.new ≡ self.old) }
+        ensures kept { self.new.kept ≡ self.old.kept }
+        ensures capacity { self.new.capacity ≡ self.old.capacity }
+        ensures misses { self.new.misses ≡ self.old.misses }
         ensures size { self.new.size ≡ self.old.size }
     {
         match cause {
-            Cause::NotRead => Ok(PatternRefusal::BadPattern),
-            Cause::TooDeep => {
-                self.note(alloc, pattern)?;
-                Ok(PatternRefusal::BadPattern)
-            }
-            Cause::TooBig => {
-                self.note(alloc, pattern)?;
-                Ok(PatternRefusal::BuildRefused)
-            }
+            Cause::NotRead => Ok(()),
+            Cause::TooDeep | Cause::TooBig => self.note(alloc, pattern),
         }
     }
 
     // Keeps a text as refused.
     fn note(&mut self, alloc: Global, pattern: &str) -> Result<(), AllocError>
         ensures ok { OnOk result (self.new.refused ≡ noted self.old.refused pattern.now) }
+        ensures held { OnOk result (self.new.held ≡ with_text self.old.held pattern.now) }
         ensures err { OnErr result (self.new ≡ self.old) }
         ensures kept { self.new.kept ≡ self.old.kept }
         ensures capacity { self.new.capacity ≡ self.old.capacity }
+        ensures misses { self.new.misses ≡ self.old.misses }
         ensures size { self.new.size ≡ self.old.size }
     {
         if self.refused.contains(pattern) {
@@ -214,4 +296,11 @@ impl PatternCache {
         self.refused.insert(text)?;
         Ok(())
     }
+}
+
+// Makes an entry the one that was used last.
+fn make_first(built: &mut LruCache<String, Built, KeyedHashing>, pattern: &str)
+    ensures { built.new ≡ lru_cache (promoted (λ key. bytes_eq pattern.now (string_bytes key)) built.old.entries) built.old.cap }
+{
+    built.promote(pattern);
 }

@@ -1,15 +1,18 @@
 -- The matchers of routes with the routes' numbers: they are those of the routes, and answer for them.
 use Rattle.std.proofs.Common.{◌≡◌, ◌≢◌, ◌∙◌, ℕ, zero, suc, ◌+◌, ◌<◌, ◌≤◌, ◌==◌, ◌&&◌, ◌||◌, not, Bool, true, false, List, All, [], ◌∷◌, ◌++◌, length, map, take, get_or, refl, sym, ap, append_assoc, append-nil, inl, inr, arith}
-use Rattle.std.specs.List.{Contains, list_all}
+use Rattle.std.specs.Prelude.{if◌then◌else◌}
+use Rattle.std.specs.List.{Contains, list_all, sum_by}
 use Rattle.std.specs.List.Sorted.{IsPermutation}
 use Rattle.std.proofs.lemmas.Bool.{cases_Bool, ne_eqb, eq-eqb}
-use Rattle.std.proofs.lemmas.List.{length-take, take_more}
+use Rattle.std.proofs.lemmas.List.{get_or-map, length-map, length-take, map-append, take-map, take_more}
 use Rattle.std.proofs.lemmas.List.Elements.{All-append, All-cons, All-contains, All-map, All-nil}
-use Rattle.std.proofs.lemmas.List.Sums.{AllPass-from_list_all, list_all-from_AllPass}
+use Rattle.std.proofs.lemmas.List.Sums.{AllPass-from_list_all, list_all-from_AllPass, sum_by-cons}
+use Rattle.std.proofs.lemmas.Map.Entries.{sum_by_values_permutation}
 use Rattle.std.proofs.lemmas.List.Folds.{list_all-append}
 use Rattle.std.proofs.lemmas.List.Sorted.{All-permutation, IsPermutation-sym}
 use Rattle.am_labels.specs.declared.Label.{Label}
-use Rattle.am_match.specs.Matchers.{MatcherText}
+use Rattle.am_match.specs.Matchers.{MatcherText, is_on_pattern, patterns_of}
+use Rattle.am_match.proofs.NarrowLemmas.{patterns-more, patterns-some}
 use Rattle.am_match.specs.Meaning.{takes_labels}
 use Rattle.am_text.specs.declared.tree.Node.{Node}
 use Rattle.am_config.specs.declared.parts.Route.{Route}
@@ -141,3 +144,56 @@ pub among_numbers : (nodes : List (Node Route)) (qs : List (ℕ × MatcherText))
     All (λ (q : ℕ × MatcherText). q.0 < count) qs
 among_numbers nodes qs count same is =
     All-permutation (λ (q : ℕ × MatcherText). q.0 < count) (questions_from 0 nodes) qs same (numbers_fit count 0 nodes (omega (arith, is)))
+
+-- ---- how many patterns they ask for
+
+-- one for a matcher on a pattern
+abbrev weight : MatcherText → ℕ
+weight m = if is_on_pattern m.operator then 1 else 0
+
+patterns_weigh : (ms : List MatcherText) → length (patterns_of ms) ≡ sum_by weight ms
+patterns_weigh [] = refl
+patterns_weigh (m ∷ ms) =
+    let first : length (patterns_of (m ∷ ms)) ≡ weight m + length (patterns_of ms) =
+    elim (cases_Bool (is_on_pattern m.operator)) [ inl on ↦ rw on (omega arith) | inr off ↦ rw off (omega arith) ] in
+    omega (arith, first, patterns_weigh ms, sum_by-cons weight m ms)
+
+-- the matchers of the questions
+abbrev asked_matchers : List (ℕ × MatcherText) → List MatcherText
+asked_matchers qs = map (λ (q : ℕ × MatcherText). q.1) qs
+
+own_matchers : (number : ℕ) (ms : List MatcherText) → asked_matchers (numbered number ms) ≡ ms
+own_matchers number [] = refl
+own_matchers number (m ∷ ms) = ap (λ rest. m ∷ rest) (own_matchers number ms)
+
+matchers_from : (first : ℕ) (nodes : List (Node Route)) → asked_matchers (questions_from first nodes) ≡ route_matchers nodes
+matchers_from first [] = refl
+matchers_from first (node ∷ nodes) =
+    map-append (λ (q : ℕ × MatcherText). q.1) (numbered first node.item.matchers) (questions_from (first + 1) nodes)
+    ∙ ap (λ front. front ++ asked_matchers (questions_from (first + 1) nodes)) (own_matchers first node.item.matchers)
+    ∙ ap (λ back. node.item.matchers ++ back) (matchers_from (first + 1) nodes)
+
+-- as many as the routes have, in any order
+pub as_many_patterns : (nodes : List (Node Route)) (qs : List (ℕ × MatcherText)) → IsPermutation (questions_from 0 nodes) qs →
+    length (patterns_of (asked_matchers qs)) ≡ length (patterns_of (route_matchers nodes))
+as_many_patterns nodes qs same =
+    patterns_weigh (asked_matchers qs)
+    ∙ sum_by_values_permutation weight (questions_from 0 nodes) qs same
+    ∙ ap (sum_by weight) (matchers_from 0 nodes)
+    ∙ sym (patterns_weigh (route_matchers nodes))
+
+-- of one question more
+pub questions_more_patterns : (qs : List (ℕ × MatcherText)) (k : ℕ) (q : ℕ × MatcherText) → k < length qs → q ≡ get_or qs k q →
+    length (patterns_of (asked_matchers (take (k + 1) qs))) ≡ length (patterns_of (asked_matchers (take k qs))) + length (patterns_of (q.1 ∷ []))
+questions_more_patterns qs k q within is =
+    let second : ℕ × MatcherText → MatcherText = λ p. p.1 in
+    ap (λ ms. length (patterns_of ms)) (sym (take-map second (k + 1) qs))
+    ∙ patterns-more (map second qs) k q.1 (omega (arith, length-map qs second, within)) (ap second is ∙ sym (get_or-map second qs k q q.1 within))
+    ∙ ap (λ ms. length (patterns_of ms) + length (patterns_of (q.1 ∷ []))) (take-map second k qs)
+
+-- of some of them
+pub questions_some_patterns : (qs : List (ℕ × MatcherText)) (k : ℕ) → length (patterns_of (asked_matchers (take k qs))) ≤ length (patterns_of (asked_matchers qs))
+questions_some_patterns qs k =
+    let second : ℕ × MatcherText → MatcherText = λ p. p.1 in
+    let same : length (patterns_of (take k (map second qs))) ≡ length (patterns_of (map second (take k qs))) = ap (λ ms. length (patterns_of ms)) (take-map second k qs) in
+    omega (arith, patterns-some (map second qs) k, same)

@@ -1,5 +1,5 @@
 -- Tables of answers, matcher by matcher.
-use Rattle.std.proofs.Common.{◌≡◌, ◌≢◌, ◌∙◌, ℕ, suc, ◌+◌, ◌<◌, ◌==◌, ◌&&◌, ◌||◌, not, Bool, true, false, cond, List, All, [], ◌∷◌, ◌++◌, Option, None, Some, Bor, Vec, Global, length, map, take, get_or, slice_set, replicate, length-append, refl, sym, ap, subst, inl, inr, arith}
+use Rattle.std.proofs.Common.{◌≡◌, ◌≢◌, ◌∙◌, ℕ, suc, zero, ◌+◌, ◌<◌, ◌==◌, ◌&&◌, ◌||◌, not, Bool, true, false, cond, List, All, [], ◌∷◌, ◌++◌, Option, None, Some, IsSome, Bor, Vec, Global, length, map, take, get_or, slice_set, replicate, length-append, refl, sym, ap, subst, inl, inr, arith}
 use Rattle.std.specs.BTreeMap.{BTreeMap, get_by}
 use Rattle.std.specs.Cmp.Lexicographic.{bytes_decides, slice_cmp}
 use Rattle.std.specs.List.{Contains}
@@ -9,140 +9,133 @@ use Rattle.std.specs.Option.{ForSome, unwrap_or}
 use Rattle.std.specs.Ordering.{nat_cmp}
 use Rattle.std.specs.Str.{bytes_eq}
 use Rattle.std.proofs.lemmas.Bool.{cases_Bool, cases_eq, ne_eqb, eq-eqb}
-use Rattle.std.proofs.lemmas.List.{get_or-map, get_or_default, get_or-set_other, get_or-set_same, length-map, map-append, length-set, map_more}
+use Rattle.std.proofs.lemmas.List.{ext_get_or, get_or-map, get_or-set_other, get_or-set_same, length-map, map-append, length-set, take_more}
 use Rattle.std.proofs.lemmas.List.Elements.{All-append, All-cons, All-get_or, All-map, All-nil}
 use Rattle.std.proofs.lemmas.List.Folds.{list_all_more}
 use Rattle.am_labels.specs.declared.Label.{Label}
-use Rattle.am_labels.specs.Sets.{value_of}
-use Rattle.am_match.specs.Asking.{narrowed}
+use Rattle.am_match.specs.Asking.{narrowed, narrowed_by}
 use Rattle.am_match.specs.Matchers.{MatcherText}
 use Rattle.am_match.specs.Meaning.{passes, takes_labels}
 use Rattle.am_text.specs.declared.tree.Node.{Node}
 use Rattle.am_config.specs.declared.parts.Route.{Route}
+use Rattle.am_match.proofs.NarrowLemmas.{length-narrowed}
 use Rattle.am_route.specs.Answers.{AreAlike, AreKnown, IsTable, answer_of, questions_from}
 use Rattle.am_route.specs.Routes.{route_takes}
 use Rattle.am_route.proofs.KnownLemmas.{all_known}
 use Rattle.am_route.proofs.QuestionLemmas.{all_in_any_order, and_true, answer_from}
 
--- ---- which label sets are alike
+-- ---- which values are alike
 
--- a label set at this place has the value
-abbrev pub IsAt : List ℕ → List (List Label) → ℕ → List ℕ → Type 0
-IsAt name sets place value = (place < length sets) × (value_of name (get_or sets place []) ≡ value)
+-- the value stands at this place
+abbrev pub IsAt : List (List ℕ) → ℕ → List ℕ → Type 0
+IsAt values place value = (place < length values) × (get_or values place [] ≡ value)
 
--- what the map has at a value is the place of a set that has it
-abbrev pub AreFirsts : List ℕ → List (List Label) → BTreeMap (Bor (List ℕ)) ℕ → Type 0
-AreFirsts name sets firsts = (value : List ℕ) → ForSome (get_by (λ key. slice_cmp nat_cmp value key.now) firsts) (λ place. IsAt name sets place value)
+-- what the map has at a value is a place of it
+abbrev pub AreFirsts : List (List ℕ) → BTreeMap (Bor (List ℕ)) ℕ → Type 0
+AreFirsts values firsts = (value : List ℕ) → ForSome (get_by (λ key. slice_cmp nat_cmp value key.now) firsts) (λ place. IsAt values place value)
 
 -- the places of the first so many
-abbrev pub AreAlikeSoFar : List ℕ → List (List Label) → ℕ → List ℕ → Type 0
-AreAlikeSoFar name sets count places =
-    All (λ place. place < length sets) places
-    × (map (λ place. value_of name (get_or sets place [])) places ≡ map (λ labels. value_of name labels) (take count sets))
+abbrev pub AreAlikeSoFar : List (List ℕ) → ℕ → List ℕ → Type 0
+AreAlikeSoFar values count places =
+    All (λ place. place < length values) places × (map (λ place. get_or values place []) places ≡ take count values)
 
 -- one more is at its value
-pub firsts_put : (name : List ℕ) (sets : List (List Label)) (old new : BTreeMap (Bor (List ℕ)) ℕ) (place : ℕ) (value : List ℕ) → AreFirsts name sets old → IsAt name sets place value
+pub firsts_put : (values : List (List ℕ)) (old new : BTreeMap (Bor (List ℕ)) ℕ) (place : ℕ) (value : List ℕ) → AreFirsts values old → IsAt values place value
     → ((other : List ℕ) → get_by (λ key. slice_cmp nat_cmp other key.now) new
     ≡ update bytes_eq (λ before. get_by (λ key. slice_cmp nat_cmp before key.now) old) value (Some place) other)
-    → AreFirsts name sets new
-firsts_put name sets old new place value right at updates other found is =
+    → AreFirsts values new
+firsts_put values old new place value right at updates other found is =
     elim (cases_Bool (bytes_eq value other)) [
       | inl same ↦
           let both : Some place ≡ Some found = sym (updates other ∙ ap (λ b. cond b (Some place) (get_by (λ key. slice_cmp nat_cmp other key.now) old)) same) ∙ is in
           let there : place ≡ found = cc in
-          subst (λ n. IsAt name sets n other) there (subst (IsAt name sets place) ((bytes_decides value other).0 same) at)
+          subst (λ n. IsAt values n other) there (subst (IsAt values place) ((bytes_decides value other).0 same) at)
       | inr apart ↦
           right other found
           (sym (updates other ∙ ap (λ b. cond b (Some place) (get_by (λ key. slice_cmp nat_cmp other key.now) old)) apart) ∙ is)
     ]
 
--- the place that is found, or that of the set
-pub place_at : (name : List ℕ) (sets : List (List Label)) (firsts : BTreeMap (Bor (List ℕ)) ℕ) (place : ℕ) (value : List ℕ) → AreFirsts name sets firsts → IsAt name sets place value
-    → (found : Option ℕ) → found ≡ get_by (λ key. slice_cmp nat_cmp value key.now) firsts → IsAt name sets (unwrap_or found place) value
-place_at name sets firsts place value right at None is = at
-place_at name sets firsts place value right at (Some first) is = right value first (sym is)
+-- the place that is found, or the value's own
+pub place_at : (values : List (List ℕ)) (firsts : BTreeMap (Bor (List ℕ)) ℕ) (place : ℕ) (value : List ℕ) → AreFirsts values firsts → IsAt values place value
+    → (found : Option ℕ) → found ≡ get_by (λ key. slice_cmp nat_cmp value key.now) firsts → IsAt values (unwrap_or found place) value
+place_at values firsts place value right at None is = at
+place_at values firsts place value right at (Some first) is = right value first (sym is)
 
--- the next label set has its place
-pub alike_put : {A : Type 0} (view : A → List Label) (name : List ℕ) (sets : List A) (i : ℕ) (set : A) (places : List ℕ) (place : ℕ) (value : List ℕ)
-    → AreAlikeSoFar name (map view sets) i places → i < length sets → set ≡ get_or sets i set → value ≡ value_of name (view set)
-    → IsAt name (map view sets) place value → AreAlikeSoFar name (map view sets) (i + 1) (places ++ place ∷ [])
-alike_put view name sets i set places place value (fits, same) within is has at =
-    let P : ℕ → Type 0 = λ n. n < length (map view sets) in
-    let named : ℕ → List ℕ = λ n. value_of name (get_or (map view sets) n []) in
-    let here : get_or (map view sets) i [] ≡ view set = get_or-map view sets i set [] within ∙ ap view (sym is) in (
-      All-append P places (place ∷ []) fits (All-cons P place [] at.0 (All-nil P)),
-      map-append named places (place ∷ [])
-          ∙ ap (λ front. front ++ named place ∷ []) same
-          ∙ ap (λ last. map (λ labels. value_of name labels) (take i (map view sets)) ++ last ∷ []) (at.1 ∙ has ∙ ap (value_of name) (sym here))
-          ∙ sym (map_more (value_of name) (map view sets) i [] (omega (arith, length-map sets view, within))),
-    )
+module _ {A : Type 0} (view : A → List ℕ) (xs : List A) (i : ℕ) (x : A) (within : i < length xs) (is : x ≡ get_or xs i x) where
+  here : get_or (map view xs) i [] ≡ view x
+  here = get_or-map view xs i x [] within ∙ ap view (sym is)
 
--- the set itself has its value
-pub at_itself : {A : Type 0} (view : A → List Label) (name : List ℕ) (sets : List A) (i : ℕ) (set : A) (value : List ℕ) → i < length sets → set ≡ get_or sets i set
-    → value ≡ value_of name (view set) → IsAt name (map view sets) i value
-at_itself view name sets i set value within is has = (
-  omega (arith, length-map sets view, within),
-  ap (value_of name) (get_or-map view sets i set [] within ∙ ap view (sym is)) ∙ sym has,
-)
+  -- the next value has its place
+  pub alike_put : (places : List ℕ) (place : ℕ) → AreAlikeSoFar (map view xs) i places → IsAt (map view xs) place (view x) →
+      AreAlikeSoFar (map view xs) (i + 1) (places ++ place ∷ [])
+  alike_put places place (fits, same) at =
+      let P : ℕ → Type 0 = λ n. n < length (map view xs) in
+      let value : ℕ → List ℕ = λ n. get_or (map view xs) n [] in (
+        All-append P places (place ∷ []) fits (All-cons P place [] at.0 (All-nil P)),
+        map-append value places (place ∷ [])
+            ∙ ap (λ front. front ++ value place ∷ []) same
+            ∙ ap (λ last. take i (map view xs) ++ last ∷ []) (at.1 ∙ sym here)
+            ∙ sym (take_more (map view xs) i [] (omega (arith, length-map xs view, within))),
+      )
 
--- none has a place yet
-pub alike_start : (name : List ℕ) (sets : List (List Label)) → AreAlikeSoFar name sets 0 []
-alike_start name sets = (All-nil (λ place. place < length sets), refl)
+  -- the value is at its own
+  pub at_itself : IsAt (map view xs) i (view x)
+  at_itself = (omega (arith, length-map xs view, within), here)
 
 -- ---- one matcher
 
--- the answers that are known are the matcher's
-abbrev pub AreAnswers : MatcherText → List (List Label) → List (Option Bool) → Type 0
-AreAnswers m sets answers = (place : ℕ) → ForSome (get_or answers place None) (λ taken. taken ≡ takes_labels m (get_or sets place []))
+-- a flag of those that are left
+flag_of : (m : MatcherText) (values : List (List ℕ)) (flags : List Bool) (place : ℕ) → length flags ≡ length values → place < length values →
+    get_or (narrowed_by m values flags) place false ≡ (get_or flags place false && passes m.operator m.value (get_or values place []))
+flag_of m [] flags place each within = absurd (omega arith)
+flag_of m (value ∷ values) [] place each within = absurd (omega (arith, each))
+flag_of m (value ∷ values) (flag ∷ flags) zero each within = refl
+flag_of m (value ∷ values) (flag ∷ flags) (suc place) each within = flag_of m values flags place (omega (arith, each)) (omega (arith, within))
 
-module _ {A : Type 0} (view : A → List Label) (m : MatcherText) (sets : List A) (alike : List ℕ) (h : AreAlike m.name (map view sets) alike) (i : ℕ) (within : i < length sets) where
-  abbrev named : ℕ → List ℕ
-  named place = value_of m.name (get_or (map view sets) place [])
+module _ (values : List (List ℕ)) (alike : List ℕ) (h : AreAlike values alike) where
+  -- each value has a place
+  pub as_many : length alike ≡ length values
+  as_many = sym (length-map alike (λ place. get_or values place [])) ∙ ap length h.1
 
-  as_many : length alike ≡ length sets
-  as_many =
-      sym (length-map alike named) ∙ ap length h.1 ∙ length-map (map view sets) (λ (set : List Label). value_of m.name set)
-      ∙ length-map sets view
+  first_fits : (k : ℕ) → k < length values → get_or alike k 0 < length values
+  first_fits k within = All-get_or (λ place. place < length values) alike k 0 (omega (arith, as_many, within)) h.0
 
-  -- the label set that is asked for it
-  pub first_fits : get_or alike i 0 < length sets
-  first_fits =
-      let fits = All-get_or (λ place. place < length (map view sets)) alike i 0 (omega (arith, as_many)) h.0 in
-      omega (arith, fits, length-map sets view)
+  first_same : (k : ℕ) → k < length values → get_or values (get_or alike k 0) [] ≡ get_or values k []
+  first_same k within =
+      sym (get_or-map (λ place. get_or values place []) alike k 0 [] (omega (arith, as_many, within))) ∙ ap (λ (list : List (List ℕ)). get_or list k []) h.1
 
-  -- is taken as it is
-  pub same_taken : (set : A) → set ≡ get_or sets i set → takes_labels m (get_or (map view sets) (get_or alike i 0) []) ≡ takes_labels m (view set)
-  same_taken set is =
-      let value : List Label → List ℕ = λ other. value_of m.name other in
-      let long = length-map sets view in
-      let left : get_or (map named alike) i [] ≡ named (get_or alike i 0) = get_or-map named alike i 0 [] (omega (arith, as_many)) in
-      let right : get_or (map value (map view sets)) i [] ≡ value (get_or (map view sets) i []) =
-      get_or-map value (map view sets) i [] [] (omega (arith, long)) in
-      let here : get_or (map view sets) i [] ≡ view set = get_or-map view sets i set [] within ∙ ap view (sym is) in
-      ap (passes m.operator m.value) (sym left ∙ ap (λ (list : List (List ℕ)). get_or list i []) h.1 ∙ right ∙ ap value here)
+  -- where the places that are asked stand for the others, the others are left as if they were asked
+  pub left_narrowed : (m : MatcherText) (taken firsts left : List Bool) → length taken ≡ length values → length firsts ≡ length taken →
+      ((k : ℕ) → k < length taken → get_or taken k false ≡ true → get_or firsts (get_or alike k 0) false ≡ true) → length left ≡ length taken →
+      ((k : ℕ) → k < length taken → get_or left k false ≡ (get_or taken k false && get_or (narrowed_by m values firsts) (get_or alike k 0) false)) →
+      left ≡ narrowed_by m values taken
+  left_narrowed m taken firsts left each as_first stands as_left is =
+      ext_get_or false left (narrowed_by m values taken)
+      (omega (arith, as_left, each, length-narrowed m values taken each))
+      (λ k below.
+      let within : k < length values = omega (arith, below, as_left, each) in
+      let inside : k < length taken = omega (arith, below, as_left) in
+      let asked = flag_of m values firsts (get_or alike k 0) (omega (arith, as_first, each)) (first_fits k within) in
+      let own = flag_of m values taken k each within in
+      is k inside
+      ∙ ap (λ b. get_or taken k false && b) asked
+      ∙ elim (cases_Bool (get_or taken k false)) [
+        | inl set ↦
+            ap (λ b. b && (get_or firsts (get_or alike k 0) false && passes m.operator m.value (get_or values (get_or alike k 0) []))) set
+            ∙ ap (λ b. b && passes m.operator m.value (get_or values (get_or alike k 0) [])) (stands k inside set)
+            ∙ ap (passes m.operator m.value) (first_same k within)
+            ∙ sym (own ∙ ap (λ b. b && passes m.operator m.value (get_or values k [])) set)
+        | inr off ↦
+            ap (λ b. b && (get_or firsts (get_or alike k 0) false && passes m.operator m.value (get_or values (get_or alike k 0) []))) off
+            ∙ sym (own ∙ ap (λ b. b && passes m.operator m.value (get_or values k [])) off)
+      ])
 
--- what is known of that one
-pub known_taken : {A : Type 0} (view : A → List Label) (m : MatcherText) (sets : List A) (alike : List ℕ) → AreAlike m.name (map view sets) alike → (i : ℕ) → i < length sets
-    → (set : A) → set ≡ get_or sets i set → (answers : List (Option Bool)) → length answers ≡ length sets → AreAnswers m (map view sets) answers
-    → (known : Option Bool) → known ≡ get_or answers (get_or alike i 0) known → ForSome known (λ taken. taken ≡ takes_labels m (view set))
-known_taken view m sets alike h i within set is answers long right known at taken found =
-    let fits = first_fits view m sets alike h i within in
-    let there : get_or answers (get_or alike i 0) None ≡ Some taken =
-    get_or_default answers (get_or alike i 0) None known (omega (arith, fits, long)) ∙ sym at ∙ found in
-    right (get_or alike i 0) taken there ∙ same_taken view m sets alike h i within set is
-
--- once one more is known
-pub answers_more : (m : MatcherText) (labels : List (List Label)) (answers : List (Option Bool)) (first : ℕ) (taken : Bool) → AreAnswers m labels answers → first < length answers
-    → taken ≡ takes_labels m (get_or labels first []) → AreAnswers m labels (slice_set answers first (Some taken))
-answers_more m labels answers first taken right fits is place other found =
-    elim (cases_eq place first) [
-      | inl same ↦
-          let there : get_or (slice_set answers first (Some taken)) place None ≡ Some taken =
-          ap (λ n. get_or (slice_set answers first (Some taken)) n None) same ∙ get_or-set_same answers first (Some taken) None fits in
-          let both : Some other ≡ Some taken = sym found ∙ there in
-          let value : other ≡ taken = cc in
-          value ∙ is ∙ ap (λ n. takes_labels m (get_or labels n [])) (sym same)
-      | inr apart ↦ right place other (sym (get_or-set_other answers first place (Some taken) None apart) ∙ found)
+-- a flag that is set stays so when another is set
+pub stays_set : (flags : List Bool) (place other : ℕ) → place < length flags → get_or flags other false ≡ true → get_or (slice_set flags place true) other false ≡ true
+stays_set flags place other within there =
+    elim (cases_eq other place) [
+      | inl same ↦ ap (λ n. get_or (slice_set flags place true) n false) same ∙ get_or-set_same flags place true false within
+      | inr apart ↦ get_or-set_other flags place other true false apart ∙ there
     ]
 
 -- ---- the table
@@ -305,3 +298,8 @@ pub all_of_each : {A : Type 0} (view : A → List Label) (P : List ℕ → Type 
     found ≡ map (λ set. find (view set)) (take count sets) → ((labels : List Label) → P (find labels)) → All P found
 all_of_each view P find sets count found is holds =
     subst (All P) (sym is) (All-map P (λ set. find (view set)) (take count sets) (λ i other below. holds (view (get_or (take count sets) i other))))
+
+-- it is known of each route whether it takes a label set
+pub all_told : {A : Type 0} (f : A → Bool) (xs : List A) → All IsSome (map (λ x. Some (f x)) xs)
+all_told f [] = All-nil IsSome
+all_told f (x ∷ xs) = All-cons IsSome (Some (f x)) (map (λ y. Some (f y)) xs) refl (all_told f xs)

@@ -4,7 +4,6 @@ use Rattle.std.specs.Global.{Vec}
 use Rattle.std.specs.List.{list_all}
 use Rattle.std.specs.Option.{ForSome}
 use Rattle.am_labels.specs.declared.Label.{Label}
-use Rattle.am_labels.specs.Sets.{value_of}
 use Rattle.am_match.specs.Matchers.{MatcherText}
 use Rattle.am_match.specs.Meaning.{takes_labels}
 use Rattle.am_text.specs.declared.tree.Node.{Node}
@@ -22,11 +21,9 @@ abbrev pub answer_of : List (ℕ × MatcherText) → ℕ → List Label → Bool
 answer_of questions number labels =
     list_all (λ (route, matcher). not (route == number) || takes_labels matcher labels) questions
 
--- for each label set the place of one that has the same value of this name
-abbrev pub AreAlike : List ℕ → List (List Label) → List ℕ → Type 0
-AreAlike name sets places =
-    All (λ place. place < length sets) places
-    × (map (λ place. value_of name (get_or sets place [])) places ≡ map (λ labels. value_of name labels) sets)
+-- for each of the values the place of an equal one
+abbrev pub AreAlike : List (List ℕ) → List ℕ → Type 0
+AreAlike values places = All (λ place. place < length values) places × (map (λ place. get_or values place []) places ≡ values)
 
 -- What is known of each of these routes by its number is right: whether it takes the labels. The first route has this
 -- number.

@@ -1,11 +1,10 @@
 //! The answers of routes to many label sets.
 
-ghost use Rattle.std.specs.Prelude.{◌≡◌, ◌<◌, All, Some, IfErr, IfOk, OnOk, get_or, length, map, true, false};
-ghost use Rattle.std.specs.Option.{ForSome};
+ghost use Rattle.std.specs.Prelude.{◌≡◌, ◌+◌, ◌<◌, ◌≤◌, ◌∷◌, [], ◌&&◌, ℕ, All, Some, IfErr, IfOk, OnOk, get_or, length, map, true, false};
 ghost use Rattle.am_text.specs.declared.tree.Node.{Node};
 ghost use Rattle.am_pattern.specs.Asking.{Asked};
-ghost use Rattle.am_match.specs.Asking.{IsFailureAmong, IsFailureOf, narrowed};
-ghost use Rattle.am_match.specs.Meaning.{takes_labels};
+ghost use Rattle.am_match.specs.Asking.{IsFailureAmong, IsFailureOf, narrowed_by};
+ghost use Rattle.am_match.specs.Matchers.{patterns_of};
 ghost use Rattle.am_config.specs.declared.parts.Route.{Route};
 ghost use Rattle.am_route.specs.Answers.{AreAlike, IsTable, answer_of};
 ghost use Rattle.am_route.specs.Asked.{route_matchers};
@@ -14,7 +13,7 @@ ghost use Rattle.am_route.specs.Routes.{route_takes};
 use crate::questions::{Question, questions_of};
 use am_config::Route;
 use am_labels::LabelSet;
-use am_match::Matcher;
+use am_match::{Matcher, narrow, values_of};
 use am_pattern::{PatternCache, PatternRefusal};
 use am_text::{Failure, Node};
 use std::alloc::{AllocError, Global};
@@ -34,6 +33,7 @@ pub fn answers_of(
     ensures table { IfOk result (λ v. map (λ row. row.items) v.items
         ≡ map (λ (node : Node Route). map (λ set. route_takes node.item set.now) sets.now) routes.now) }
     ensures asked { Asked result cache.old cache.new }
+    ensures misses { cache.new.misses ≤ cache.old.misses + length (patterns_of (route_matchers routes.now)) }
     ensures failure { IfErr result (IsFailureAmong (route_matchers routes.now) cache.old cache.new) }
 {
     let questions = questions_of(alloc, routes)?;
@@ -83,35 +83,32 @@ fn ask_all(
     ensures rows { OnOk result (IsTable (answer_of questions.now) (map (λ set. set.now) sets.now)
         (length table.old.items) table.new.items) }
     ensures asked { Asked result cache.old cache.new }
+    ensures misses { cache.new.misses ≤ cache.old.misses + length (patterns_of (map (λ q. q.1) questions.now)) }
     ensures failure { IfErr result (IsFailureAmong (map (λ q. q.1) questions.now) cache.old cache.new) }
 {
     let mut name = "";
-    let mut alike = alike_by(alloc, name, sets)?;
+    let mut values = values_of(alloc, name, sets)?;
+    let mut alike = alike_by(alloc, &values)?;
     for question in questions {
         if question.matcher.name() != name {
             name = question.matcher.name();
-            alike = alike_by(alloc, name, sets)?;
+            values = values_of(alloc, name, sets)?;
+            alike = alike_by(alloc, &values)?;
         }
-        narrow(
-            alloc,
-            question.matcher,
-            sets,
-            &alike,
-            &mut table[question.route],
-            cache,
-        )?;
+        let taken = &mut table[question.route];
+        ask(alloc, question.matcher, &values, &alike, taken, cache)?;
     }
     Ok(())
 }
 
-// For each of the label sets the place of the first of them that has the same value of this name.
-fn alike_by(alloc: Global, name: &str, sets: &[&LabelSet]) -> Result<Vec<usize>, AllocError>
-    ensures { IfOk result (λ v. AreAlike name.now (map (λ set. set.now) sets.now) v.items) }
+// For each of the values the place of the first that is equal.
+fn alike_by(alloc: Global, values: &[&str]) -> Result<Vec<usize>, AllocError>
+    ensures { IfOk result (λ v. AreAlike (map (λ value. value.now) values.now) v.items) }
 {
     let mut firsts = BTreeMap::new(alloc);
     let mut places = Vec::new(alloc);
-    for (place, set) in sets.iter().enumerate() {
-        let value = set.get(name);
+    for (place, value) in values.iter().enumerate() {
+        let value: &str = value;
         let first = firsts.get(value).copied();
         if first.is_none() {
             firsts.insert(value, place)?;
@@ -121,49 +118,62 @@ fn alike_by(alloc: Global, name: &str, sets: &[&LabelSet]) -> Result<Vec<usize>,
     Ok(places)
 }
 
-// Takes out of the label sets those that the matcher doesn't take. Of those that are alike one is asked.
-fn narrow(
+// Takes away the flags of the values that don't meet the matcher's condition. Of those that are alike one is asked.
+fn ask(
     alloc: Global,
     matcher: &Matcher,
-    sets: &[&LabelSet],
+    values: &[&str],
     alike: &[usize],
     taken: &mut Vec<bool>,
     cache: &mut PatternCache,
 ) -> Result<(), Failure<PatternRefusal>>
-    requires alike { AreAlike matcher.now.name (map (λ set. set.now) sets.now) alike.now }
-    requires each { length taken.now.items ≡ length sets.now }
-    ensures taken { OnOk result (taken.new.items
-        ≡ narrowed matcher.now (map (λ set. set.now) sets.now) taken.old.items) }
+    requires alike { AreAlike (map (λ value. value.now) values.now) alike.now }
+    requires each { length taken.now.items ≡ length values.now }
+    ensures taken { OnOk result (taken.new.items ≡ narrowed_by matcher.now (map (λ value. value.now) values.now) taken.old.items) }
     ensures asked { Asked result cache.old cache.new }
+    ensures misses { cache.new.misses ≤ cache.old.misses + length (patterns_of (matcher.now ∷ [])) }
     ensures failure { IfErr result (IsFailureOf matcher.now cache.old cache.new) }
 {
-    let mut answers = vec![in alloc; None; sets.len()]?;
-    for (i, set) in sets.iter().enumerate() {
-        if taken[i] {
-            taken[i] = answer(alloc, matcher, set, &mut answers[alike[i]], cache)?;
-        }
-    }
+    let mut firsts = firsts_of(alloc, alike, taken)?;
+    narrow(alloc, matcher, values, &mut firsts, cache)?;
+    let left = left_by(alloc, alike, taken, &firsts)?;
+    *taken = left;
     Ok(())
 }
 
-// Whether the matcher takes the labels, which is asked once.
-fn answer(
-    alloc: Global,
-    matcher: &Matcher,
-    labels: &LabelSet,
-    known: &mut Option<bool>,
-    cache: &mut PatternCache,
-) -> Result<bool, Failure<PatternRefusal>>
-    requires { ForSome known.now (λ taken. taken ≡ takes_labels matcher.now labels.now) }
-    ensures value { IfOk result (λ taken. taken ≡ takes_labels matcher.now labels.now) }
-    ensures known { IfOk result (λ taken. known.new ≡ Some taken) }
-    ensures asked { Asked result cache.old cache.new }
-    ensures failure { IfErr result (IsFailureOf matcher.now cache.old cache.new) }
+// Flags of the places that stand for one whose flag is set.
+fn firsts_of(alloc: Global, alike: &[usize], taken: &[bool]) -> Result<Vec<bool>, AllocError>
+    requires each { length alike.now ≡ length taken.now }
+    requires within { All (λ place. place < length taken.now) alike.now }
+    ensures each { IfOk result (λ v. length v.items ≡ length taken.now) }
+    ensures firsts { IfOk result (λ v. (k : ℕ) → k < length taken.now → get_or taken.now k false ≡ true
+        → get_or v.items (get_or alike.now k 0) false ≡ true) }
 {
-    if let Some(taken) = *known {
-        return Ok(taken);
+    let mut firsts = vec![in alloc; false; taken.len()]?;
+    for (place, first) in alike.iter().enumerate() {
+        if taken[place] {
+            firsts[*first] = true;
+        }
     }
-    let taken = matcher.matches(alloc, labels, cache)?;
-    *known = Some(taken);
-    Ok(taken)
+    Ok(firsts)
+}
+
+// The flags that are set, and are so at the place that stands for theirs.
+fn left_by(
+    alloc: Global,
+    alike: &[usize],
+    taken: &[bool],
+    firsts: &[bool],
+) -> Result<Vec<bool>, AllocError>
+    requires each { length alike.now ≡ length taken.now }
+    requires within { All (λ place. place < length firsts.now) alike.now }
+    ensures each { IfOk result (λ v. length v.items ≡ length taken.now) }
+    ensures left { IfOk result (λ v. (k : ℕ) → k < length taken.now → get_or v.items k false
+        ≡ (get_or taken.now k false && get_or firsts.now (get_or alike.now k 0) false)) }
+{
+    let mut left = Vec::with_capacity(alloc, taken.len())?;
+    for (place, first) in alike.iter().enumerate() {
+        left.push(taken[place] && firsts[*first])?;
+    }
+    Ok(left)
 }

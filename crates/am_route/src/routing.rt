@@ -1,4 +1,4 @@
-ghost use Rattle.std.specs.Prelude.{◌≡◌, ◌+◌, ◌++◌, ◌<◌, ◌≤◌, ◌^◌, All, length, map, IfErr, IfOk, OnOk};
+ghost use Rattle.std.specs.Prelude.{◌≡◌, ◌+◌, ◌++◌, ◌<◌, ◌≤◌, ◌^◌, All, length, map, IfErr, IfOk, IsSome, OnOk};
 ghost use Rattle.std.specs.Option.{ForSome};
 ghost use Rattle.am_draft.specs.Forests.{IsForest, forest_of};
 ghost use Rattle.am_pattern.specs.Asking.{Asked};
@@ -50,8 +50,9 @@ pub fn routes_of(
 
 /// The routes of each of these label sets, in their order: those that [`routes_of`] gives.
 ///
-/// All matchers of the routes are asked, pattern by pattern. So a pattern is built at most once in the call, however
-/// few the cache keeps, and however many routes have it. The call takes a byte for each route and label set.
+/// All matchers of the routes are asked, pattern by pattern, each once for all label sets. So no more patterns are built
+/// in the call than the routes have, however few the cache keeps; one that several matchers have is asked in turn, and
+/// built once. The call takes a byte for each route and label set.
 ///
 /// # Errors
 ///
@@ -66,6 +67,7 @@ pub fn routes_of_each(
     ensures places { IfOk result (λ v. All (λ found. All (λ id. id < length config.now.routes) found) v.items) }
     ensures some { IfOk result (λ v. All (λ found. 0 < length found) v.items) }
     ensures asked { Asked result cache.old cache.new }
+    ensures misses { cache.new.misses ≤ cache.old.misses + length (patterns_of (route_matchers config.now.routes)) }
     ensures failure { IfErr result (IsFailureAmong (route_matchers config.now.routes) cache.old cache.new) }
 
     // Where no build of a pattern of the routes was refused, nothing but memory can fail.
@@ -82,7 +84,8 @@ pub fn routes_of_each(
     Ok(found)
 }
 
-// The routes of the labels, where it is known of some routes by number whether they take them.
+// The routes of the labels, where it is known of some routes by number whether they take them. Where it is of all, the
+// cache isn't asked.
 fn routes_by(
     alloc: Global,
     config: &Config,
@@ -96,6 +99,7 @@ fn routes_by(
     ensures some { IfOk result (λ found. 0 < length found.items) }
     ensures asked { Asked result cache.old cache.new }
     ensures failure { IfErr result (IsFailureAmong (asked_at labels.now config.now.routes) cache.old cache.new) }
+    ensures untouched { All IsSome known.now → cache.new ≡ cache.old }
     ensures meaning { AreRefusedRightly cache.new.refused (patterns_of (asked_at labels.now config.now.routes))
         → IfErr result (λ failure. failure ≡ Failure.OutOfMemory) }
 {
@@ -125,6 +129,7 @@ fn walk(
         ≡ found.old.items ++ routes_among labels.now first (forest_of nodes.now)) }
     ensures asked { Asked result cache.old cache.new }
     ensures failure { IfErr result (IsFailureAmong (asked_among labels.now (forest_of nodes.now)) cache.old cache.new) }
+    ensures untouched { All IsSome known.now → cache.new ≡ cache.old }
 {
     let mut rest = nodes;
     let mut number = first;
@@ -160,6 +165,7 @@ fn enter(
         ≡ found.old.items ++ routes_within labels.now number (forest_of within.now)) }
     ensures asked { Asked result cache.old cache.new }
     ensures failure { IfErr result (IsFailureAmong (asked_among labels.now (forest_of within.now)) cache.old cache.new) }
+    ensures untouched { All IsSome known.now → cache.new ≡ cache.old }
 {
     let before = found.len();
     walk(alloc, within, known, number + 1, labels, cache, found)?;
@@ -181,6 +187,7 @@ fn takes(
     ensures value { IfOk result (λ taken. taken ≡ route_takes route.now labels.now) }
     ensures asked { Asked result cache.old cache.new }
     ensures failure { IfErr result (IsFailureAmong (asked_of labels.now route.now.matchers) cache.old cache.new) }
+    ensures untouched { IsSome known → cache.new ≡ cache.old }
 {
     match known {
         Some(taken) => Ok(taken),

@@ -4,4 +4,4 @@ use Rattle.am_route.proofs.answers.alike_by.Given as goal
 
 abbrev pub invariant-loop-place : goal.invariant-loop-place
 invariant-loop-place l =
-    AreFirsts l.name (map (λ set. set.now) l.sets) l.firsts × AreAlikeSoFar l.name (map (λ set. set.now) l.sets) l.place l.places.items
+    AreFirsts (map (λ value. value.now) l.values) l.firsts × AreAlikeSoFar (map (λ value. value.now) l.values) l.place l.places.items

@@ -1,42 +1,100 @@
-use Rattle.std.proofs.Common.{◌≡◌, [], ℕ, ◌∙◌, ◌<◌, Bool, Vec, Global, ap, get_or, length, map, refl, sym, arith}
-use Rattle.std.proofs.lemmas.List.{get_or_default}
+use Rattle.std.proofs.Common.{◌≡◌, [], ℕ, ◌+◌, ◌∙◌, ◌<◌, Bool, true, false, not, Bor, List, Vec, Global, ap, get_or, length, map, take, refl, sym, arith}
+use Rattle.std.proofs.lemmas.List.{get_or_default, length-map}
+use Rattle.std.proofs.lemmas.Slice.Eq.{bytes_eq-Decides}
+use Rattle.am_route.specs.Answers.{answer_of}
 use Rattle.std.proofs.lemmas.List.Elements.{All-get_or}
 use Rattle.am_pattern.proofs.AskingLemmas.{grows-stays, grows-trans, stays-refl, stays-trans}
-use Rattle.am_match.specs.Asking.{narrowed}
+use Rattle.am_labels.specs.Sets.{value_of}
+use Rattle.am_match.specs.Asking.{narrowed, narrowed_by}
 use Rattle.am_match.specs.Matchers.{MatcherText}
-use Rattle.am_match.proofs.NarrowLemmas.{failure_of_one}
+use Rattle.am_match.proofs.NarrowLemmas.{failure_of_one, narrowed-values}
+use Rattle.am_route.proofs.QuestionLemmas.{questions_more_patterns, questions_some_patterns}
 use Rattle.am_route.proofs.FailureLemmas.{asked_on, handed_on}
 use Rattle.am_route.proofs.TableLemmas.{matcher_among, table_more, table_start}
-use Rattle.am_route.proofs.answers.ask_all.Goals.{then-ne+in_ok-alike-2, else-ne}
+use Rattle.am_route.proofs.answers.ask_all.Goals.{then-ne+in_ok-values-2+in_ok-alike-2, else-ne}
 use Rattle.am_route.proofs.answers.ask_all.Goals as goal
 
 pub loop-question-init : goal.loop-question-init
 loop-question-init c = record {
   stays = stays-refl _;
+  misses = omega arith;
   text = ([], (refl, refl));
-  alike = c.in_ok-alike.ensures;
+  values = c.in_ok-values.ensures;
+  alike = rw c.deref.ensures.value at c.in_ok-alike.ensures;
   table = table_start (λ set. set.now) c.args.sets.now c.args.table.now.items c.requires.rows;
 }
+
+pub returns-in_err-values-2-clause-asked : goal.returns-in_err-values-2-clause-asked
+returns-in_err-values-2-clause-asked c =
+    asked_on c.from_residual-in_err-values-2.result _ c.args.cache.now c.loop-question.cache c.from_residual-in_err-values-2.ensures.1
+    (grows-stays c.args.cache.now c.loop-question.cache c.loop-question.invariant.stays)
+
+pub returns-in_err-values-2-clause-misses : goal.returns-in_err-values-2-clause-misses
+returns-in_err-values-2-clause-misses c =
+    omega (arith, c.loop-question.invariant.misses, questions_some_patterns c.args.questions.now c.loop-question.question-index)
 
 pub returns-in_err-alike-2-clause-asked : goal.returns-in_err-alike-2-clause-asked
 returns-in_err-alike-2-clause-asked c =
     asked_on c.from_residual-in_err-alike-2.result _ c.args.cache.now c.loop-question.cache c.from_residual-in_err-alike-2.ensures.1
     (grows-stays c.args.cache.now c.loop-question.cache c.loop-question.invariant.stays)
 
-pub returns-in_err-narrow-clause-asked : goal.returns-in_err-narrow-clause-asked
-returns-in_err-narrow-clause-asked c =
-    asked_on c.from_residual-in_err-narrow.result c.in_err-narrow.field-0.0 c.args.cache.now c.narrow.new.cache c.from_residual-in_err-narrow.ensures.1
-    (grows-trans c.args.cache.now c.loop-question.cache c.narrow.new.cache
-    (grows-stays c.args.cache.now c.loop-question.cache c.loop-question.invariant.stays) c.in_err-narrow.ensures.asked)
+pub returns-in_err-alike-2-clause-misses : goal.returns-in_err-alike-2-clause-misses
+returns-in_err-alike-2-clause-misses c =
+    omega (arith, c.loop-question.invariant.misses, questions_some_patterns c.args.questions.now c.loop-question.question-index)
 
-pub returns-in_err-narrow-clause-failure : goal.returns-in_err-narrow-clause-failure
-returns-in_err-narrow-clause-failure c =
-    handed_on _ c.from_residual-in_err-narrow.result c.in_err-narrow.field-0.0 c.from_residual-in_err-narrow.ensures.1
+pub ask-requires-clause-each : goal.ask-requires-clause-each
+ask-requires-clause-each c =
+    let sets = c.args.sets.now in
+    let rows = c.loop-question.table.items in
+    let row = c.index_mut-taken.result.now in
+    let q = c.question-item.result in
+    let asked = take c.loop-question.question-index c.args.questions.now in
+    let number : q.0 ≡ c.question.inside.route = ap (λ (p : ℕ × MatcherText). p.0) (sym c.question.view_is) in
+    let fits : q.0 < length c.args.table.now.items =
+    rw (c.question-item.is) (All-get_or (λ (p : ℕ × MatcherText). p.0 < length c.args.table.now.items) c.args.questions.now
+    c.loop-question.question-index q c.loop-question-test.true c.requires.numbers) in
+    let labels = map (λ set. set.now) sets in
+    let before : row ≡ get_or rows q.0 row = c.index_mut-taken.ensures.value ∙ ap (λ n. get_or rows n row) (sym number) in
+    let long = ap (λ (r : Vec Bool Global). length r.items) before ∙ ap length (c.loop-question.invariant.table.1 q.0 row fits)
+    ∙ length-map labels (answer_of asked q.0) ∙ length-map sets (λ set. set.now) in
+    let values : length c.if-ne.values.items ≡ length sets = elim c.if-ne.branch [
+      | then-ne+in_ok-values-2+in_ok-alike-2 w ↦
+          ap (λ (v : Vec (Bor (List ℕ)) Global). length v.items) w.values-is
+          ∙ sym (length-map w.in_ok-values-2.values.items (λ value. value.now)) ∙ ap length w.in_ok-values-2.ensures ∙ length-map sets _
+      | else-ne w ↦
+          ap (λ (v : Vec (Bor (List ℕ)) Global). length v.items) w.values-is
+          ∙ sym (length-map c.loop-question.values.items (λ value. value.now)) ∙ ap length c.loop-question.invariant.values ∙ length-map sets _
+    ] in
+    long ∙ sym values ∙ sym (ap length c.deref-in-loop-question.ensures.value)
+
+pub returns-in_err-ask-clause-asked : goal.returns-in_err-ask-clause-asked
+returns-in_err-ask-clause-asked c =
+    asked_on c.from_residual-in_err-ask.result c.in_err-ask.field-0.0 c.args.cache.now c.ask.new.cache c.from_residual-in_err-ask.ensures.1
+    (grows-trans c.args.cache.now c.loop-question.cache c.ask.new.cache
+    (grows-stays c.args.cache.now c.loop-question.cache c.loop-question.invariant.stays) c.in_err-ask.ensures.asked)
+
+pub returns-in_err-ask-clause-misses : goal.returns-in_err-ask-clause-misses
+returns-in_err-ask-clause-misses c =
+    let qs = c.args.questions.now in
+    let k = c.loop-question.question-index in
+    let matcher : c.question-item.result.1 ≡ c.question.inside.matcher.now = ap (λ (p : ℕ × MatcherText). p.1) (sym c.question.view_is) in
+    let more = questions_more_patterns qs k c.question-item.result c.loop-question-test.true c.question-item.is in
+    let asked = rw (← matcher) at c.in_err-ask.ensures.misses in
+    omega (arith, more, asked, c.loop-question.invariant.misses, questions_some_patterns qs (k + 1))
+
+pub returns-in_err-ask-clause-failure : goal.returns-in_err-ask-clause-failure
+returns-in_err-ask-clause-failure c =
+    handed_on _ c.from_residual-in_err-ask.result c.in_err-ask.field-0.0 c.from_residual-in_err-ask.ensures.1
     (failure_of_one (map (λ (q : ℕ × MatcherText). q.1) c.args.questions.now) c.question.inside.matcher.now c.args.cache.now c.loop-question.cache
-    c.narrow.new.cache c.in_err-narrow.field-0.0
+    c.ask.new.cache c.in_err-ask.field-0.0
     (matcher_among c.args.questions.now c.loop-question.question-index c.question-item.result c.loop-question-test.true c.question-item.is c.question.inside.matcher.now
     (ap (λ (q : ℕ × MatcherText). q.1) (sym c.question.view_is)))
-    c.loop-question.invariant.stays c.in_err-narrow.ensures.failure)
+    c.loop-question.invariant.stays c.in_err-ask.ensures.failure)
+
+-- a test that was turned and failed
+passed : (b : Bool) → false ≡ not b → b ≡ true
+passed true e = refl
+passed false e = e
 
 pub loop-question-preserved : goal.loop-question-preserved
 loop-question-preserved c =
@@ -44,29 +102,51 @@ loop-question-preserved c =
     let k = c.loop-question.question-index in
     let q = c.question-item.result in
     let rows = c.loop-question.table.items in
-    let row = c.narrow.new.taken in
+    let row = c.ask.new.taken in
+    let old = c.index_mut-taken.result.now in
+    let m = c.question.inside.matcher.now in
+    let sets = c.args.sets.now in
     let number : q.0 ≡ c.question.inside.route = ap (λ (p : ℕ × MatcherText). p.0) (sym c.question.view_is) in
-    let matcher : q.1 ≡ c.question.inside.matcher.now = ap (λ (p : ℕ × MatcherText). p.1) (sym c.question.view_is) in
+    let matcher : q.1 ≡ m = ap (λ (p : ℕ × MatcherText). p.1) (sym c.question.view_is) in
     let fits : q.0 < length c.args.table.now.items =
     rw (c.question-item.is) (All-get_or (λ (p : ℕ × MatcherText). p.0 < length c.args.table.now.items) qs k q c.loop-question-test.true c.requires.numbers) in
-    let labels = map (λ set. set.now) c.args.sets.now in
-    let before : c.index_mut.result.now ≡ get_or rows q.0 row =
-    c.index_mut.ensures.value
-    ∙ get_or_default rows c.question.inside.route c.index_mut.result.now row (omega (arith, fits, number, c.loop-question.invariant.table.0))
+    let labels = map (λ set. set.now) sets in
+    let before : old ≡ get_or rows q.0 row =
+    c.index_mut-taken.ensures.value
+    ∙ get_or_default rows c.question.inside.route old row (omega (arith, fits, number, c.loop-question.invariant.table.0))
     ∙ ap (λ n. get_or rows n row) (sym number) in
+    let named : map (λ value. value.now) c.if-ne.values.items ≡ map (λ set. value_of c.if-ne.name.now set.now) sets = elim c.if-ne.branch [
+      | then-ne+in_ok-values-2+in_ok-alike-2 w ↦ rw (w.name-is, w.values-is) w.in_ok-values-2.ensures
+      | else-ne w ↦ rw (w.name-is, w.values-is) c.loop-question.invariant.values
+    ] in
+    let same : c.if-ne.name.now ≡ m.name = elim c.if-ne.branch [
+      | then-ne+in_ok-values-2+in_ok-alike-2 w ↦ ap (λ (name : Bor (List ℕ)). name.now) w.name-is ∙ w.name-name.ensures.name
+      | else-ne w ↦
+          ap (λ (name : Bor (List ℕ)). name.now) w.name-is
+          ∙ sym ((bytes_eq-Decides c.name.result.now c.loop-question.name.now).0 (passed _ w.if-ne.ensures))
+          ∙ c.name.ensures.name
+    ] in
     let narrow : row.items ≡ narrowed q.1 labels (get_or rows q.0 row).items =
-    c.in_ok-narrow.ensures.taken
-    ∙ ap (λ m. narrowed m labels c.index_mut.result.now.items) (sym matcher)
+    c.in_ok-ask.ensures.taken
+    ∙ ap (λ (values : List (Bor (List ℕ))). narrowed_by m (map (λ value. value.now) values) old.items) c.deref-in-loop-question.ensures.value
+    ∙ ap (λ values. narrowed_by m values old.items) named
+    ∙ ap (λ name. narrowed_by m (map (λ set. value_of name set.now) sets) old.items) same
+    ∙ narrowed-values m (λ set. set.now) sets old.items
+    ∙ ap (λ n. narrowed n labels old.items) (sym matcher)
     ∙ ap (λ (r : Vec Bool Global). narrowed q.1 labels r.items) before in
+    let more = questions_more_patterns qs k q c.loop-question-test.true c.question-item.is in
+    let asked = rw (← matcher) at c.in_ok-ask.ensures.misses in
     record {
-      stays = stays-trans c.args.cache.now c.loop-question.cache c.narrow.new.cache c.loop-question.invariant.stays c.in_ok-narrow.ensures.asked;
+      stays = stays-trans c.args.cache.now c.loop-question.cache c.ask.new.cache c.loop-question.invariant.stays c.in_ok-ask.ensures.asked;
+      misses = omega (arith, more, asked, c.loop-question.invariant.misses);
       text = elim c.if-ne.branch [
-        | then-ne+in_ok-alike-2 w ↦ rw w.name-is w.name-name.utf8
+        | then-ne+in_ok-values-2+in_ok-alike-2 w ↦ rw w.name-is w.name-name.utf8
         | else-ne w ↦ rw w.name-is c.loop-question.invariant.text
       ];
+      values = named;
       alike = elim c.if-ne.branch [
-        | then-ne+in_ok-alike-2 w ↦ rw (w.name-is, w.alike-is) w.in_ok-alike-2.ensures
-        | else-ne w ↦ rw (w.name-is, w.alike-is) c.loop-question.invariant.alike
+        | then-ne+in_ok-values-2+in_ok-alike-2 w ↦ rw (w.values-is, w.alike-is) (rw w.deref-then-ne.ensures.value at w.in_ok-alike-2.ensures)
+        | else-ne w ↦ rw (w.values-is, w.alike-is) c.loop-question.invariant.alike
       ];
       table =
           rw (← number)

@@ -1,4 +1,5 @@
-use Rattle.std.proofs.Common.{◌≡◌, ◌∙◌, ◌+◌, true, false, arith, sym}
+use Rattle.std.proofs.Common.{◌≡◌, ◌∙◌, ◌+◌, true, false, IsSome, None, arith, sym}
+use Rattle.std.proofs.lemmas.List.Elements.{All-get_or}
 use Rattle.am_route.specs.Routes.{route_takes}
 use Rattle.am_route.specs.Asked.{asked_among, asked_of}
 use Rattle.am_draft.specs.Forests.{forest_of}
@@ -73,6 +74,13 @@ walk-sibling-preserved t c =
           let first = stays-trans c.args.cache.now c.sibling.cache c.takes.new.cache c.sibling.invariant.stays c.in_ok-takes.ensures.asked in
           elim c.if-branch.branch [
             | walk-then-branch+in_ok-enter+else-not-node w ↦ rw w.cache-is (stays-trans c.args.cache.now c.takes.new.cache w.enter.new.cache first w.in_ok-enter.ensures.asked)
+            | walk-else-branch w ↦ rw w.cache-is first
+          ];
+      untouched = λ sure.
+          let told = All-get_or IsSome c.args.known.now c.sibling.number None (first_within c.args.labels.now c.sibling.rest.now c.sibling.number c.args.known.now c.in-Some.node.now c.in-Some.behind.now c.in-Some.ensures.cases.0 c.sibling.invariant.known) sure in
+          let first = c.in_ok-takes.ensures.untouched told ∙ c.sibling.invariant.untouched sure in
+          elim c.if-branch.branch [
+            | walk-then-branch+in_ok-enter+else-not-node w ↦ rw w.cache-is (w.in_ok-enter.ensures.untouched sure ∙ first)
             | walk-else-branch w ↦ rw w.cache-is first
           ];
     }

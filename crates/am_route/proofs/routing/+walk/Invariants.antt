@@ -1,4 +1,4 @@
-use Rattle.std.proofs.Common.{◌≡◌, ◌+◌, ◌*◌, ◌++◌, ◌≤◌, ◌^◌, length}
+use Rattle.std.proofs.Common.{◌≡◌, ◌+◌, ◌*◌, ◌++◌, ◌≤◌, ◌^◌, All, IsSome, length}
 use Rattle.am_pattern.specs.Asking.{Stays}
 use Rattle.am_route.specs.Answers.{AreKnown}
 use Rattle.am_route.specs.Asked.{asked_among}
@@ -23,6 +23,7 @@ invariant-walk-sibling l =
       shorter : length l.rest ≤ length l.nodes;
       routes : l.found.items ++ routes_among l.labels l.number (forest_of l.rest) ≡ l.fn.found.items ++ routes_among l.labels l.first (forest_of l.nodes);
       stays : Stays l.fn.cache l.cache;
+      untouched : All IsSome l.known → l.cache ≡ l.fn.cache;
     }
 
 abbrev pub decreases-walk-sibling : goal.decreases-walk-sibling

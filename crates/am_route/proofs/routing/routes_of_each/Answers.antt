@@ -1,4 +1,7 @@
-use Rattle.std.proofs.Common.{◌<◌, ℕ, List, All, length}
+use Rattle.std.proofs.Common.{◌<◌, ◌∙◌, ◌++◌, ◌∷◌, [], ℕ, List, All, Bool, Bor, Global, IsSome, Vec, ap, false, get_or, length, map, subst, sym, take, arith}
+use Rattle.std.proofs.lemmas.List.{map_more}
+use Rattle.am_labels.specs.declared.label_set.LabelSet.{LabelSet}
+use Rattle.am_pattern.specs.Cache.{Cache}
 use Rattle.am_pattern.proofs.AskingLemmas.{grows-stays, grows-trans, stays-trans}
 use Rattle.am_match.specs.Asking.{IsFailureAmong}
 use Rattle.am_match.proofs.NarrowLemmas.{memory_alone}
@@ -7,7 +10,7 @@ use Rattle.am_route.specs.Routes.{routes_at}
 use Rattle.am_route.proofs.AskedLemmas.{asked_in_routes}
 use Rattle.am_route.proofs.FailureLemmas.{asked_on, failure_of_part, handed_on, patterns_had, route_patterns}
 use Rattle.am_route.proofs.PlacesLemmas.{places_at, some_at}
-use Rattle.am_route.proofs.TableLemmas.{all_of_each, column_known, rows_reach}
+use Rattle.am_route.proofs.TableLemmas.{all_of_each, all_told, column_known, rows_reach}
 use Rattle.am_route.proofs.routing.routes_of_each.Goals as goal
 
 pub returns-in_err-table-clause-meaning : goal.returns-in_err-table-clause-meaning
@@ -79,3 +82,38 @@ returns-clause-some c =
     all_of_each (λ set. set.now) (λ (found : List ℕ). 0 < length found) (λ labels. routes_at labels c.args.config.now.routes)
     c.args.sets.now c.loop-place.place c.loop-place.found.items c.loop-place.invariant.1
     (λ labels. some_at labels c.args.config.now.routes c.routes.ensures.tree)
+
+pub returns-in_err-routes-clause-misses : goal.returns-in_err-routes-clause-misses
+returns-in_err-routes-clause-misses c =
+    let known = c.deref-in-loop-place.ensures.value ∙ c.in_ok-known.ensures in
+    let told : All IsSome c.deref-in-loop-place.result.now =
+    subst (All IsSome) (sym known) (all_told (λ (row : Vec Bool Global). get_or row.items c.loop-place.place false) c.deref.result.now) in
+    let same = ap (λ (cache : Cache). cache.misses) (c.in_err-routes.ensures.untouched told ∙ c.loop-place.invariant.2) in
+    let misses = rw c.routes.ensures.routes at c.in_ok-table.ensures.misses in
+    omega (arith, same, misses)
+
+pub returns-in_err-push-clause-misses : goal.returns-in_err-push-clause-misses
+returns-in_err-push-clause-misses c =
+    let known = c.deref-in-loop-place.ensures.value ∙ c.in_ok-known.ensures in
+    let told : All IsSome c.deref-in-loop-place.result.now =
+    subst (All IsSome) (sym known) (all_told (λ (row : Vec Bool Global). get_or row.items c.loop-place.place false) c.deref.result.now) in
+    let same = ap (λ (cache : Cache). cache.misses) (c.in_ok-routes.ensures.untouched told ∙ c.loop-place.invariant.2) in
+    let misses = rw c.routes.ensures.routes at c.in_ok-table.ensures.misses in
+    omega (arith, same, misses)
+
+pub loop-place-preserved : goal.loop-place-preserved
+loop-place-preserved c =
+    let known = c.deref-in-loop-place.ensures.value ∙ c.in_ok-known.ensures in
+    let told : All IsSome c.deref-in-loop-place.result.now =
+    subst (All IsSome) (sym known) (all_told (λ (row : Vec Bool Global). get_or row.items c.loop-place.place false) c.deref.result.now) in
+    let found : Bor LabelSet → List ℕ = λ set. routes_at set.now c.args.config.now.routes in
+    let set = c.index-sets-place.result in
+    let sets = c.args.sets.now in
+    let place = c.loop-place.place in (
+      stays-trans c.args.cache.now c.loop-place.cache c.routes_by.new.cache c.loop-place.invariant.0 c.in_ok-routes.ensures.asked,
+      c.in_ok-push.ensures.items
+          ∙ ap (λ (front : List (List ℕ)). front ++ c.from_vec.result ∷ []) c.loop-place.invariant.1
+          ∙ ap (λ last. map found (take place sets) ++ last ∷ []) (c.from_vec.ensures ∙ c.in_ok-routes.ensures.routes ∙ ap found c.index-sets-place.is)
+          ∙ sym (map_more found sets place set c.loop-place-test.true),
+      c.in_ok-routes.ensures.untouched told ∙ c.loop-place.invariant.2,
+    )
