@@ -1,0 +1,8 @@
+pub mod BuildLemmas
+pub mod HeldLemmas
+pub mod LabelLemmas
+pub mod PlacesLemmas
+pub mod SilencingLemmas
+pub mod MapLemmas
+pub mod EqualLemmas
+pub mod PostedLemmas

@@ -1,0 +1,17 @@
+use Rattle.std.proofs.lemmas.Result.{err_from_is_err_and}
+use Rattle.am_silence.proofs.PostedLemmas.{asking_failed, patterns_failed}
+use Rattle.am_silence.proofs.posted.matchers_judged.Goals as goal
+
+pub returns-in_err-check-clause-read : goal.returns-in_err-check-clause-read
+returns-in_err-check-clause-read c =
+    let p = err_from_is_err_and c.from_residual-in_err-check.result c.from_residual-in_err-check.ensures.1 in
+    rw (p.1, p.2)
+    (patterns_failed c.args.written.now c.in_ok-matchers.matchers.items c.check.new.cache.refused _ c.in_ok-matchers.ensures
+    (rw c.deref.ensures.value at c.in_err-check.ensures.read))
+
+pub returns-in_err-takes_empty-clause-read : goal.returns-in_err-takes_empty-clause-read
+returns-in_err-takes_empty-clause-read c =
+    let p = err_from_is_err_and c.from_residual-in_err-takes_empty.result c.from_residual-in_err-takes_empty.ensures.1 in
+    rw (p.1, p.2)
+    (asking_failed c.args.written.now c.in_ok-matchers.matchers.items c.takes_empty.new.cache.refused _ _ c.in_ok-matchers.ensures
+    (rw c.deref-2.ensures.value at c.in_err-takes_empty.ensures.unbuilt))
