@@ -17,7 +17,8 @@ use Rattle.am_alert.specs.declared.held.HeldAlert.{HeldAlert}
 use Rattle.am_alert.specs.HeldAlert.{held_alert}
 use Rattle.am_api.specs.declared.receivers.RoutedAlert.{RoutedAlert}
 use Rattle.am_api.specs.Listed.{has_taken, made_routed, routed, with_receivers}
-use Rattle.am_api.specs.Receivers.{is_asked, names_at, names_of, receivers_at, receivers_of}
+use Rattle.am_payload.specs.Receivers.{names_at, names_of}
+use Rattle.am_api.specs.Receivers.{is_asked, receivers_at, receivers_of}
 use Rattle.am_api.proofs.Lists.{filter-map}
 
 -- those whose own flag is set

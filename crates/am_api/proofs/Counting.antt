@@ -12,10 +12,8 @@ use Rattle.am_labels.specs.declared.Label.{Label}
 use Rattle.am_labels.specs.Labels.{labels_cmp, labels_total}
 use Rattle.am_item.specs.declared.item.Alert.{Alert}
 use Rattle.am_item.specs.declared.item.Item.{Item}
-use Rattle.am_item.specs.Held.{items_by}
-use Rattle.am_item.specs.Kinds.{alerts_of}
 use Rattle.am_config.specs.Configuration.{Configuration}
-use Rattle.am_api.specs.Decision.{count_with, is_held, new_count, new_sets}
+use Rattle.am_api.specs.Fresh.{is_held, new_count, new_sets}
 use Rattle.am_api.specs.Receivers.{once, receiver_at}
 use Rattle.am_api.proofs.Lists.{apart, apart-new, apart-seen}
 
@@ -52,17 +50,6 @@ pub count_more : (held : List Item) (later : List Alert) (alert : Alert) (old ne
 count_more held later alert old new known added fresh before knows adds now =
     now ∙ ap (λ n. n + (if added then 1 else 0)) before ∙ ap (λ b. new_count held later + (if b then 1 else 0)) adds
     ∙ counted (new_sets held later) alert.labels known (sym knows) ∙ ap (distinct_count (eq_by_cmp labels_cmp)) (sym (sets_more held later alert fresh))
-
-length-items_by : {K V : Type 0} (item_of : K → V → Item) (entries : List (K × V)) → length (items_by item_of entries) ≡ length entries
-length-items_by item_of [] = refl
-length-items_by item_of ((key, value) ∷ entries) = ap suc (length-items_by item_of entries)
-
--- all that are held, and those that are new
-pub whole_count : {K V : Type 0} (item_of : K → V → Item) (entries : List (K × V)) (held : List Item) (posted : List Alert) (len new : ℕ) → items_by item_of entries ≡ alerts_of held →
-    len ≡ length entries → new ≡ new_count held posted → count_with held posted ≡ len + new
-unfolding count_with
-whole_count item_of entries held posted len new are lens news =
-    rw (lens, news) (ap (λ n. n + new_count held posted) (ap length (sym are) ∙ length-items_by item_of entries))
 
 pub past_none : (limit len new whole : ℕ) → whole ≡ len + new → ¬ (len ≤ limit) → true ≡ nat_lt limit whole
 past_none limit len new whole is past = grind (arith, nat_tests)

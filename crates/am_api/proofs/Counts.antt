@@ -63,7 +63,7 @@ counted_within false held moment maker posted decision none = counted_from held 
 
 counted_posted : (limit : ℕ) (held : List Item) (moment : ℕ) (maker : Maker) (outcome : Result (List Alert) PostedRefusal) →
     AreCounted maker.used (stored_or_refused limit held moment maker outcome).items
-counted_posted limit held moment maker (Ok posted) = counted_within (nat_lt limit (count_with held posted)) held moment maker posted _ refl
+counted_posted limit held moment maker (Ok posted) = counted_within (nat_lt limit (count_with held moment maker posted)) held moment maker posted _ refl
 counted_posted limit held moment maker (Err reason) = tt
 
 counted_listed : (c : config.Configuration) (held : List Item) (moment used : ℕ) (outcome : Result Query QueryRefusal) → AreCounted used (listed_or_refused c held moment outcome).items

@@ -15,6 +15,8 @@ mod Shown
 pub mod StoredItems
 -- the replies to requests that list alerts
 mod Replies
+-- how many alerts are held once posted ones have come
+mod MergedCount
 -- how posted label sets are counted, and receivers once each
 mod Counting
 -- alerts that are chosen, with their receivers

@@ -17,14 +17,17 @@ use Rattle.am_alert.specs.declared.held.HeldAlert.{HeldAlert}
 use Rattle.am_alert.specs.Held.{firing}
 use Rattle.am_alert.specs.HeldAlert.{held_alert}
 use Rattle.am_api.specs.declared.query.Query.{Query}
+use Rattle.am_payload.specs.Listed.{read_data, reads_data, reads_text}
+use Rattle.am_payload.specs.Receivers.{names_at}
+use Rattle.am_payload.specs.Written.{alert_data}
 use Rattle.am_api.specs.declared.receivers.RoutedAlert.{RoutedAlert}
 use Rattle.am_api.specs.declared.refusal.Unanswered.{Unanswered}
 use Rattle.am_api.specs.declared.refusal.Unanswered.TheVariants.{Asked, Stored}
 use Rattle.am_api.specs.Deciding.{IsUnanswered}
-use Rattle.am_api.specs.Listed.{listed_text, lists_data, routed, with_receivers}
+use Rattle.am_api.specs.Listed.{routed, unmuted, with_receivers}
 use Rattle.am_api.specs.Patterns.{HasRefused}
-use Rattle.am_api.specs.Receivers.{is_asked, names_at, passes, shown}
-use Rattle.am_api.specs.Written.{alert_data, alerts_data, alerts_text}
+use Rattle.am_api.specs.Receivers.{is_asked, passes, shown}
+use Rattle.am_api.specs.Written.{alerts_data, alerts_text}
 use Rattle.am_api.proofs.Builds.{Among, refused_among, rightly_or_refused}
 use Rattle.am_api.proofs.Lists.{filter-filter, filter-map, filter-none}
 
@@ -50,10 +53,10 @@ shown_steps c q moment held taken found on takes with =
 
 -- what is written of them is what the list has
 pub written_shown : (c : Configuration) (found : List RoutedAlert) (alerts : List (Stamped Alert)) → map routed found ≡ map (with_receivers c) alerts →
-    lists_data c found ≡ alerts_data c alerts
+    reads_data c (map unmuted found) ≡ alerts_data c alerts
 written_shown c found alerts with =
-    let written : Stamped Alert × List ℕ → Data = λ p. alert_data (names_at c p.1) p.0 in
-    ap (λ ds. array (items_of ds)) (sym (map-map written routed found) ∙ ap (map written) with ∙ map-map written (with_receivers c) alerts)
+    let written : Stamped Alert × List ℕ → Data = λ p. alert_data (names_at c p.1) [] [] p.0 in
+    ap (λ ds. array (items_of ds)) (map-map (read_data c) unmuted found ∙ sym (map-map written routed found) ∙ ap (map written) with ∙ map-map written (with_receivers c) alerts)
 
 -- a refusal where nothing but memory can fail, unless a build was refused
 pub refused_build : {R : Type 0} (refused texts : List (List ℕ)) (reason : R) →
@@ -70,6 +73,6 @@ unanswered_among refused xs ys stored (Refused Stored) among known = known
 
 -- the bytes of what is shown
 pub text_shown : (c : Configuration) (found : List RoutedAlert) (alerts : List (Stamped Alert)) → map routed found ≡ map (with_receivers c) alerts →
-    listed_text c found ≡ alerts_text c alerts
+    reads_text c (map unmuted found) ≡ alerts_text c alerts
 unfolding alerts_text
 text_shown c found alerts with = ap compact_text (written_shown c found alerts with)

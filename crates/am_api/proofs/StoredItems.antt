@@ -46,7 +46,7 @@ none_within false held moment maker posted decision ys none = rw (none_from held
 
 none_posted : (limit : ℕ) (held : List Item) (moment : ℕ) (maker : Maker) (outcome : Result (List Alert) PostedRefusal) (ys : List (List ℕ)) →
     Among (patterns_of_items (stored_or_refused limit held moment maker outcome).items) ys
-none_posted limit held moment maker (Ok posted) ys = none_within (nat_lt limit (count_with held posted)) held moment maker posted _ ys refl
+none_posted limit held moment maker (Ok posted) ys = none_within (nat_lt limit (count_with held moment maker posted)) held moment maker posted _ ys refl
 none_posted limit held moment maker (Err reason) ys = none_in ys
 
 none_listed : (c : config.Configuration) (held : List Item) (moment : ℕ) (outcome : Result Query QueryRefusal) (ys : List (List ℕ)) →

@@ -1,9 +1,5 @@
 -- What is decided on a request: the items that it brings, and the reply.
-use Rattle.std.specs.Prelude.{ℕ, ◌+◌, nat_lt, Bool, not, List, [], ◌∷◌, codes, filter, length, map, is_some, Option, Some, None, option_map, Result, Ok, Err, if◌then◌else◌}
-use Rattle.std.specs.Ordering.{eq_by_cmp}
-use Rattle.std.specs.Set.{distinct_count}
-use Rattle.am_labels.specs.declared.Label.{Label}
-use Rattle.am_labels.specs.Labels.{labels_cmp}
+use Rattle.std.specs.Prelude.{ℕ, ◌+◌, nat_lt, List, [], ◌∷◌, codes, length, Option, Some, None, option_map, Result, Ok, Err, if◌then◌else◌}
 use Rattle.am_http.specs.Replies.{refusal}
 use Rattle.am_http.specs.declared.request.Method.{Method}
 use Rattle.am_http.specs.declared.request.Method.TheVariants.{Get, Post, Delete}
@@ -21,8 +17,8 @@ use Rattle.am_item.specs.declared.item.Alert.{Alert}
 use Rattle.am_item.specs.declared.item.Item.{Item}
 use Rattle.am_item.specs.declared.item.Thing.{Thing}
 use Rattle.am_item.specs.declared.item.Thing.TheVariants as thing
-use Rattle.am_item.specs.Best.{item_at}
-use Rattle.am_item.specs.Key.{AlertKey, ConfigurationKey}
+use Rattle.am_item.specs.Best.{all_joined, item_at}
+use Rattle.am_item.specs.Key.{ConfigurationKey}
 use Rattle.am_item.specs.Kinds.{alerts_of}
 use Rattle.am_alert.specs.declared.maker.Maker.{Maker}
 use Rattle.am_alert.specs.declared.refusal.PostedRefusal.{PostedRefusal}
@@ -33,7 +29,8 @@ use Rattle.am_api.specs.declared.query.Query.{Query}
 use Rattle.am_api.specs.declared.refusal.QueryRefusal.{QueryRefusal}
 use Rattle.am_api.specs.Queries as queries
 use Rattle.am_api.specs.Receivers.{shown}
-use Rattle.am_api.specs.Written.{alerts_text, document_text, receivers_text}
+use Rattle.am_payload.specs.Written.{document_text, receivers_text}
+use Rattle.am_api.specs.Written.{alerts_text}
 
 -- the items that are stored, and the status and the body of the reply
 pub record Decision : Type 0 where
@@ -56,26 +53,14 @@ abbrev pub listed_or_refused : config.Configuration → List Item → ℕ → Re
 listed_or_refused c held moment (Ok query) = replied 200 (alerts_text c (shown c query moment held))
 listed_or_refused c held moment (Err reason) = refused (queries.status_of reason) (queries.code_of reason)
 
--- an alert with this label set is held
-abbrev pub is_held : List Item → List Label → Bool
-is_held held labels = is_some (item_at (AlertKey labels) held)
-
--- the label sets that are posted and aren't held
-abbrev pub new_sets : List Item → List Alert → List (List Label)
-new_sets held posted = filter (λ labels. not (is_held held labels)) (map (λ (alert : Alert). alert.labels) posted)
-
--- how many they are: those that are equal count once
-abbrev pub new_count : List Item → List Alert → ℕ
-new_count held posted = distinct_count (eq_by_cmp labels_cmp) (new_sets held posted)
-
--- how many alerts are held once posted ones have come to them
-unfoldable pub count_with : List Item → List Alert → ℕ
-count_with held posted = length (alerts_of held) + new_count held posted
+-- how many alerts are held once posted ones have come
+unfoldable pub count_with : List Item → ℕ → Maker → List Alert → ℕ
+count_with held moment maker posted = length (alerts_of (all_joined held (made held moment maker posted)))
 
 -- posted alerts are stored as items, unless more would then be held than the limit says
 abbrev pub stored_within : ℕ → List Item → ℕ → Maker → List Alert → Decision
 stored_within limit held moment maker posted =
-    if nat_lt limit (count_with held posted) then refused 429 (codes "Li1")
+    if nat_lt limit (count_with held moment maker posted) then refused 429 (codes "Li1")
     else record { items = made held moment maker posted; status = 200; body = [] }
 
 -- a posted list is stored whole, or refused whole

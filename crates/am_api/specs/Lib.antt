@@ -6,6 +6,8 @@ pub mod Receivers
 pub mod Written
 -- the decision on a request
 pub mod Decision
+-- posted label sets of which no alert is held
+pub mod Fresh
 -- the patterns of requests and of what is stored
 pub mod Patterns
 -- what is returned, against the decision

@@ -1,5 +1,5 @@
 -- The receivers of alerts, by the routes that they have.
-use Rattle.std.specs.Prelude.{ℕ, Bool, true, not, ◌&&◌, ◌==◌, List, [], ◌∷◌, filter, map, Option, Some, None, option_map, slice_get}
+use Rattle.std.specs.Prelude.{ℕ, Bool, true, not, ◌&&◌, ◌==◌, List, [], ◌∷◌, filter, Option, Some, None, option_map}
 use Rattle.std.specs.List.{filter_map, list_any}
 use Rattle.am_labels.specs.declared.Label.{Label}
 use Rattle.am_item.specs.declared.item.Alert.{Alert}
@@ -7,11 +7,11 @@ use Rattle.am_item.specs.declared.item.Item.{Item}
 use Rattle.am_item.specs.declared.stamp.Stamped.{Stamped}
 use Rattle.am_pattern.specs.Taking.{takes}
 use Rattle.am_match.specs.Meaning.{all_take}
-use Rattle.am_config.specs.declared.parts.Receiver.{Receiver}
 use Rattle.am_config.specs.declared.parts.Settings.{Settings}
 use Rattle.am_config.specs.Configuration.{Configuration, settings_at}
 use Rattle.am_route.specs.Routes.{routes_at}
 use Rattle.am_alert.specs.Held.{firing}
+use Rattle.am_payload.specs.Receivers.{names_at}
 use Rattle.am_api.specs.declared.query.Query.{Query}
 
 -- each number once, at its first place
@@ -30,18 +30,6 @@ receivers_at c routes = once (filter_map (receiver_at c) routes)
 -- the places of the receivers of an alert with these labels: those of its routes
 unfoldable pub receivers_of : Configuration → List Label → List ℕ
 receivers_of c labels = receivers_at c (routes_at labels c.routes)
-
--- the name of the receiver at a place
-abbrev pub name_at : Configuration → ℕ → Option (List ℕ)
-name_at c place = option_map (λ (receiver : Receiver). receiver.name) (slice_get c.receivers place)
-
--- the names of the receivers at these places
-abbrev pub names_at : Configuration → List ℕ → List (List ℕ)
-names_at c places = filter_map (name_at c) places
-
--- the names of all receivers, in the configuration's order
-abbrev pub names_of : Configuration → List (List ℕ)
-names_of c = map (λ (receiver : Receiver). receiver.name) c.receivers
 
 -- a receiver that is asked for takes one of these names; all of them, where none is
 abbrev pub is_asked : Option (List ℕ) → List (List ℕ) → Bool

@@ -12,12 +12,12 @@ ghost use Rattle.am_api.specs.Deciding.{Decides, DecidesUnless};
 ghost use Rattle.am_api.specs.Decision.{configuration_posted, configuration_stored, read_or_none, seen, status_of, text_at};
 
 use crate::decision::{Decided, refuse, reply};
-use crate::writing::document_json;
 use am_alert::Maker;
 use am_config::{Config, ConfigRefusal};
 use am_item::{Fault, GREATEST_COUNT, Held, Item, Stamp, Thing};
 use am_limit::Limits;
 use am_pattern::PatternCache;
+use am_payload::document_json;
 use am_text::{Failure, Moment, Octets, Text};
 use std::alloc::Global;
 

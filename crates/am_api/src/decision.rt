@@ -13,13 +13,13 @@ ghost use Rattle.am_api.specs.Patterns.{patterns_of_routes};
 use crate::configuration::{delete_configuration, post_configuration, read_configuration};
 use crate::listing::list_alerts;
 use crate::posting::post_alerts;
-use crate::writing::receivers_json;
 use am_alert::Maker;
 use am_config::Config;
 use am_http::{Endpoint, Method, Request, refusal_body};
 use am_item::{Fault, Held, Item};
 use am_limit::Limits;
 use am_pattern::PatternCache;
+use am_payload::receivers_json;
 use am_text::{Moment, Octets};
 use std::alloc::{AllocError, Global};
 

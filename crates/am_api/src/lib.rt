@@ -9,7 +9,6 @@ mod posting;
 mod query;
 mod receivers;
 mod refusal;
-mod writing;
 
 pub use decision::{Decided, decide};
 

@@ -18,19 +18,20 @@ ghost use Rattle.am_api.specs.Listed.{has_taken, is_taken, routed, with_receiver
 ghost use Rattle.am_api.specs.declared.receivers.RoutedAlert.{RoutedAlert};
 ghost use Rattle.am_api.specs.Patterns.{patterns_asked, patterns_of_query, patterns_of_routes};
 ghost use Rattle.am_api.specs.Queries.{query_in};
-ghost use Rattle.am_api.specs.Receivers.{is_asked, names_at, shown};
+ghost use Rattle.am_payload.specs.Receivers.{names_at};
+ghost use Rattle.am_api.specs.Receivers.{is_asked, shown};
 
 use crate::decision::{Decided, refuse, reply};
 use crate::query::{Query, read_query};
-use crate::receivers::{RoutedAlert, places_of_each, taken_receivers, with_places};
+use crate::receivers::{RoutedAlert, places_of_each, taken_receivers, unmuted, with_places};
 use crate::refusal::Unanswered;
-use crate::writing::alerts_json;
 use am_alert::{AlertBook, HeldAlert};
 use am_config::Config;
 use am_item::{Fault, Held};
 use am_labels::LabelSet;
 use am_match::{Matcher, taken_by_all};
 use am_pattern::PatternCache;
+use am_payload::alerts_json;
 use am_route::{RouteId, routes_of_each};
 use am_text::{Failure, Listed, Moment, Text};
 use std::alloc::{AllocError, Global};
@@ -71,7 +72,8 @@ fn list_shown(
 {
     match shown_alerts(alloc, query, held, config, moment, cache) {
         Ok(alerts) => {
-            let body = alerts_json(alloc, config, &alerts)?;
+            let read = unmuted(alloc, alerts)?;
+            let body = alerts_json(alloc, config, &read)?;
             Ok(reply(alloc, 200, body))
         }
         Err(Failure::Refused(Unanswered::Asked)) => refuse(alloc, 503, "B2"),

@@ -1,10 +1,11 @@
 //! Posted alerts.
 
-ghost use Rattle.std.specs.Prelude.{◌≡◌, nat_lt, IfOk};
+ghost use Rattle.std.specs.Prelude.{◌≡◌, ℕ, nat_lt, IfOk};
 ghost use Rattle.am_alert.specs.Posted.{posted};
 ghost use Rattle.am_alert.specs.declared.maker.Maker.{Maker};
 ghost use Rattle.am_api.specs.Deciding.{Decides};
-ghost use Rattle.am_api.specs.Decision.{count_with, is_held, new_count, stored_or_refused, stored_within};
+ghost use Rattle.am_api.specs.Decision.{count_with, stored_or_refused, stored_within};
+ghost use Rattle.am_api.specs.Fresh.{is_held, new_count};
 
 use crate::decision::{Decided, refuse};
 use am_alert::{Maker, items_of_post, read_posted};
@@ -57,7 +58,7 @@ fn store(
 // Whether more alerts than the limit would be held once the posted ones have come. Those that are held are not gone
 // over.
 fn is_past(alloc: Global, limit: u64, held: &Held, posted: &[Alert]) -> Result<bool, AllocError>
-    ensures { IfOk result (λ past. past ≡ nat_lt limit (count_with held.now posted.now)) }
+    ensures { IfOk result (λ past. (time : ℕ) (maker : Maker) → past ≡ nat_lt limit (count_with held.now time maker posted.now)) }
 {
     let new = count_new(alloc, held, posted)?;
     match limit.checked_sub(held.alerts().len() as u64) {

@@ -5,13 +5,15 @@ ghost use Rattle.am_text.specs.Outcome.{ForRefused};
 ghost use Rattle.am_pattern.specs.Asking.{Asked};
 ghost use Rattle.am_pattern.specs.Taking.{IsPattern, takes};
 ghost use Rattle.am_api.specs.Deciding.{IsUnanswered};
-ghost use Rattle.am_api.specs.Listed.{made_routed};
-ghost use Rattle.am_api.specs.Receivers.{names_of, receiver_at, receivers_at};
+ghost use Rattle.am_payload.specs.Receivers.{names_of};
+ghost use Rattle.am_api.specs.Listed.{made_routed, unmuted};
+ghost use Rattle.am_api.specs.Receivers.{receiver_at, receivers_at};
 
 use crate::refusal::Unanswered;
 use am_alert::HeldAlert;
 use am_config::Config;
 use am_pattern::PatternCache;
+use am_payload::ReadAlert;
 use am_route::RouteId;
 use am_text::{Failure, Listed, Text};
 use std::alloc::{AllocError, Global};
@@ -37,6 +39,26 @@ pub(crate) fn with_places<'a>(
         .zip(places)
         .map(|(alert, receivers)| RoutedAlert { alert, receivers })
         .collect(alloc)
+}
+
+/// The alerts as they are read, where nothing mutes them.
+pub(crate) fn unmuted<'a>(
+    alloc: Global,
+    alerts: Vec<RoutedAlert<'a>>,
+) -> Result<Vec<ReadAlert<'a>>, AllocError>
+    ensures { IfOk result (λ v. v.items ≡ map unmuted alerts.entry.items) }
+{
+    let mut read = Vec::with_capacity(alloc, alerts.len())?;
+    for routed in alerts {
+        let RoutedAlert { alert, receivers } = routed;
+        read.push(ReadAlert {
+            alert,
+            receivers,
+            silenced_by: Listed::from_vec(Vec::new(alloc)),
+            inhibited_by: Listed::from_vec(Vec::new(alloc)),
+        })?;
+    }
+    Ok(read)
 }
 
 /// The places of the receivers of routes, list by list.

@@ -1,6 +1,6 @@
 use Rattle.std.proofs.Common.{◌≡◌, ◌∷◌, Bor, List, false, sym, ◌∙◌}
 use Rattle.am_labels.specs.declared.Label.{Label}
-use Rattle.am_api.specs.Decision.{is_held}
+use Rattle.am_api.specs.Fresh.{is_held}
 use Rattle.am_api.proofs.Counting.{count_more, known_more, regrouped}
 use Rattle.am_api.proofs.posting.count_new.Goals as goal
 

@@ -5,7 +5,7 @@ use Rattle.std.specs.Set.{is_member}
 use Rattle.am_labels.specs.declared.Label.{Label}
 use Rattle.am_labels.specs.Labels.{labels_cmp}
 use Rattle.am_item.specs.declared.item.Alert.{Alert}
-use Rattle.am_api.specs.Decision.{is_held, new_count}
+use Rattle.am_api.specs.Fresh.{is_held, new_count}
 use Rattle.am_api.proofs.posting.count_new.Given as goal
 
 abbrev pub invariant-loop-alert : goal.invariant-loop-alert

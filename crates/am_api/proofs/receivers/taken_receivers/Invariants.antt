@@ -2,7 +2,7 @@ use Rattle.std.proofs.Common.{◌≡◌, ◌++◌, drop, map}
 use Rattle.am_pattern.specs.Asking.{Stays}
 use Rattle.am_pattern.specs.Taking.{takes}
 use Rattle.am_config.specs.declared.parts.Receiver.{Receiver}
-use Rattle.am_api.specs.Receivers.{names_of}
+use Rattle.am_payload.specs.Receivers.{names_of}
 use Rattle.am_api.proofs.receivers.taken_receivers.Given as goal
 
 abbrev pub invariant-loop-receiver : goal.invariant-loop-receiver

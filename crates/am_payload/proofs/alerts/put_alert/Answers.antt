@@ -1,0 +1,20 @@
+use Rattle.std.proofs.lemmas.Result.{on_ok_weaker}
+use Rattle.am_json.proofs.Chain.{after}
+use Rattle.am_payload.specs.Written.{alert_data}
+use Rattle.am_payload.proofs.alerts.put_alert.Goals as goal
+
+pub returns : goal.returns
+unfolding alert_data
+returns c =
+    on_ok_weaker c.end_object.result (λ e.
+    after c.args.text.now _ _ c.in_ok-begin_object.ensures (
+    after c.begin_object.new.self _ _ c.in_ok-annotations_member.ensures (
+    after c.annotations_member.new.self _ _ c.in_ok-moment_member.ensures (
+    after c.moment_member.new.self _ _ c.in_ok-fingerprint_member.ensures (
+    after c.fingerprint_member.new.self _ _ c.in_ok-text_member.ensures (
+    after c.text_member.new.self _ _ c.in_ok-labels_member.ensures (
+    after c.labels_member.new.self _ _ c.in_ok-key.ensures (
+    after c.key.new.self _ _ c.in_ok-put_places.ensures (
+    after c.put_places.new.text _ _ c.in_ok-moment_member-2.ensures (
+    after c.moment_member-2.new.self _ _ c.in_ok-put_status.ensures (
+    after c.put_status.new.text _ _ c.in_ok-moment_member-3.ensures e))))))))))) c.end_object.ensures
