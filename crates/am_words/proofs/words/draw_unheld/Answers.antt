@@ -1,4 +1,4 @@
-use Rattle.std.proofs.Common.{◌≡◌, ◌+◌, ℕ, List, Option, None, Some, suc, ap, sym, subst, ◌∙◌, arith}
+use Rattle.std.proofs.Common.{◌≡◌, ◌+◌, ◌<◌, ℕ, List, Option, None, Some, suc, ap, sym, subst, ◌∙◌, arith}
 use Rattle.std.specs.Option.{option_map, option_map_or}
 use Rattle.rand_chacha.specs.ChaCha.{ChaCha}
 use Rattle.am_item.specs.Held.{silence_item}
@@ -12,7 +12,8 @@ use Rattle.am_words.proofs.words.draw_unheld.Goals as goal
 first : (c : Then-not-contains_key) → first_unheld (words_in c.args.words.now) c.args.words.now.word_pos c.args.held.now
     ≡ Some (id_from (words_in c.loop-draw.words) c.loop-draw.words.word_pos, place_after c.loop-draw.words.word_pos 4)
 first c =
-    unheld_drawn c.args.held.now c.args.words.now c.loop-draw.words c.loop-draw._draw c.loop-draw-test.true c.loop-draw.invariant
+    let less : c.loop-draw._draw < 8 = omega arith in
+    unheld_drawn c.args.held.now c.args.words.now c.loop-draw.words c.loop-draw._draw less c.loop-draw.invariant
     (ap (is_held c.args.held.now) (sym c.draw-id.ensures.id)
     ∙ is_held-by c.args.held.now c.draw-id.result (silence_item c.draw-id.result) _ (c.silences.ensures.at c.draw-id.result)
     ∙ sym c.contains_key.ensures ∙ c.if-not-contains_key.true)
@@ -34,8 +35,9 @@ returns-then-not-contains_key-clause-place c =
 pub loop-draw-preserved : goal.loop-draw-preserved
 loop-draw-preserved c =
     let next : suc c.loop-draw._draw ≡ c.loop-draw._draw + 1 = omega arith in
+    let less : c.loop-draw._draw < 8 = omega arith in
     subst (λ n. Drawn c.args.held.now c.args.words.now c.draw-id.new.words n) next
-    (one_drawn c.args.held.now c.args.words.now c.loop-draw.words c.draw-id.new.words c.loop-draw._draw c.loop-draw-test.true
+    (one_drawn c.args.held.now c.args.words.now c.loop-draw.words c.draw-id.new.words c.loop-draw._draw less
     c.loop-draw.invariant c.draw-id.ensures.words
     (ap (is_held c.args.held.now) (sym c.draw-id.ensures.id)
     ∙ is_held-by c.args.held.now c.draw-id.result (silence_item c.draw-id.result) _ (c.silences.ensures.at c.draw-id.result)
