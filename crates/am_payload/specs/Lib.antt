@@ -4,3 +4,5 @@ pub mod Receivers
 pub mod Written
 -- what is listed, as the code has it
 pub mod Listed
+-- the JSON of silences
+pub mod Silences

@@ -1,5 +1,6 @@
 -- Matchers that are equal.
-use Rattle.std.proofs.Common.{◌≡◌, ℕ, List, [], ◌∷◌, refl, ap₂, ◌&&◌}
+use Rattle.std.proofs.Common.{◌≡◌, ℕ, List, [], ◌∷◌, refl, ap₂, ◌&&◌, ◌||◌}
+use Rattle.std.specs.List.{list_any}
 use lib.Pointwise.{pointwise}
 use Rattle.am_match.specs.Matchers.{MatcherText}
 use Rattle.am_match.specs.declared.matcher.Operator.{Operator}
@@ -35,3 +36,8 @@ same_all [] [] = refl
 same_all [] (y ∷ ys) = refl
 same_all (x ∷ xs) [] = refl
 same_all (x ∷ xs) (y ∷ ys) = ap₂ (λ p q. p && q) (same_one x y) (same_all xs ys)
+
+-- one of them is equal
+pub same_any : (xs : List MatcherText) (wanted : MatcherText) → list_any (λ m. (eq-value).it m wanted) xs ≡ list_any (λ m. same_matcher m wanted) xs
+same_any [] wanted = refl
+same_any (x ∷ xs) wanted = ap₂ (λ p q. p || q) (same_one x wanted) (same_any xs wanted)

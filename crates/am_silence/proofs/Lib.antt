@@ -6,3 +6,4 @@ pub mod SilencingLemmas
 pub mod MapLemmas
 pub mod EqualLemmas
 pub mod PostedLemmas
+pub mod DecidingLemmas

@@ -6,11 +6,15 @@ pub mod Written
 pub mod Posted
 -- builds that were refused
 pub mod Unbuilt
+-- which pattern decides where one is refused
+pub mod Deciding
 -- silences as values, and their states
 pub mod Silences
 -- what is held of them
 pub mod Held
 -- what a post or a deletion changes
 pub mod Changing
+-- which of them have matchers
+pub mod Having
 -- the label sets at places
 pub mod Places

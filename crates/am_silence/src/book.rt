@@ -8,16 +8,18 @@ ghost use Rattle.am_match.specs.Asking.{IsFailureAmong};
 ghost use Rattle.am_match.specs.Checking.{AreRefusedRightly};
 ghost use Rattle.am_match.specs.Matchers.{patterns_of};
 ghost use Rattle.am_silence.specs.Changing.{changed, changed_of, deleted, known_at, write_of};
+ghost use Rattle.am_silence.specs.Having.{having};
 ghost use Rattle.am_silence.specs.Held.{active_among, held_silence, matchers_in, silence_at, silences_among, silencing, unexpired};
 ghost use Rattle.am_silence.specs.Posted.{posted_of};
 
 use crate::change::{Change, SilenceWrite, expiry_of, make_change};
-use crate::held::{HeldSilence, active_among, all_of, unexpired_of};
+use crate::held::{HeldSilence, active_among, all_of, having, unexpired_of};
 use crate::posted::PostedSilence;
 use crate::refusal::SilenceRefusal;
 use crate::silencing::silencing;
 use am_item::{Held, SilenceId};
 use am_labels::LabelSet;
+use am_match::Matcher;
 use am_pattern::{PatternCache, PatternRefusal};
 use am_text::{Failure, Moment};
 use std::alloc::{AllocError, Global};
@@ -63,6 +65,18 @@ impl<'a> SilenceBook<'a> {
         ensures { IfOk result (λ v. map held_silence v.items ≡ silences_among self.now) }
     {
         all_of(alloc, self.held.silences())
+    }
+
+    /// The silences that have, for each of the wanted matchers, one with the same name, operator and value, in order of
+    /// identifier.
+    pub fn having(
+        &self,
+        alloc: Global,
+        wanted: &[Matcher],
+    ) -> Result<Vec<HeldSilence<'a>>, AllocError>
+        ensures { IfOk result (λ v. map held_silence v.items ≡ having wanted.now self.now) }
+    {
+        having(alloc, self.held.silences(), wanted)
     }
 
     /// How many silences have not expired at the moment.

@@ -1,11 +1,13 @@
 //! The silences that are held, borrowed.
 
 ghost use Rattle.std.specs.Prelude.{◌≡◌, ◌+◌, not, IfOk, count_by, filter, map};
+ghost use Rattle.am_silence.specs.Having.{has_matcher, has_matchers};
 ghost use Rattle.am_silence.specs.Held.{all_held, held_silence};
 ghost use Rattle.am_silence.specs.Silences.{details_of, is_active, is_expired, state_of};
 
 use crate::state::SilenceState;
 use am_item::{SilenceDetails, SilenceId, Stamped};
+use am_match::Matcher;
 use am_text::Moment;
 use std::alloc::{AllocError, Global};
 use std::collections::BTreeMap;
@@ -56,6 +58,37 @@ pub(crate) fn all_of<'a>(
         all.push(HeldSilence { id, held })?;
     }
     Ok(all)
+}
+
+/// Those that have a matcher equal to each of the wanted ones, in their order.
+pub(crate) fn having<'a>(
+    alloc: Global,
+    silences: &'a BTreeMap<SilenceId, Stamped<SilenceDetails>>,
+    wanted: &[Matcher],
+) -> Result<Vec<HeldSilence<'a>>, AllocError>
+    ensures { IfOk result (λ v. map held_silence v.items
+        ≡ filter (λ s. has_matchers s.details.matchers wanted.now) (all_held silences.now.entries)) }
+{
+    let mut found = Vec::new(alloc);
+    for (id, held) in silences {
+        if has_matchers(&held.value.matchers, wanted) {
+            found.push(HeldSilence { id, held })?;
+        }
+    }
+    Ok(found)
+}
+
+// Whether each of the wanted matchers is equal to one of these.
+fn has_matchers(matchers: &[Matcher], wanted: &[Matcher]) -> bool
+    ensures { result ≡ has_matchers matchers.now wanted.now }
+{
+    wanted.iter().all(|matcher| has_matcher(matchers, matcher))
+}
+
+fn has_matcher(matchers: &[Matcher], wanted: &Matcher) -> bool
+    ensures { result ≡ has_matcher matchers.now wanted.now }
+{
+    matchers.contains(wanted)
 }
 
 /// How many have not expired at the moment.

@@ -4,9 +4,10 @@ ghost use Rattle.std.specs.Prelude.{◌≡◌, [], All, IfErr, IfOk, OnOk, Ok, t
 ghost use Rattle.am_text.specs.Outcome.{ForRefused, Gives};
 ghost use Rattle.am_pattern.specs.Asking.{Asked};
 ghost use Rattle.am_pattern.specs.Taking.{IsPattern};
-ghost use Rattle.am_match.specs.Checking.{AreRefusedRightly};
+ghost use Rattle.am_match.specs.Checking.{AreRefusedRightly, IsFine};
 ghost use Rattle.am_match.specs.Matchers.{patterns_of};
 ghost use Rattle.am_match.specs.Meaning.{all_take};
+ghost use Rattle.am_silence.specs.Deciding.{FirstDecides, IsOfNoPattern};
 ghost use Rattle.am_silence.specs.Posted.{each_named, judged, matcher_of, matchers_judged, named, patterns_in_body, posted, posted_of, some_named, times_judged, with_patterns, written_in};
 ghost use Rattle.am_silence.specs.Unbuilt.{GivesUnless, IsUnbuilt};
 
@@ -54,6 +55,7 @@ pub fn read_silence(
     ensures read { GivesUnless (IsUnbuilt cache.new.refused (patterns_in_body body.now)) posted_of result (posted moment body.now) }
     ensures patterns { IfOk result (λ p. All IsPattern (patterns_of p.matchers.items)) }
     ensures asked { Asked result cache.old cache.new }
+    ensures first { IfErr result (λ failure. ForRefused failure (FirstDecides (patterns_in_body body.now) cache.old cache.new)) }
 
     // Where no build of these patterns was refused, the answer is the meaning of the body.
     ensures meaning { AreRefusedRightly cache.new.refused (patterns_in_body body.now) →
@@ -64,7 +66,8 @@ pub fn read_silence(
 }
 
 fn written_in(alloc: Global, body: &[u8]) -> Result<Written, Failure<SilenceRefusal>>
-    ensures { Gives (λ w. w) result (written_in body.now) }
+    ensures read { Gives (λ w. w) result (written_in body.now) }
+    ensures other { IfErr result (λ failure. ForRefused failure IsOfNoPattern) }
 {
     let value = refuse_as(read_json(alloc, body), SilenceRefusal::BadForm)?;
     refuse_as(written_of(alloc, &value), SilenceRefusal::BadForm)
@@ -80,6 +83,7 @@ fn judged(
     ensures read { GivesUnless (IsUnbuilt cache.new.refused (patterns_of (map matcher_of written.matchers))) posted_of result (judged moment written) }
     ensures patterns { IfOk result (λ p. All IsPattern (patterns_of p.matchers.items)) }
     ensures asked { Asked result cache.old cache.new }
+    ensures first { IfErr result (λ failure. ForRefused failure (FirstDecides (patterns_of (map matcher_of written.matchers)) cache.old cache.new)) }
 {
     let matchers = matchers_judged(alloc, written.matchers.as_slice(), cache)?;
     times_judged(
@@ -104,6 +108,7 @@ fn matchers_judged(
     ensures read { GivesUnless (IsUnbuilt cache.new.refused (patterns_of (map matcher_of written.now))) (λ v. v.items) result (matchers_judged written.now) }
     ensures patterns { IfOk result (λ v. All IsPattern (patterns_of v.items)) }
     ensures asked { Asked result cache.old cache.new }
+    ensures first { IfErr result (λ failure. ForRefused failure (FirstDecides (patterns_of (map matcher_of written.now)) cache.old cache.new)) }
 {
     let matchers = some_named(alloc, written)?;
     check(alloc, &matchers, cache)?;
@@ -118,7 +123,8 @@ fn some_named(
     alloc: Global,
     written: &[WrittenMatcher],
 ) -> Result<Vec<Matcher>, Failure<SilenceRefusal>>
-    ensures { Gives (λ v. v.items) result (some_named written.now) }
+    ensures read { Gives (λ v. v.items) result (some_named written.now) }
+    ensures other { IfErr result (λ failure. ForRefused failure IsOfNoPattern) }
 {
     if written.is_empty() {
         return Err(Failure::Refused(SilenceRefusal::WithoutMatchers));
@@ -131,7 +137,8 @@ fn each_named(
     alloc: Global,
     written: &[WrittenMatcher],
 ) -> Result<Vec<Matcher>, Failure<SilenceRefusal>>
-    ensures { Gives (λ v. v.items) result (each_named written.now) }
+    ensures read { Gives (λ v. v.items) result (each_named written.now) }
+    ensures other { IfErr result (λ failure. ForRefused failure IsOfNoPattern) }
 {
     let mut matchers = Vec::with_capacity(alloc, written.len())?;
     for matcher in written {
@@ -142,7 +149,8 @@ fn each_named(
 
 #[tactic(auto, unfolding(crate::specs::Posted::named))]
 fn named(alloc: Global, written: &WrittenMatcher) -> Result<Matcher, Failure<SilenceRefusal>>
-    ensures { Gives (λ m. m) result (named written.now) }
+    ensures read { Gives (λ m. m) result (named written.now) }
+    ensures other { IfErr result (λ failure. ForRefused failure IsOfNoPattern) }
 {
     let name = written.name.copy(alloc)?;
     let value = written.value.copy(alloc)?;
@@ -160,7 +168,9 @@ fn check(
 ) -> Result<(), Failure<SilenceRefusal>>
     ensures read { GivesUnless (IsUnbuilt cache.new.refused (patterns_of matchers.now)) (λ done. matchers.now) result (with_patterns matchers.now) }
     ensures patterns { OnOk result (All IsPattern (patterns_of matchers.now)) }
+    ensures fine { OnOk result (All IsFine (patterns_of matchers.now)) }
     ensures asked { Asked result cache.old cache.new }
+    ensures first { IfErr result (λ failure. ForRefused failure (FirstDecides (patterns_of matchers.now) cache.old cache.new)) }
 {
     match check_patterns(alloc, matchers, cache) {
         Ok(()) => Ok(()),
@@ -177,10 +187,12 @@ fn takes_empty(
     matchers: &[Matcher],
     cache: &mut PatternCache,
 ) -> Result<bool, Failure<SilenceRefusal>>
-    requires { All IsPattern (patterns_of matchers.now) }
+    requires patterns { All IsPattern (patterns_of matchers.now) }
+    requires fine { All IsFine (patterns_of matchers.now) }
     ensures value { IfOk result (λ all. all ≡ all_take matchers.now []) }
     ensures unbuilt { IfErr result (λ failure. ForRefused failure (IsUnbuilt cache.new.refused (patterns_of matchers.now))) }
     ensures asked { Asked result cache.old cache.new }
+    ensures first { IfErr result (λ failure. ForRefused failure (FirstDecides (patterns_of matchers.now) cache.old cache.new)) }
 {
     let none = no_labels(alloc)?;
     match taken_by_all(alloc, matchers, &[&none], cache) {
@@ -208,6 +220,7 @@ fn times_judged(
 ) -> Result<PostedSilence, Failure<SilenceRefusal>>
     ensures read { Gives posted_of result (times_judged moment (posted_of posted)) }
     ensures matchers { IfOk result (λ p. p.matchers.items ≡ posted.matchers.items) }
+    ensures other { IfErr result (λ failure. ForRefused failure IsOfNoPattern) }
 {
     if posted.ends_at <= posted.starts_at {
         return Err(Failure::Refused(SilenceRefusal::EndsByStart));

@@ -5,6 +5,7 @@ use Rattle.am_match.specs.Matchers.{patterns_of}
 use Rattle.am_match.proofs.CheckingLemmas.{patterns_pass}
 use Rattle.am_silence.specs.declared.refusal.SilenceRefusal.TheVariants.{BadMatcher}
 use Rattle.am_silence.proofs.BuildLemmas.{patterns_refused}
+use Rattle.am_silence.proofs.DecidingLemmas.{fine_passed, patterns_decide}
 use Rattle.am_silence.proofs.posted.check.Goals as goal
 
 pub returns-in-Ok-clause-read : goal.returns-in-Ok-clause-read
@@ -17,3 +18,11 @@ returns-in-Err-Refused-clause-read c =
     patterns_refused (tt {0}) c.args.matchers.now (patterns_of c.args.matchers.now) c.args.cache.now c.check_patterns.new.cache c.in-Err-Refused.refusal
     (rw c.in-Err-Refused.field-0-is at c.in-Err-Refused.ensures.failure)
     (rw c.in-Err-Refused.field-0-is at c.in-Err-Refused.ensures.meaning)
+
+pub returns-in-Ok-clause-fine : goal.returns-in-Ok-clause-fine
+returns-in-Ok-clause-fine c = fine_passed (patterns_of c.args.matchers.now) c.in-Ok.ensures.read
+
+pub returns-in-Err-Refused-clause-first : goal.returns-in-Err-Refused-clause-first
+returns-in-Err-Refused-clause-first c =
+    patterns_decide (patterns_of c.args.matchers.now) c.args.cache.now c.check_patterns.new.cache c.in-Err-Refused.refusal
+    (rw c.in-Err-Refused.field-0-is at c.in-Err-Refused.ensures.failure)

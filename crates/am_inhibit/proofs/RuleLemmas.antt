@@ -1,0 +1,213 @@
+-- What the rules make of flags, and what their matchers ask.
+use Rattle.std.proofs.Common.{◌≡◌, ◌∙◌, ℕ, zero, suc, ◌+◌, ◌<◌, ◌≤◌, ◌&&◌, ◌||◌, not, Bool, true, false, cond, List, All, [], ◌∷◌, ◌++◌, ap, get_or, length, map, refl, subst, sym, take, inl, inr, arith}
+use Rattle.std.specs.List.{Contains}
+use Rattle.std.proofs.lemmas.Bool.{cases_Bool, true≢false}
+use Rattle.std.proofs.lemmas.List.{length-map}
+use Rattle.std.proofs.lemmas.List.Elements.{All-append, All-cons, All-get_or, All-head, All-nil, All-tail, Contains-append_left, Contains-append_right}
+use Rattle.std.proofs.lemmas.List.Folds.{list_any_more}
+use Rattle.am_text.specs.declared.failure.Failure.{Failure}
+use Rattle.am_text.specs.declared.failure.Failure.TheVariants.{Refused, OutOfMemory}
+use Rattle.am_labels.specs.declared.Label.{Label}
+use Rattle.am_pattern.specs.Asking.{Stays}
+use Rattle.am_pattern.specs.Cache.{Cache}
+use Rattle.am_pattern.specs.Taking.{IsPattern}
+use Rattle.am_pattern.specs.declared.refusal.PatternRefusal.{PatternRefusal}
+use Rattle.am_pattern.proofs.AskingLemmas.{stays-trans}
+use Rattle.am_match.specs.Asking.{IsFailureAmong}
+use Rattle.am_match.specs.Matchers.{MatcherText, is_on_pattern, patterns_of}
+use Rattle.am_match.specs.Meaning.{all_take}
+use Rattle.am_config.specs.Configured.{HasPattern}
+use Rattle.am_config.specs.declared.parts.Rule.{Rule}
+use Rattle.am_inhibit.specs.Alike.{are_alike}
+use Rattle.am_inhibit.specs.Inhibits.{AreInhibitors, inhibits, inhibits_by, rule_matchers}
+use Rattle.am_inhibit.specs.Links.{AreAllPlaces, ArePlaces, is_among}
+use Rattle.am_inhibit.specs.Sides.{AreLinkedByNames}
+
+-- ---- flags
+
+-- of an old flag; whether the target takes the target and the source side, whether the source takes them, whether it fires,
+-- and whether both are alike: what comes by a rule, in the order of the code and of the definition
+one_rule : (old tk sk sp tp fp alike : Bool) →
+    (old || (tk && ((sp && fp) && (alike && not (sk && tp))))) ≡ (old || (fp && (sp && tk && alike && not ((sp && tp) && (sk && tk)))))
+one_rule true tk sk sp tp fp alike = refl
+one_rule false false sk true tp true alike = refl
+one_rule false false sk true tp false alike = refl
+one_rule false false sk false tp true alike = refl
+one_rule false false sk false tp false alike = refl
+one_rule false true sk false tp true alike = refl
+one_rule false true sk false tp false alike = refl
+one_rule false true sk true tp false alike = refl
+one_rule false true sk true tp true false = refl
+one_rule false true true true true true true = refl
+one_rule false true true true false true true = refl
+one_rule false true false true true true true = refl
+one_rule false true false true false true true = refl
+
+-- one more rule
+one_more : (a b c : Bool) → ((a && b) || (a && c)) ≡ (a && (b || c))
+one_more true b c = refl
+one_more false b c = refl
+
+-- a flag that is set is one of the flags
+pub set_within : (flags : List Bool) (k : ℕ) → get_or flags k false ≡ true → k < length flags
+set_within [] k on = absurd (true≢false (sym on))
+set_within (flag ∷ flags) zero on = omega arith
+set_within (flag ∷ flags) (suc k) on = let below = set_within flags k on in omega (arith, below)
+
+-- every flagged place is below a count
+abbrev pub AreBelow : ℕ → List Bool → Type 0
+AreBelow count flags = (place : ℕ) → get_or flags place false ≡ true → place < count
+
+both_set : (a b : Bool) → (a && b) ≡ true → (a ≡ true) × (b ≡ true)
+both_set true b on = (refl, on)
+both_set false b on = absurd (true≢false (sym on))
+
+-- so are the places that are flagged only where those are
+pub below_first : (flags one : List Bool) (other : ℕ → Bool) (count : ℕ) → length flags ≡ length one →
+    ((k : ℕ) → k < length one → get_or flags k false ≡ (get_or one k false && other k)) → AreBelow count one → AreBelow count flags
+below_first flags one other count long is below place on =
+    let within = set_within flags place on in
+    below place (both_set (get_or one place false) (other place) (sym (is place (omega (arith, within, long))) ∙ on)).0
+
+pub below_second : (flags one other : List Bool) (count : ℕ) → length flags ≡ length one →
+    ((k : ℕ) → k < length one → get_or flags k false ≡ (get_or one k false && get_or other k false)) → AreBelow count other → AreBelow count flags
+below_second flags one other count long is below place on =
+    let within = set_within flags place on in
+    below place (both_set (get_or one place false) (get_or other place false) (sym (is place (omega (arith, within, long))) ∙ on)).1
+
+-- ---- rules
+
+module _ {A : Type 0} (view : A → List Label) (sets : List A) (fires : List Bool) where
+  flag_is : (ms : List MatcherText) (k : ℕ) → k < length sets → get_or (map (λ x. all_take ms (view x)) sets) k false ≡ all_take ms (get_or (map view sets) k [])
+  flag_is ms k below = read sets k below
+    where
+      read : (xs : List A) (i : ℕ) → i < length xs → get_or (map (λ x. all_take ms (view x)) xs) i false ≡ all_take ms (get_or (map view xs) i [])
+      read [] i within = absurd (omega (arith, within))
+      read (x ∷ xs) zero within = refl
+      read (x ∷ xs) (suc i) within = read xs i (omega (arith, within))
+
+  -- one rule more
+  pub rule_more : (rules : List Rule) (i : ℕ) (rule : Rule) → i < length rules → rule ≡ get_or rules i rule → (sources targets : List Bool) →
+      sources ≡ map (λ x. all_take rule.source (view x)) sets → targets ≡ map (λ x. all_take rule.target (view x)) sets →
+      (old new : List (List (List ℕ))) → AreInhibitors (take i rules) (map view sets) fires old →
+      AreLinkedByNames rule.equal (map view sets) sources targets fires old new → AreInhibitors (take (i + 1) rules) (map view sets) fires new
+  rule_more rules i rule fits at sources targets is_source is_target old new before linked k place below within =
+      let long = length-map sets view in
+      let source = get_or (map view sets) place [] in
+      let target = get_or (map view sets) k [] in
+      let alike = are_alike rule.equal source target in
+      let sp = ap (λ flags. get_or flags place false) is_source ∙ flag_is rule.source place (omega (arith, within, long)) in
+      let tp = ap (λ flags. get_or flags place false) is_target ∙ flag_is rule.target place (omega (arith, within, long)) in
+      let sk = ap (λ flags. get_or flags k false) is_source ∙ flag_is rule.source k (omega (arith, below, long)) in
+      let tk = ap (λ flags. get_or flags k false) is_target ∙ flag_is rule.target k (omega (arith, below, long)) in
+      let fp = get_or fires place false in
+      linked k place below within
+      ∙ one_rule (is_among (get_or old k []) place) (get_or targets k false) (get_or sources k false) (get_or sources place false) (get_or targets place false) fp alike
+      ∙ ap (λ b. b || (fp && (get_or sources place false && get_or targets k false && alike && not ((get_or sources place false && get_or targets place false) && (get_or sources k false && get_or targets k false)))))
+      (before k place below within)
+      ∙ ap (λ b. (fp && inhibits_by (take i rules) source target) || (fp && (b && get_or targets k false && alike && not ((b && get_or targets place false) && (get_or sources k false && get_or targets k false))))) sp
+      ∙ ap (λ b. (fp && inhibits_by (take i rules) source target) || (fp && (all_take rule.source source && b && alike && not ((all_take rule.source source && get_or targets place false) && (get_or sources k false && b))))) tk
+      ∙ ap (λ b. (fp && inhibits_by (take i rules) source target) || (fp && (all_take rule.source source && all_take rule.target target && alike && not ((all_take rule.source source && b) && (get_or sources k false && all_take rule.target target))))) tp
+      ∙ ap (λ b. (fp && inhibits_by (take i rules) source target) || (fp && (all_take rule.source source && all_take rule.target target && alike && not ((all_take rule.source source && all_take rule.target source) && (b && all_take rule.target target))))) sk
+      ∙ one_more fp (inhibits_by (take i rules) source target) (inhibits rule source target)
+      ∙ ap (λ b. fp && b)
+      (sym (list_any_more (λ (r : Rule). inhibits r source target) rules i rule fits
+      ∙ ap (λ (r : Rule). inhibits_by (take i rules) source target || inhibits r source target) (sym at)))
+
+  -- before any rule
+  pub rule_none : (each : List (List (List ℕ))) → length each ≡ length sets → All (λ (lists : List (List ℕ)). lists ≡ []) each → AreInhibitors [] (map view sets) fires each
+  rule_none each long none k place below within =
+      ap (λ (lists : List (List ℕ)). is_among lists place)
+      (All-get_or (λ (lists : List (List ℕ)). lists ≡ []) each k [] (omega (arith, below, long, length-map sets view)) none)
+      ∙ sym (and_false (get_or fires place false))
+    where
+      and_false : (b : Bool) → (b && false) ≡ false
+      and_false true = refl
+      and_false false = refl
+
+-- nothing is a list of places
+pub none_places : (count : ℕ) (each : List (List (List ℕ))) → All (λ (lists : List (List ℕ)). lists ≡ []) each → AreAllPlaces count each
+none_places count [] none = All-nil (λ (lists : List (List ℕ)). All (ArePlaces count) lists)
+none_places count (lists ∷ each) none =
+    All-cons (λ (held : List (List ℕ)). All (ArePlaces count) held) lists each
+    (rw (All-head (λ (held : List (List ℕ)). held ≡ []) lists each none) (All-nil (ArePlaces count)))
+    (none_places count each (All-tail (λ (held : List (List ℕ)). held ≡ []) lists each none))
+
+-- ---- how many patterns are asked for
+
+patterns-append : (ms ns : List MatcherText) → length (patterns_of (ms ++ ns)) ≡ length (patterns_of ms) + length (patterns_of ns)
+patterns-append [] ns = omega arith
+patterns-append (m ∷ ms) ns =
+    let rest = patterns-append ms ns in
+    elim (cases_Bool (is_on_pattern m.operator)) [ inl on ↦ rw on (omega (arith, rest)) | inr off ↦ rw off rest ]
+
+pub sides-patterns : (rule : Rule) → length (patterns_of (rule.source ++ rule.target)) ≡ length (patterns_of rule.source) + length (patterns_of rule.target)
+sides-patterns rule = patterns-append rule.source rule.target
+
+-- of one rule more
+pub rules-more : (rules : List Rule) (i : ℕ) (rule : Rule) → i < length rules → rule ≡ get_or rules i rule →
+    length (patterns_of (rule_matchers (take (i + 1) rules)))
+    ≡ length (patterns_of (rule_matchers (take i rules))) + (length (patterns_of rule.source) + length (patterns_of rule.target))
+rules-more [] i rule fits at = absurd (omega (arith, fits))
+rules-more (first ∷ rules) zero rule fits at =
+    let whole = patterns-append (first.source ++ first.target) [] in
+    let same = ap (λ (r : Rule). length (patterns_of r.source) + length (patterns_of r.target)) at in
+    omega (arith, whole, sides-patterns first, same)
+rules-more (first ∷ rules) (suc i) rule fits at =
+    let more = rules-more rules i rule (omega (arith, fits)) at in
+    let whole = patterns-append (first.source ++ first.target) (rule_matchers (take (i + 1) rules)) in
+    let front = patterns-append (first.source ++ first.target) (rule_matchers (take i rules)) in
+    let next : suc i + 1 ≡ suc (i + 1) = omega arith in
+    ap (λ n. length (patterns_of (rule_matchers (take n (first ∷ rules))))) next ∙ omega (arith, more, whole, front)
+
+-- of some of them, no more than of all
+pub rules-some : (rules : List Rule) (i : ℕ) → length (patterns_of (rule_matchers (take i rules))) ≤ length (patterns_of (rule_matchers rules))
+rules-some rules zero = omega arith
+rules-some [] (suc i) = omega arith
+rules-some (first ∷ rules) (suc i) =
+    let some = rules-some rules i in
+    let whole = patterns-append (first.source ++ first.target) (rule_matchers rules) in
+    let front = patterns-append (first.source ++ first.target) (rule_matchers (take i rules)) in
+    omega (arith, some, whole, front)
+
+-- ---- failures
+
+-- a failure of some matchers is one of more, where nothing was refused before
+pub failure_of_some : (some all : List MatcherText) (start old new : Cache) (failure : Failure PatternRefusal) →
+    ((matcher : MatcherText) → Contains some matcher → Contains all matcher) → Stays start old →
+    IsFailureAmong some old new failure → IsFailureAmong all start new failure
+failure_of_some some all start old new (Refused refusal) among stays (matcher, at, refused) = (
+  matcher,
+  among matcher at,
+  record { on_pattern = refused.on_pattern; is_refused = refused.is_refused; kept = rw stays.refused at refused.kept },
+)
+failure_of_some some all start old new OutOfMemory among stays same = stays-trans start old new stays same
+
+-- the matchers of a rule are among those of the rules
+pub of_rules : (rules : List Rule) (i : ℕ) (rule : Rule) → i < length rules → rule ≡ get_or rules i rule → (matcher : MatcherText) →
+    Contains (rule.source ++ rule.target) matcher → Contains (rule_matchers rules) matcher
+of_rules [] i rule fits at matcher there = absurd (omega (arith, fits))
+of_rules (first ∷ rules) zero rule fits at matcher there =
+    Contains-append_left (first.source ++ first.target) (rule_matchers rules) matcher (subst (λ (r : Rule). Contains (r.source ++ r.target) matcher) at there)
+of_rules (first ∷ rules) (suc i) rule fits at matcher there =
+    Contains-append_right (first.source ++ first.target) (rule_matchers rules) matcher (of_rules rules i rule (omega (arith, fits)) at matcher there)
+
+-- those of each rule have patterns
+patterns_had : (ms : List MatcherText) → All HasPattern ms → All IsPattern (patterns_of ms)
+patterns_had [] fine = All-nil IsPattern
+patterns_had (m ∷ ms) fine =
+    let rest = patterns_had ms (All-tail HasPattern m ms fine) in
+    (elim (is_on_pattern m.operator) as (λ (b : Bool). is_on_pattern m.operator ≡ b → All IsPattern (cond b (m.value ∷ patterns_of ms) (patterns_of ms))) [
+      | true ↦ λ on. All-cons IsPattern m.value (patterns_of ms) (All-head HasPattern m ms fine on) rest
+      | false ↦ λ on. rest
+    ]) refl
+
+matchers_had : (rules : List Rule) → All (λ (rule : Rule). All HasPattern rule.source × All HasPattern rule.target) rules → All HasPattern (rule_matchers rules)
+matchers_had [] fine = All-nil HasPattern
+matchers_had (rule ∷ rules) fine =
+    let both = All-head (λ (r : Rule). All HasPattern r.source × All HasPattern r.target) rule rules fine in
+    All-append HasPattern (rule.source ++ rule.target) (rule_matchers rules) (All-append HasPattern rule.source rule.target both.0 both.1)
+    (matchers_had rules (All-tail (λ (r : Rule). All HasPattern r.source × All HasPattern r.target) rule rules fine))
+
+pub rules_had : (rules : List Rule) → All (λ (rule : Rule). All HasPattern rule.source × All HasPattern rule.target) rules → All IsPattern (patterns_of (rule_matchers rules))
+rules_had rules fine = patterns_had (rule_matchers rules) (matchers_had rules fine)

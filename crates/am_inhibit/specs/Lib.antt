@@ -1,0 +1,8 @@
+-- label sets that are alike
+pub mod Alike
+-- lists of places that alerts share
+pub mod Links
+-- which alerts inhibit which
+pub mod Inhibits
+-- the two sides of a rule
+pub mod Sides
