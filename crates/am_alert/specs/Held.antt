@@ -11,7 +11,7 @@ use Rattle.am_item.specs.declared.item.Thing.TheVariants as thing
 use Rattle.am_item.specs.declared.stamp.Stamp.{Stamp}
 use Rattle.am_item.specs.declared.stamp.Stamped.{Stamped}
 use Rattle.am_item.specs.Best.{item_at}
-use Rattle.am_item.specs.Key.{AlertKey}
+use Rattle.am_item.specs.declared.key.ThingKey.TheVariants.{Alert as AlertKey}
 
 -- the stamp moment of the alert with this label set, where there is one
 abbrev pub seen : List Label → List Item → Option ℕ

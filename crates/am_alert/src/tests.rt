@@ -2,9 +2,8 @@
 
 use super::*;
 use PostedRefusal::{BadForm, EndsBeforeStart, NoLabels};
-use am_item::{Alert, Book, Item, Thing};
+use am_item::{Alert, Held, Item, Thing};
 use am_labels::Label;
-use am_tenant::TenantName;
 use am_text::{Failure, Moment};
 use std::alloc::{AllocError, Global};
 use std::test::Fail;
@@ -287,8 +286,7 @@ fn stamped<'a>(item: &'a Item, name: &str) -> (&'a str, u64, u64) {
 fn posts_make_items(rt: HostRuntime) -> Result<(), Fail> {
     let alloc = rt.alloc();
     let moment = Moment::from_milliseconds(1_750_000_000_000).ok_or("a moment")?;
-    let tenant = TenantName::read(b"a")?;
-    let mut book = Book::new(alloc);
+    let mut held = Held::new(alloc);
     let body =
         br#"[{"labels":{"a":"b"}},{"labels":{"c":"d"}},{"labels":{"a":"b"},"generatorURL":"x"}]"#;
     // The counts used before, and the moments and counts of the stamps.
@@ -299,14 +297,16 @@ fn posts_make_items(rt: HostRuntime) -> Result<(), Fail> {
             incarnation: 1,
             used,
         };
-        let items = items_of_post(alloc, posted, book.held(&tenant), moment, maker)?;
+        let items = items_of_post(alloc, posted, &held, moment, maker)?;
         assert_eq!(rt; items.len(), 2);
         assert_eq!(rt; stamped(&items[0], "c"), ("d", since, counts.0));
         assert_eq!(rt; stamped(&items[1], "a"), ("b", since, counts.1));
-        book.put_all(alloc, &tenant, items)?;
+        for item in items {
+            held.put(item)?;
+        }
     }
-    let held = AlertBook::new(book.held(&tenant));
-    assert_eq!(rt; held.firing(alloc, moment.plus(299_999))?.len(), 2);
-    assert_eq!(rt; held.firing(alloc, moment.plus(300_000))?.len(), 0);
+    let alerts = AlertBook::new(&held);
+    assert_eq!(rt; alerts.firing(alloc, moment.plus(299_999))?.len(), 2);
+    assert_eq!(rt; alerts.firing(alloc, moment.plus(300_000))?.len(), 0);
     Ok(())
 }

@@ -18,7 +18,7 @@ use Rattle.am_alert.specs.declared.maker.Maker.{Maker}
 use Rattle.am_config.specs.Judging.{configuration}
 use Rattle.am_draft.specs.Drafts as drafts
 use Rattle.am_item.specs.Best.{item_at}
-use Rattle.am_item.specs.Key.{ConfigurationKey}
+use Rattle.am_item.specs.declared.key.ThingKey.TheVariants.{Configuration as ConfigurationKey}
 use Rattle.am_current.specs.Current.{configuration_in}
 use Rattle.am_api.specs.declared.query.Query.{Query}
 use Rattle.am_api.specs.declared.refusal.QueryRefusal.{QueryRefusal}

@@ -23,7 +23,9 @@ use Rattle.am_item.specs.declared.item.Thing.TheVariants as thing
 use Rattle.am_item.specs.declared.stamp.Stamped.{Stamped}
 use Rattle.am_item.specs.Best.{IsRising, all_joined, best, item_at, joined, of_key}
 use Rattle.am_item.specs.Held.{alert_item, items_by}
-use Rattle.am_item.specs.Key.{AlertKey, Key, exceeds, has_key, key_cmp, key_in, key_of}
+use Rattle.am_item.specs.Key.{exceeds, has_key, key_cmp, key_in, key_of}
+use Rattle.am_item.specs.declared.key.ThingKey.{ThingKey as Key}
+use Rattle.am_item.specs.declared.key.ThingKey.TheVariants.{Alert as AlertKey}
 use Rattle.am_item.specs.Kinds.{alerts_of}
 use Rattle.am_item.proofs.BestLaws.{at-best}
 use Rattle.am_item.proofs.Greatest.{by_cases, greatest-latest, later, latest}

@@ -14,7 +14,7 @@ use Rattle.am_config.specs.Matching.{patterns_of_draft}
 use Rattle.am_item.specs.declared.item.Alert.{Alert}
 use Rattle.am_item.specs.declared.item.Item.{Item}
 use Rattle.am_item.specs.Best.{item_at}
-use Rattle.am_item.specs.Key.{ConfigurationKey}
+use Rattle.am_item.specs.declared.key.ThingKey.TheVariants.{Configuration as ConfigurationKey}
 use Rattle.am_alert.specs.Made.{items_from, last_of_each, made}
 use Rattle.am_alert.specs.Posted as alerts
 use Rattle.am_alert.specs.declared.refusal.PostedRefusal.{PostedRefusal}

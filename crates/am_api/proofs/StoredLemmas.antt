@@ -36,7 +36,8 @@ use Rattle.am_item.specs.declared.item.Item.{Item}
 use Rattle.am_item.specs.declared.item.Thing.{Thing}
 use Rattle.am_item.specs.declared.item.Thing.TheVariants as thing
 use Rattle.am_item.specs.Best.{item_at}
-use Rattle.am_item.specs.Key.{ConfigurationKey, has_key}
+use Rattle.am_item.specs.Key.{has_key}
+use Rattle.am_item.specs.declared.key.ThingKey.TheVariants.{Configuration as ConfigurationKey}
 use Rattle.am_current.specs.Current.{configuration_at, configuration_by, configuration_in, or_default}
 use Rattle.am_api.specs.Patterns.{patterns_of_items, patterns_of_routes, patterns_of_thing}
 use Rattle.am_api.proofs.Builds.{Among}

@@ -18,7 +18,7 @@ use Rattle.am_item.specs.declared.item.Item.{Item}
 use Rattle.am_item.specs.declared.item.Thing.{Thing}
 use Rattle.am_item.specs.declared.item.Thing.TheVariants as thing
 use Rattle.am_item.specs.Best.{all_joined, item_at}
-use Rattle.am_item.specs.Key.{ConfigurationKey}
+use Rattle.am_item.specs.declared.key.ThingKey.TheVariants.{Configuration as ConfigurationKey}
 use Rattle.am_item.specs.Kinds.{alerts_of}
 use Rattle.am_alert.specs.declared.maker.Maker.{Maker}
 use Rattle.am_alert.specs.declared.refusal.PostedRefusal.{PostedRefusal}

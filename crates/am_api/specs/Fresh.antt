@@ -7,7 +7,7 @@ use Rattle.am_labels.specs.Labels.{labels_cmp}
 use Rattle.am_item.specs.declared.item.Alert.{Alert}
 use Rattle.am_item.specs.declared.item.Item.{Item}
 use Rattle.am_item.specs.Best.{item_at}
-use Rattle.am_item.specs.Key.{AlertKey}
+use Rattle.am_item.specs.declared.key.ThingKey.TheVariants.{Alert as AlertKey}
 
 -- an alert with this label set is held
 abbrev pub is_held : List Item → List Label → Bool

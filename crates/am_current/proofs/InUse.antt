@@ -10,8 +10,8 @@ use Rattle.am_config.specs.Configuration.{Configuration}
 use Rattle.am_config.specs.Default.{default_configuration}
 use Rattle.am_item.specs.declared.item.Item.{Item}
 use Rattle.am_item.specs.Best.{IsRising, all_joined, item_at}
-use Rattle.am_item.specs.Book.{items_of}
-use Rattle.am_item.specs.Key.{ConfigurationKey}
+use Rattle.am_book.specs.Book.{items_of}
+use Rattle.am_item.specs.declared.key.ThingKey.TheVariants.{Configuration as ConfigurationKey}
 use Rattle.am_item.proofs.Greatest.{by_cases}
 use Rattle.am_current.specs.Current.{AreInUse, configuration_in, read_for}
 use Rattle.am_current.specs.Replacing.{replaces}

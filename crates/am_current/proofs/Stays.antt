@@ -11,7 +11,8 @@ use Rattle.am_item.specs.declared.item.Item.{Item}
 use Rattle.am_item.specs.declared.item.Thing.{Thing}
 use Rattle.am_item.specs.declared.item.Thing.TheVariants.{Configuration, Silence, Alert, SentEntry}
 use Rattle.am_item.specs.Best.{IsRising, all_joined, item_at, joined}
-use Rattle.am_item.specs.Key.{ConfigurationKey, exceeds, has_key, key_cmp, key_in}
+use Rattle.am_item.specs.Key.{exceeds, has_key, key_cmp, key_in}
+use Rattle.am_item.specs.declared.key.ThingKey.TheVariants.{Configuration as ConfigurationKey}
 use Rattle.am_item.proofs.Greatest.{by_cases}
 use Rattle.am_item.proofs.Joined.{at-joined, rising-joined, with_item}
 use Rattle.am_current.specs.Current.{configuration_at, configuration_by, configuration_in, or_default}

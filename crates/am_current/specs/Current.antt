@@ -9,8 +9,8 @@ use Rattle.am_config.specs.Judging.{reading}
 use Rattle.am_config.specs.declared.refusal.ConfigRefusal.{ConfigRefusal}
 use Rattle.am_draft.specs.Drafts.{draft_in}
 use Rattle.am_item.specs.Best.{item_at}
-use Rattle.am_item.specs.Book.{items_of}
-use Rattle.am_item.specs.Key.{ConfigurationKey}
+use Rattle.am_book.specs.Book.{items_of}
+use Rattle.am_item.specs.declared.key.ThingKey.TheVariants.{Configuration as ConfigurationKey}
 use Rattle.am_item.specs.declared.item.Item.{Item}
 use Rattle.am_item.specs.declared.item.Thing.{Thing}
 use Rattle.am_item.specs.declared.item.Thing.TheVariants.{Configuration as Stored, Silence, Alert, SentEntry}

@@ -1,16 +1,19 @@
-ghost use Rattle.std.specs.Prelude.{◌≡◌, ℕ, List, [], IfOk, OnErr, OnOk, false, unwrap_or, if◌then◌else◌};
+ghost use Rattle.std.specs.Prelude.{◌≡◌, ℕ, List, [], IfOk, OnErr, OnOk, false, filter, not, unwrap_or, if◌then◌else◌};
 ghost use Rattle.std.specs.Borrow.{sem};
 ghost use Rattle.std.specs.Io.BufRead.{Rests};
 ghost use Rattle.am_tenant.specs.Names.{same};
 ghost use Rattle.am_item.specs.Best.{IsRising, all_joined};
-ghost use Rattle.am_item.specs.Book.{items_of};
+ghost use Rattle.am_book.specs.Book.{items_of};
+ghost use Rattle.am_item.specs.Retirement.{is_retired};
 ghost use Rattle.am_current.specs.Current.{configuration_in, read_for};
 
 use crate::reading::Readings;
 use crate::replacing::is_replaced;
+use am_book::Book;
 use am_config::Config;
-use am_item::{Book, Held, Item};
+use am_item::{Held, Item};
 use am_tenant::TenantName;
+use am_text::Moment;
 use std::alloc::{AllocError, Global};
 use std::marker::Model;
 
@@ -123,5 +126,12 @@ impl Holdings {
             self.parts.readings.forget(tenant);
         }
         put
+    }
+
+    /// Drops of every tenant what is retired at the moment, which no configuration ever is. It takes no memory.
+    pub fn retire(&mut self, moment: Moment)
+        ensures { (t : List ℕ) → items_of t self.new ≡ filter (λ item. not (is_retired moment item)) (items_of t self.old) }
+    {
+        self.parts.book.retire(moment);
     }
 }

@@ -6,7 +6,7 @@ ghost use Rattle.am_config.specs.Configuration.{Configuration};
 ghost use Rattle.am_config.specs.Default.{default_configuration};
 ghost use Rattle.am_config.specs.Judging.{reading};
 ghost use Rattle.am_item.specs.Best.{IsRising, item_at, joined};
-ghost use Rattle.am_item.specs.Key.{ConfigurationKey};
+ghost use Rattle.am_item.specs.declared.key.ThingKey.TheVariants.{Configuration as ConfigurationKey};
 ghost use Rattle.am_item.specs.declared.item.Item.{Item};
 ghost use Rattle.am_item.specs.declared.item.Thing.TheVariants as thing;
 ghost use Rattle.am_current.specs.Current.{configuration_in};

@@ -5,7 +5,7 @@ ghost use Rattle.std.specs.List.{list_any};
 ghost use Rattle.std.specs.Option.{option_copied, option_map};
 ghost use Rattle.am_item.specs.Best.{item_at};
 ghost use Rattle.am_item.specs.Held.{configuration_item};
-ghost use Rattle.am_item.specs.Key.{ConfigurationKey};
+ghost use Rattle.am_item.specs.declared.key.ThingKey.TheVariants.{Configuration as ConfigurationKey};
 ghost use Rattle.am_current.specs.Replacing.{replaces};
 
 use am_item::{Held, Item, Stamped, Thing};

@@ -37,12 +37,12 @@ failed_by item p h (e ∷ es) = cond-false _ (item e.0 e.1 ∷ filter p (items_b
 module _ {K V : Type 0} (cmp : K → K → Ordering) (total : IsTotalOrder cmp) (exact : CmpEqualImpliesEq cmp) (name : K → Key) (item : K → Stamped V → Item)
     (named : (k : K) (v : Stamped V) → key_of (item k v) ≡ name k) (stamped : (k : K) (v : Stamped V) → (item k v).stamp ≡ v.stamp) (like : (a b : K) → key_cmp (name a) (name b) ≡ cmp a b) where
   -- items of greater names have greater keys
-  above_by : (q : Key) (es : List (K × Stamped V)) → AllByRecursion (λ k. key_cmp q (name k) ≡ Less) (keys_of es) → AllAbove q (items_by item es)
+  pub above_by : (q : Key) (es : List (K × Stamped V)) → AllByRecursion (λ k. key_cmp q (name k) ≡ Less) (keys_of es) → AllAbove q (items_by item es)
   above_by q [] all = tt
   above_by q (e ∷ es) all = (ap (key_cmp q) (named e.0 e.1) ∙ all.0, above_by q es all.1)
 
   -- names that are above one have greater keys
-  names_above : (k : K) (es : List (K × Stamped V)) → AllByRecursion (λ q. cmp k q ≡ Less) (keys_of es) → AllByRecursion (λ q. key_cmp (name k) (name q) ≡ Less) (keys_of es)
+  pub names_above : (k : K) (es : List (K × Stamped V)) → AllByRecursion (λ q. cmp k q ≡ Less) (keys_of es) → AllByRecursion (λ q. key_cmp (name k) (name q) ≡ Less) (keys_of es)
   names_above k [] all = tt
   names_above k (e ∷ es) all = (like k e.0 ∙ all.0, names_above k es all.1)
 
@@ -53,7 +53,7 @@ module _ {K V : Type 0} (cmp : K → K → Ordering) (total : IsTotalOrder cmp) 
   rising_by (e ∷ es) s = (subst (λ q. AllAbove q (items_by item es)) (sym (named e.0 e.1)) (above_by (name e.0) es (names_above e.0 es s.0)), rising_by es s.1)
 
   -- an item has a name's key where its own name compares equal
-  has_name : (k q : K) (v : Stamped V) → has_key (name k) (item q v) ≡ is_eq (cmp k q)
+  pub has_name : (k q : K) (v : Stamped V) → has_key (name k) (item q v) ≡ is_eq (cmp k q)
   has_name k q v = ap (λ key. is_eq (key_cmp (name k) key)) (named q v) ∙ ap is_eq (like k q)
 
   -- a look-up by a name

@@ -9,7 +9,8 @@ pub mod Joining
 pub mod Adjacent
 pub mod ByName
 pub mod Whole
-pub mod Lists
+pub mod Removed
+pub mod Merging
 pub mod Tallies
 pub mod Reading
 pub mod NewestLemmas

@@ -17,7 +17,9 @@ use Rattle.am_labels.specs.Labels.{labels_cmp, labels_total}
 use Rattle.am_item.specs.Best.{IsRising, item_at, joined}
 use Rattle.am_item.specs.EntryKey.{entry_cmp, entry_total}
 use Rattle.am_item.specs.Held.{AreOrdered, alert_item, configuration_item, configuration_items, entry_item, items_by, items_in, silence_item}
-use Rattle.am_item.specs.Key.{Key, ConfigurationKey, SilenceKey, AlertKey, SentEntryKey, exceeds, has_key, key_cmp, key_of, kind_of}
+use Rattle.am_item.specs.Key.{exceeds, has_key, key_cmp, key_of, kind_of}
+use Rattle.am_item.specs.declared.key.ThingKey.{ThingKey as Key}
+use Rattle.am_item.specs.declared.key.ThingKey.TheVariants.{Configuration as ConfigurationKey, Silence as SilenceKey, Alert as AlertKey, SentEntry as SentEntryKey}
 use Rattle.am_item.specs.Newest.{newest}
 use Rattle.am_item.specs.declared.entry.EntryDetails.{EntryDetails}
 use Rattle.am_item.specs.declared.entry.EntryKey.{EntryKey}
@@ -94,15 +96,15 @@ configured_rises None = tt
 configured_rises (Some held) = (tt, tt)
 
 -- the order of names is that of their keys
-silences_like : (a b : List ℕ) → key_cmp (SilenceKey a) (SilenceKey b) ≡ ids_cmp a b
+pub silences_like : (a b : List ℕ) → key_cmp (SilenceKey a) (SilenceKey b) ≡ ids_cmp a b
 unfolding key_cmp
 silences_like a b = refl
 
-alerts_like : (a b : List Label) → key_cmp (AlertKey a) (AlertKey b) ≡ labels_cmp a b
+pub alerts_like : (a b : List Label) → key_cmp (AlertKey a) (AlertKey b) ≡ labels_cmp a b
 unfolding key_cmp
 alerts_like a b = refl
 
-entries_like : (a b : EntryKey) → key_cmp (SentEntryKey a) (SentEntryKey b) ≡ entry_cmp a b
+pub entries_like : (a b : EntryKey) → key_cmp (SentEntryKey a) (SentEntryKey b) ≡ entry_cmp a b
 unfolding key_cmp
 entries_like a b = refl
 
@@ -190,14 +192,14 @@ at_whole (SentEntryKey entry) h =
 -- ---- one kind of all that is held
 
 -- what passes a test in four lists
-passed : (p : Item → Bool) (cs ss zs es c s a e : List Item) → filter p cs ≡ c → filter p ss ≡ s → filter p zs ≡ a → filter p es ≡ e → filter p (cs ++ (ss ++ (zs ++ es))) ≡ c ++ (s ++ (a ++ e))
+pub passed : (p : Item → Bool) (cs ss zs es c s a e : List Item) → filter p cs ≡ c → filter p ss ≡ s → filter p zs ≡ a → filter p es ≡ e → filter p (cs ++ (ss ++ (zs ++ es))) ≡ c ++ (s ++ (a ++ e))
 passed p cs ss zs es c s a e h k l m =
     let after_silences : filter p (zs ++ es) ≡ a ++ e = filter-append p zs es ∙ ap (λ o. o ++ filter p es) l ∙ ap (λ o. a ++ o) m in
     let after_configuration : filter p (ss ++ (zs ++ es)) ≡ s ++ (a ++ e) = filter-append p ss (zs ++ es) ∙ ap (λ o. o ++ filter p (zs ++ es)) k ∙ ap (λ o. s ++ o) after_silences in
     filter-append p cs (ss ++ (zs ++ es)) ∙ ap (λ o. o ++ filter p (ss ++ (zs ++ es))) h ∙ ap (λ o. c ++ o) after_configuration
 
 -- a configuration is of no other kind
-no_configuration : (p : Item → Bool) → ((v : Stamped (Option (List ℕ))) → p (configuration_item v) ≡ false) → (o : Option (Stamped (Option (List ℕ)))) → filter p (configuration_items o) ≡ []
+pub no_configuration : (p : Item → Bool) → ((v : Stamped (Option (List ℕ))) → p (configuration_item v) ≡ false) → (o : Option (Stamped (Option (List ℕ)))) → filter p (configuration_items o) ≡ []
 no_configuration p h None = refl
 no_configuration p h (Some v) = cond-false _ (configuration_item v ∷ []) [] (h v)
 

@@ -2,9 +2,10 @@ pub mod Stamp
 pub mod EntryKey
 pub mod Details
 pub mod Key
+pub mod KeyTotal
 pub mod Best
 pub mod Newest
 pub mod Held
 pub mod Kinds
-pub mod Book
+pub mod Retirement
 pub mod Counts

@@ -8,3 +8,8 @@ use Rattle.am_item.specs.declared.stamp.Stamped.{Stamped}
 abbrev pub newest : {V : Type 0} → Option (Stamped V) → Stamped V → Option (Stamped V)
 newest None value = Some value
 newest (Some held) value = if is_gt (stamp_cmp value.stamp held.stamp) then Some value else Some held
+
+-- what is held once another holding has come: what that has, where it has the greater stamp or none was held
+abbrev pub newer : {V : Type 0} → Option (Stamped V) → Option (Stamped V) → Option (Stamped V)
+newer held None = held
+newer held (Some value) = newest held value

@@ -1,22 +1,38 @@
-ghost use Rattle.std.specs.Prelude.{◌≡◌, ◌++◌, ℕ, List, [], OnErr, OnOk, if◌then◌else◌};
-ghost use Rattle.std.specs.BTreeMap.{IsOrdered, IsUnchanged, get, is_at};
+ghost use Rattle.std.specs.Prelude.{◌≡◌, ◌++◌, ℕ, List, [], None, count_by, nat_lt, OnErr, OnOk, if◌then◌else◌};
+ghost use Rattle.std.specs.BTreeMap.{IsOrdered, IsUnchanged, get, is_at, values};
 ghost use Rattle.std.specs.Cmp.Lexicographic.{slice_cmp};
 ghost use Rattle.std.specs.Option.{option_copied, option_map};
 ghost use Rattle.std.specs.Ordering.{nat_cmp};
 ghost use Rattle.am_labels.specs.declared.Label.{Label};
 ghost use Rattle.am_labels.specs.Labels.{labels_cmp};
-ghost use Rattle.am_item.specs.Newest.{newest};
+ghost use Rattle.am_item.specs.EntryKey.{entry_cmp};
+ghost use Rattle.std.specs.Map.{remove_entry};
+ghost use Rattle.am_item.specs.Held.{alert_item, configuration_item, entry_item, items_by, silence_item};
+ghost use Rattle.am_item.specs.Kinds.{is_unexpired_silence};
+ghost use Rattle.am_item.specs.Newest.{newer, newest};
+ghost use Rattle.am_item.specs.Retirement.{standing_of};
 
 use crate::entry::{EntryDetails, EntryKey};
 use crate::item::{AlertDetails, Item, Thing};
+use crate::key::ThingKey;
+use crate::retirement::{alert_retires_at, entry_retires_at, silence_retires_at};
 use crate::silence::{SilenceDetails, SilenceId};
-use crate::stamp::Stamped;
+use crate::stamp::{Stamp, Stamped};
 use am_labels::LabelSet;
-use am_text::Text;
+use am_text::{Moment, Text};
 use std::alloc::{AllocError, Global};
 use std::collections::BTreeMap;
 use std::collections::btree_map::Entry;
 use std::marker::Model;
+
+/// The stamp of an item that is held, and from when on the item is retired.
+#[derive(Clone, Copy, Debug, PartialEq, Eq)]
+pub struct Standing {
+    /// When and where it was written.
+    pub stamp: Stamp,
+    /// From when on it is retired; `None` for a configuration, which never is.
+    pub retires_at: Option<Moment>,
+}
 
 /// What is held of one tenant: of each key the item with the greatest stamp, kind by kind, each kind in the
 /// order of its keys.
@@ -42,11 +58,11 @@ impl Model for Held {
 }
 
 impl Held {
-    ghost use Rattle.am_item.specs.Best.{IsRising, item_at, joined};
-    ghost use Rattle.am_item.specs.Held.{alert_item, configuration_item, configuration_items, entry_item, items_by, silence_item};
-    ghost use Rattle.am_item.specs.Key.{AlertKey, ConfigurationKey, SentEntryKey, SilenceKey};
+    ghost use Rattle.std.specs.Prelude.{filter, length, not};
+    ghost use Rattle.am_item.specs.Best.{IsRising, item_at, joined, merged};
+    ghost use Rattle.am_item.specs.Held.{configuration_items};
+    ghost use Rattle.am_item.specs.Key.{AlertKey, ConfigurationKey, SentEntryKey, SilenceKey, has_key, key_of};
     ghost use Rattle.am_item.specs.Kinds.{alerts_of, entries_of, silences_of};
-    ghost use Rattle.am_item.specs.EntryKey.{entry_cmp};
     ghost use Rattle.am_item.specs.declared.entry.EntryKey.{EntryKey};
 
     /// Nothing held.
@@ -98,11 +114,51 @@ impl Held {
         &self.alerts
     }
 
+    /// How many alerts are held.
+    pub fn count_alerts(&self) -> usize
+        ensures { result ≡ length (alerts_of self.now) }
+    {
+        self.alerts.len()
+    }
+
+    /// How many silences are held that end after the moment.
+    pub fn count_unexpired(&self, moment: Moment) -> usize
+        ensures { result ≡ count_by (λ item. is_unexpired_silence moment item.thing) self.now }
+    {
+        count_unexpired(&self.silences, moment)
+    }
+
+    /// What stands at a key: the stamp of its item and from when on that is retired, where one is held.
+    pub fn standing(&self, key: &ThingKey) -> Option<Standing>
+        ensures standing { result ≡ option_map standing_of (item_at key.now self.now) }
+        ensures rising { IsRising self.now }
+    {
+        match key {
+            ThingKey::Configuration => configuration_standing(&self.configuration),
+            ThingKey::Silence(id) => silence_standing(&self.silences, id),
+            ThingKey::Alert(labels) => alert_standing(&self.alerts, labels),
+            ThingKey::SentEntry(key) => entry_standing(&self.sent, key),
+        }
+    }
+
+    /// Removes the item of a key, where one is held. It takes no memory.
+    pub fn remove(&mut self, key: &ThingKey)
+        ensures { self.new ≡ filter (λ item. not (has_key key.now item)) self.old }
+    {
+        match key {
+            ThingKey::Configuration => remove_configuration(&mut self.configuration),
+            ThingKey::Silence(id) => remove_key(&mut self.silences, id),
+            ThingKey::Alert(labels) => remove_key(&mut self.alerts, labels),
+            ThingKey::SentEntry(key) => remove_key(&mut self.sent, key),
+        }
+    }
+
     /// Puts an item: it takes its key's place, unless an item of that key is held whose stamp is no smaller. An
-    /// error, which is out of memory, leaves all items as they were.
+    /// error, which is out of memory, leaves all items as they were; it comes only where no item of that key is held.
     pub fn put(&mut self, item: Item) -> Result<(), AllocError>
         ensures joined { OnOk result (self.new ≡ joined self.old item) }
         ensures err { OnErr result (self.new ≡ self.old) }
+        ensures absent { OnErr result (item_at (key_of item) self.old ≡ None) }
     {
         let Item { stamp, thing } = item;
         match thing {
@@ -124,6 +180,117 @@ impl Held {
             }
         }
     }
+
+    /// Merges what is held elsewhere of the same tenant: of each key the item with the greater stamp stays, of two
+    /// with one stamp the own. After an error, which is out of memory, some of the other's items may have come.
+    pub fn merge(&mut self, other: Held) -> Result<(), AllocError>
+        ensures { OnOk result (self.new ≡ merged self.old other) }
+    {
+        let Held {
+            configuration,
+            silences,
+            alerts,
+            sent,
+        } = other;
+        merge_configuration(&mut self.configuration, configuration);
+        merge_newest(&mut self.silences, silences)?;
+        merge_newest(&mut self.alerts, alerts)?;
+        merge_newest(&mut self.sent, sent)?;
+        Ok(())
+    }
+}
+
+// What stands of a configuration.
+#[tactic(auto, unfolding(crate::specs::Retirement::retires_at))]
+fn configuration_standing(held: &Option<Stamped<Option<Text>>>) -> Option<Standing>
+    ensures { result ≡ option_map (λ stamped. standing_of (configuration_item stamped)) held.now }
+{
+    match held {
+        None => None,
+        Some(held) => Some(Standing {
+            stamp: held.stamp,
+            retires_at: None,
+        }),
+    }
+}
+
+// What stands of the silence of an identifier.
+#[tactic(auto, unfolding(crate::specs::Retirement::retires_at))]
+fn silence_standing(
+    held: &BTreeMap<SilenceId, Stamped<SilenceDetails>>,
+    id: &SilenceId,
+) -> Option<Standing>
+    ensures { result ≡ option_map (λ stamped. standing_of (silence_item id.now stamped)) (get (slice_cmp nat_cmp) held.now id.now) }
+{
+    match held.get(id) {
+        None => None,
+        Some(held) => Some(Standing {
+            stamp: held.stamp,
+            retires_at: Some(silence_retires_at(held.value.kept_until)),
+        }),
+    }
+}
+
+// What stands of the alert of a label set.
+#[tactic(auto, unfolding(crate::specs::Retirement::retires_at))]
+fn alert_standing(
+    held: &BTreeMap<LabelSet, Stamped<AlertDetails>>,
+    labels: &LabelSet,
+) -> Option<Standing>
+    ensures { result ≡ option_map (λ stamped. standing_of (alert_item labels.now stamped)) (get labels_cmp held.now labels.now) }
+{
+    match held.get(labels) {
+        None => None,
+        Some(held) => Some(Standing {
+            stamp: held.stamp,
+            retires_at: Some(alert_retires_at(held.value.ends_at, held.stamp.moment)),
+        }),
+    }
+}
+
+// What stands of the sent entry of a key.
+#[tactic(auto, unfolding(crate::specs::Retirement::retires_at))]
+fn entry_standing(
+    held: &BTreeMap<EntryKey, Stamped<EntryDetails>>,
+    key: &EntryKey,
+) -> Option<Standing>
+    ensures { result ≡ option_map (λ stamped. standing_of (entry_item key.now stamped)) (get entry_cmp held.now key.now) }
+{
+    match held.get(key) {
+        None => None,
+        Some(held) => Some(Standing {
+            stamp: held.stamp,
+            retires_at: Some(entry_retires_at(held.value.ends_at)),
+        }),
+    }
+}
+
+// How many of the silences end after the moment.
+fn count_unexpired(silences: &BTreeMap<SilenceId, Stamped<SilenceDetails>>, moment: Moment) -> usize
+    ensures { result ≡ count_by (λ held. nat_lt moment held.value.ends_at) (values silences.now) }
+{
+    let mut count = 0;
+    for (_, held) in silences {
+        if held.value.ends_at > moment {
+            count += 1;
+        }
+    }
+    count
+}
+
+// Removes what is held under a key.
+fn remove_key<K: Ord + Drop, V: Drop>(held: &mut BTreeMap<K, V>, key: &K)
+    ensures entries { held.new.entries ≡ remove_entry (is_at (K.cmp key.now)) held.old.entries }
+    ensures ordered { IsOrdered K.cmp held.new }
+{
+    held.remove(key);
+}
+
+// Removes a configuration.
+fn remove_configuration(held: &mut Option<Stamped<Option<Text>>>)
+    ensures { held.new ≡ None }
+{
+    *held = None;
 }
 
 // Puts a configuration, unless one is held whose stamp is no smaller.
@@ -145,6 +312,7 @@ fn put_newest<K: Ord + Drop, V: Drop>(
     requires { IsOrdered K.cmp held.old }
     ensures put { OnOk result ((q : K) → get K.cmp held.new q ≡ (if is_at (K.cmp key) q then newest (get K.cmp held.old q) value else get K.cmp held.old q)) }
     ensures err { OnErr result (IsUnchanged held.old held.new) }
+    ensures absent { OnErr result (get K.cmp held.old key ≡ None) }
     ensures ordered { IsOrdered K.cmp held.new }
 {
     match held.entry(key)? {
@@ -156,6 +324,33 @@ fn put_newest<K: Ord + Drop, V: Drop>(
                 place.insert(value);
             }
         }
+    }
+    Ok(())
+}
+
+// Puts another configuration, where there is one.
+fn merge_configuration(
+    held: &mut Option<Stamped<Option<Text>>>,
+    other: Option<Stamped<Option<Text>>>,
+)
+    ensures { held.new ≡ newer held.old other }
+{
+    if let Some(configuration) = other {
+        put_configuration(held, configuration);
+    }
+}
+
+// Puts other values under their keys.
+fn merge_newest<K: Ord + Drop, V: Drop>(
+    held: &mut BTreeMap<K, Stamped<V>>,
+    others: BTreeMap<K, Stamped<V>>,
+) -> Result<(), AllocError>
+    requires { IsOrdered K.cmp held.old }
+    ensures merged { OnOk result ((q : K) → get K.cmp held.new q ≡ newer (get K.cmp held.old q) (get K.cmp others q)) }
+    ensures ordered { IsOrdered K.cmp held.new }
+{
+    for (key, other) in others {
+        put_newest(held, key, other)?;
     }
     Ok(())
 }

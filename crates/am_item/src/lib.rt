@@ -1,23 +1,29 @@
 //! What is stored of the tenants: items of four kinds, each with a key and a stamp, and the best of a list of them.
 #![tactic(auto)]
 
-mod book;
 mod counts;
 mod entry;
 mod fault;
 mod held;
 mod item;
+mod key;
 mod label_sets;
 pub mod laws;
+mod matchers;
+mod retirement;
 mod silence;
 mod stamp;
 
-pub use book::Book;
 pub use counts::{Counts, GREATEST_COUNT};
 pub use entry::{EntryDetails, EntryKey, SentEntry};
 pub use fault::Fault;
-pub use held::Held;
+pub use held::{Held, Standing};
 pub use item::{Alert, AlertDetails, Item, Thing};
+pub use key::ThingKey;
 pub use label_sets::LabelSets;
+pub use matchers::Matchers;
 pub use silence::{Silence, SilenceDetails, SilenceId};
 pub use stamp::{Stamp, Stamped};
+
+#[cfg(test)]
+mod tests;

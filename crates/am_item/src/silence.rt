@@ -3,7 +3,7 @@ ghost use Rattle.std.specs.Cmp.{partial_equiv_from_equiv, eq_by_cmp_equiv, po};
 ghost use Rattle.std.specs.Cmp.Lexicographic.{slice_cmp, nat_list_cmp_total};
 ghost use Rattle.std.specs.Ordering.{eq_by_cmp, nat_cmp};
 
-use am_match::Matcher;
+use crate::matchers::Matchers;
 use am_text::{Moment, Text};
 use std::cmp::Ordering;
 use std::marker::Model;
@@ -96,7 +96,7 @@ pub struct Silence {
     /// Why it was made.
     pub comment: Text,
     /// What it mutes.
-    pub matchers: Vec<Matcher>,
+    pub matchers: Matchers,
 }
 
 /// What a silence is beside its identifier.
@@ -113,7 +113,7 @@ pub struct SilenceDetails {
     /// Why it was made.
     pub comment: Text,
     /// What it mutes.
-    pub matchers: Vec<Matcher>,
+    pub matchers: Matchers,
 }
 
 impl Silence {

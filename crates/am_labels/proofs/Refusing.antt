@@ -1,5 +1,5 @@
 -- Which refusal pairs of names and values meet, by the tests, and what they make without one.
-use Rattle.std.proofs.Common.{◌≡◌, ℕ, Bool, true, false, not, List, filter, Result, Ok, Err, refl, sym, ap, ◌∙◌, if◌then◌else◌}
+use Rattle.std.proofs.Common.{◌≡◌, ℕ, Bool, true, false, not, List, filter, Ok, Err, refl, sym, ap, ◌∙◌, if◌then◌else◌}
 use Rattle.std.specs.List.Sorted.{IsPermutation, IsStrictlySortedBy}
 use Rattle.std.proofs.lemmas.List.Sorted.{IsPermutation-refl}
 use Rattle.am_text.specs.declared.failure.Failure.{Failure}
@@ -9,7 +9,7 @@ use Rattle.am_labels.specs.declared.Label.{Label}
 use Rattle.am_labels.specs.declared.LabelRefusal.{LabelRefusal}
 use Rattle.am_labels.specs.declared.LabelRefusal.TheVariants.{BadName, Repeated}
 use Rattle.am_labels.specs.Labels.{are_label_names, has_value, name_cmp, repeats}
-use Rattle.am_labels.specs.Sets.{annotations, in_order, label_set, unless_refused, value_of}
+use Rattle.am_labels.specs.Sets.{annotations, in_order, label_set, value_of}
 use Rattle.am_labels.proofs.InOrder.{filter-in_order, in_order-IsPermutation}
 use Rattle.am_labels.proofs.Values.{no_repeats_from_rising, repeats-filter, value_of-filter, value_of-in_order}
 

@@ -4,19 +4,20 @@ ghost use Rattle.std.specs.Ordering.{eq_by_cmp};
 ghost use Rattle.am_labels.specs.Labels.{labels_cmp, labels_total};
 
 use crate::hash::fingerprint_of;
-use crate::pairs::{copy_labels, read_pairs, value_in};
+use crate::pairs::{read_pairs, value_in};
 use crate::{Label, LabelRefusal};
 use am_text::Failure;
 use std::alloc::{AllocError, Global};
 use std::cmp::Ordering;
 use std::marker::Model;
+use std::rc::RcSlice;
 
 /// A finite map from label names to values that aren't empty: its labels in order of name.
 ///
 /// Label sets are ordered by their lists of labels.
 #[derive(Debug, Drop)]
 pub struct LabelSet {
-    labels: Vec<Label>,
+    labels: RcSlice<Label>,
 }
 
 impl Model for LabelSet {
@@ -25,11 +26,12 @@ impl Model for LabelSet {
 
     ghost Value = { List Label };
 
+    ghost use Rattle.std.specs.Rc.{rc_slice_items};
     ghost use Rattle.am_labels.specs.Sets.{IsLabelSet};
 
-    ghost view = { λ set. set.labels.items };
+    ghost view = { λ set. rc_slice_items set.labels };
 
-    ghost invariant = { λ set. IsLabelSet set.labels.items };
+    ghost invariant = { λ set. IsLabelSet (rc_slice_items set.labels) };
 }
 
 impl LabelSet {
@@ -49,8 +51,9 @@ impl LabelSet {
         ensures memory { IsErrOf result Failure.OutOfMemory → IsTrue (are_label_names pairs.items) }
         ensures values { IfOk result (λ set. (name : List ℕ) → value_of name set ≡ value_of name pairs.items) }
     {
-        let mut labels = read_pairs(alloc, pairs)?;
-        labels.retain(|label| !label.value.is_empty());
+        let mut held = read_pairs(alloc, pairs)?;
+        held.retain(|label| !label.value.is_empty());
+        let labels = RcSlice::from_vec(held)?;
         Ok(LabelSet { labels })
     }
 
@@ -58,14 +61,14 @@ impl LabelSet {
     pub fn get(&self, name: &str) -> &str
         ensures { result.now ≡ value_of name.now self.now }
     {
-        value_in(&self.labels, name)
+        value_in(self.labels(), name)
     }
 
     /// The FNV-1a hash of 64 bits over each label in order of name: its name, byte 255, its value, byte 255.
     pub fn fingerprint(&self) -> u64
         ensures { result ≡ hashes.fingerprint self.now }
     {
-        fingerprint_of(&self.labels)
+        fingerprint_of(self.labels())
     }
 
     /// The labels in order of name.
@@ -91,10 +94,10 @@ impl LabelSet {
     }
 
     /// A copy of the label set.
-    pub fn copy(&self, alloc: Global) -> Result<LabelSet, AllocError>
+    pub fn copy(&self) -> Result<LabelSet, AllocError>
         ensures { IfOk result (λ set. set ≡ self.now) }
     {
-        let labels = copy_labels(alloc, &self.labels)?;
+        let labels = self.labels.clone()?;
         Ok(LabelSet { labels })
     }
 }
@@ -165,7 +168,7 @@ mod tests {
         assert_eq!(rt; labels.get("a"), "1");
         assert_eq!(rt; labels.get("c"), "");
         assert_eq!(rt; labels.get("d"), "");
-        assert!(rt; labels == labels.copy(rt.alloc())?);
+        assert!(rt; labels == labels.copy()?);
         Ok(())
     }
 

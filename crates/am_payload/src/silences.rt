@@ -94,10 +94,10 @@ fn put_silence(
 }
 
 fn matchers_member(text: &mut JsonWriter, silence: &SilenceDetails) -> Result<(), AllocError>
-    ensures { OnOk result (text.new ≡ text.old ++ member_tokens (codes "matchers") (matchers_data silence.now.matchers.items)) }
+    ensures { OnOk result (text.new ≡ text.old ++ member_tokens (codes "matchers") (matchers_data silence.now.matchers)) }
 {
     text.key("matchers")?;
-    put_matchers(text, &silence.matchers)
+    put_matchers(text, silence.matchers.as_slice())
 }
 
 fn put_matchers(text: &mut JsonWriter, matchers: &[Matcher]) -> Result<(), AllocError>

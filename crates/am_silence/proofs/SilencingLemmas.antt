@@ -43,18 +43,18 @@ next_of silences i s within is =
 pub silence_more : (silences : List HeldSilence) (i : ℕ) (s : HeldSilence) (sets : List (List Label)) (old new : List (List (List ℕ))) (places : List ℕ) →
     i < length silences → s ≡ get_or silences i s →
     old ≡ map (λ labels. taking (map held_silence (take i silences)) labels) sets →
-    places ≡ places_from 0 (all_take s.held.now.value.matchers.items) sets →
+    places ≡ places_from 0 (all_take s.held.now.value.matchers) sets →
     new ≡ pushed_at s.id.now places old →
     new ≡ map (λ labels. taking (map held_silence (take (i + 1) silences)) labels) sets
 silence_more silences i s sets old new places within is so_far taken pushed =
-    pushed ∙ rw (so_far, taken) (pushed_where s.id.now (all_take s.held.now.value.matchers.items) before [] sets 0 refl)
+    pushed ∙ rw (so_far, taken) (pushed_where s.id.now (all_take s.held.now.value.matchers) before [] sets 0 refl)
     ∙ sym (map_same sets)
   where
     before : List Label → List (List ℕ)
     before labels = taking (map held_silence (take i silences)) labels
 
     map_same : (ls : List (List Label)) → map (λ labels. taking (map held_silence (take (i + 1) silences)) labels) ls
-        ≡ map (λ labels. if all_take s.held.now.value.matchers.items labels then taking (map held_silence (take i silences)) labels ++ s.id.now ∷ [] else taking (map held_silence (take i silences)) labels) ls
+        ≡ map (λ labels. if all_take s.held.now.value.matchers labels then taking (map held_silence (take i silences)) labels ++ s.id.now ∷ [] else taking (map held_silence (take i silences)) labels) ls
     map_same [] = refl
     map_same (l ∷ ls) = rw (ap (λ xs. taking xs l) (next_of silences i s within is) ∙ taking_one (map held_silence (take i silences)) (held_silence s) l, map_same ls) refl
 
@@ -62,12 +62,12 @@ silence_more silences i s sets old new places within is so_far taken pushed =
 
 -- the matchers of one of the silences are among all of them
 pub among_all : (silences : List HeldSilence) (i : ℕ) (s : HeldSilence) → i < length silences → s ≡ get_or silences i s →
-    (m : MatcherText) → Contains s.held.now.value.matchers.items m → Contains (matchers_in (map held_silence silences)) m
+    (m : MatcherText) → Contains s.held.now.value.matchers m → Contains (matchers_in (map held_silence silences)) m
 among_all [] i s within is m there = absurd (omega arith)
 among_all (x ∷ silences) zero s within is m there =
-    Contains-append_left x.held.now.value.matchers.items (matchers_in (map held_silence silences)) m (rw is at there)
+    Contains-append_left x.held.now.value.matchers (matchers_in (map held_silence silences)) m (rw is at there)
 among_all (x ∷ silences) (suc i) s within is m there =
-    Contains-append_right x.held.now.value.matchers.items (matchers_in (map held_silence silences)) m (among_all silences i s (omega arith) is m there)
+    Contains-append_right x.held.now.value.matchers (matchers_in (map held_silence silences)) m (among_all silences i s (omega arith) is m there)
 
 -- a failure among some matchers is one among more
 pub failure_among_more : (all ms : List MatcherText) (start old new : Cache) (failure : Failure PatternRefusal) →

@@ -5,7 +5,7 @@ use Rattle.am_labels.specs.declared.Label.{Label}
 use Rattle.am_match.specs.Matchers.{MatcherText}
 use Rattle.am_match.specs.Meaning.{all_take}
 use Rattle.am_item.specs.Best.{item_at}
-use Rattle.am_item.specs.Key.{SilenceKey}
+use Rattle.am_item.specs.declared.key.ThingKey.TheVariants.{Silence as SilenceKey}
 use Rattle.am_item.specs.declared.item.Item.{Item}
 use Rattle.am_item.specs.declared.item.Thing.{Thing}
 use Rattle.am_item.specs.declared.item.Thing.TheVariants as thing

@@ -6,7 +6,7 @@ use Rattle.am_item.specs.declared.silence.SilenceDetails.{SilenceDetails}
 use Rattle.am_silence.specs.declared.state.SilenceState.{SilenceState}
 use Rattle.am_silence.specs.declared.state.SilenceState.TheVariants.{Pending, Active, Expired}
 
--- what a silence is beside its identifier, with the list of its matchers
+-- what a silence is beside its identifier
 pub record Details : Type 0 where
   pub starts_at : ℕ
   pub ends_at : ℕ
@@ -15,7 +15,7 @@ pub record Details : Type 0 where
   pub comment : List ℕ
   pub matchers : List MatcherText
 
--- the same of what is held, and of a silence, without where the matchers lie in memory
+-- the same of what is held, and of a silence
 abbrev pub details_of : SilenceDetails → Details
 details_of s = record {
   starts_at = s.starts_at;
@@ -23,7 +23,7 @@ details_of s = record {
   kept_until = s.kept_until;
   created_by = s.created_by;
   comment = s.comment;
-  matchers = s.matchers.items;
+  matchers = s.matchers;
 }
 
 abbrev pub details_in : Silence → Details
@@ -33,7 +33,7 @@ details_in s = record {
   kept_until = s.kept_until;
   created_by = s.created_by;
   comment = s.comment;
-  matchers = s.matchers.items;
+  matchers = s.matchers;
 }
 
 -- before its start a silence is pending, from its start until before its end active, from its end on expired

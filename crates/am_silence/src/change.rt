@@ -9,7 +9,7 @@ ghost use Rattle.am_silence.specs.Silences.{details_in, details_of, state_of};
 use crate::held::{HeldSilence, state_of};
 use crate::posted::PostedSilence;
 use crate::state::SilenceState;
-use am_item::{Silence, SilenceDetails, SilenceId};
+use am_item::{Matchers, Silence, SilenceDetails, SilenceId};
 use am_match::Matcher;
 use am_text::Moment;
 use std::alloc::{AllocError, Global};
@@ -97,7 +97,7 @@ fn change_of(
 fn is_in_place(old: &SilenceDetails, posted: &PostedSilence, moment: Moment) -> bool
     ensures { result ≡ is_in_place moment (details_of old.now) (posted_of posted.now) }
 {
-    same_matchers(&old.matchers, &posted.matchers)
+    same_matchers(old.matchers.as_slice(), &posted.matchers)
         && may_stay(
             state_of(old, moment),
             moment,
@@ -138,7 +138,7 @@ fn in_place(old: &HeldSilence<'_>, posted: PostedSilence, moment: Moment) -> Cha
             kept_until: posted.ends_at.max(stamped).max(old.held.value.kept_until),
             created_by: posted.created_by,
             comment: posted.comment,
-            matchers: posted.matchers,
+            matchers: Matchers::from_vec(posted.matchers),
         },
     }
 }
@@ -157,7 +157,7 @@ fn anew(expired: Option<SilenceWrite>, posted: PostedSilence, moment: Moment) ->
             kept_until: posted.ends_at.max(moment),
             created_by: posted.created_by,
             comment: posted.comment,
-            matchers: posted.matchers,
+            matchers: Matchers::from_vec(posted.matchers),
         },
     }
 }
@@ -195,7 +195,7 @@ fn expiry(alloc: Global, old: &HeldSilence<'_>, moment: Moment) -> Result<Silenc
             kept_until: moment.max(stamped).max(silence.kept_until),
             created_by: silence.created_by.copy(alloc)?,
             comment: silence.comment.copy(alloc)?,
-            matchers: copy_matchers(alloc, &silence.matchers)?,
+            matchers: Matchers::from_vec(copy_matchers(alloc, silence.matchers.as_slice())?),
         },
     })
 }

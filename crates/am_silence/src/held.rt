@@ -71,7 +71,7 @@ pub(crate) fn having<'a>(
 {
     let mut found = Vec::new(alloc);
     for (id, held) in silences {
-        if has_matchers(&held.value.matchers, wanted) {
+        if has_matchers(held.value.matchers.as_slice(), wanted) {
             found.push(HeldSilence { id, held })?;
         }
     }

@@ -40,7 +40,7 @@ fn wanted(alloc: Global, silences: &[HeldSilence<'_>]) -> Result<Places, AllocEr
 {
     let mut places = BTreeMap::new(alloc);
     for silence in silences {
-        want(alloc, &silence.held.value.matchers, &mut places)?;
+        want(alloc, silence.held.value.matchers.as_slice(), &mut places)?;
     }
     Ok(places)
 }

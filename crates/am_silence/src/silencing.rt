@@ -36,7 +36,13 @@ pub(crate) fn silencing(
     let places = places_of(alloc, silences, sets)?;
     let mut found = empty_lists(alloc, sets)?;
     for silence in silences {
-        let taken = taken_places(alloc, &silence.held.value.matchers, &places, sets, cache)?;
+        let taken = taken_places(
+            alloc,
+            silence.held.value.matchers.as_slice(),
+            &places,
+            sets,
+            cache,
+        )?;
         push_at(&mut found, &taken, *silence.id)?;
     }
     Ok(found)

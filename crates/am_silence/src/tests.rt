@@ -5,7 +5,7 @@ mod changing;
 mod posting;
 mod silencing;
 
-use am_item::{Held, Item, Silence, SilenceId, Stamp, Thing};
+use am_item::{Held, Item, Matchers, Silence, SilenceId, Stamp, Thing};
 use am_match::{Matcher, Operator};
 use am_pattern::PatternCache;
 use am_text::{Moment, Text};
@@ -59,7 +59,7 @@ fn silence(
         kept_until: minute(until)?,
         created_by: Text::read(alloc, "me")?,
         comment: Text::read(alloc, "why")?,
-        matchers,
+        matchers: Matchers::from_vec(matchers),
     })
 }
 

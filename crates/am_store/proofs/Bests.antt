@@ -5,7 +5,9 @@ use Rattle.std.specs.List.Sorted.{IsStrictlySortedBy}
 use Rattle.std.specs.Ordering.{is_eq}
 use Rattle.std.proofs.lemmas.Bool.{cases_Bool, cond-false, cond-true, false≢true}
 use Rattle.am_item.specs.Best.{IsRising, all_joined, best, item_at, joined}
-use Rattle.am_item.specs.Key.{ConfigurationKey, SilenceKey, Key, AlertKey, SentEntryKey, exceeds, has_key, key_cmp, key_of}
+use Rattle.am_item.specs.Key.{exceeds, has_key, key_cmp, key_of}
+use Rattle.am_item.specs.declared.key.ThingKey.{ThingKey as Key}
+use Rattle.am_item.specs.declared.key.ThingKey.TheVariants.{Configuration as ConfigurationKey, Silence as SilenceKey, Alert as AlertKey, SentEntry as SentEntryKey}
 use Rattle.am_item.specs.Key as item
 use Rattle.am_item.specs.Newest.{newest}
 use Rattle.am_item.specs.declared.item.Item.{Item}

@@ -11,7 +11,9 @@ use Rattle.sqlite.specs.Effect.{Database}
 use Rattle.uuid.specs.Text.{parsed}
 use Rattle.am_tenant.specs.Names.{same}
 use Rattle.am_tenant.proofs.Same.{eq_from_same}
-use Rattle.am_item.specs.Key.{Key, SilenceKey, key_cmp}
+use Rattle.am_item.specs.Key.{key_cmp}
+use Rattle.am_item.specs.declared.key.ThingKey.{ThingKey as Key}
+use Rattle.am_item.specs.declared.key.ThingKey.TheVariants.{Silence as SilenceKey}
 use Rattle.am_item.proofs.Keys.{key_itself, key_same}
 use Rattle.am_share.specs.Pairs.{Drops, things_of}
 use Rattle.am_store.specs.Apart.{AreApart}

@@ -12,7 +12,8 @@ use Rattle.sqlite_trees.proofs.ListLemmas.{filter-map}
 use Rattle.am_tenant.specs.Names.{same}
 use Rattle.am_tenant.proofs.Same.{eq_from_same}
 use Rattle.am_item.specs.declared.stamp.Stamp.{Stamp}
-use Rattle.am_item.specs.Key.{Key, key_cmp}
+use Rattle.am_item.specs.Key.{key_cmp}
+use Rattle.am_item.specs.declared.key.ThingKey.{ThingKey as Key}
 use Rattle.am_item.specs.Newest.{newest}
 use Rattle.am_item.specs.Stamp.{stamp_cmp}
 use Rattle.am_item.proofs.Keys.{key_same}

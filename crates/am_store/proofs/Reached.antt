@@ -11,7 +11,8 @@ use Rattle.sqlite.specs.Term.{eval_all}
 use Rattle.sqlite.specs.Effect.{Database}
 use Rattle.uuid.specs.Text.{parsed}
 use Rattle.am_item.specs.declared.stamp.Stamp.{Stamp}
-use Rattle.am_item.specs.Key.{ConfigurationKey, Key, SilenceKey}
+use Rattle.am_item.specs.declared.key.ThingKey.{ThingKey as Key}
+use Rattle.am_item.specs.declared.key.ThingKey.TheVariants.{Configuration as ConfigurationKey, Silence as SilenceKey}
 use Rattle.am_share.specs.Pairs.{things_of}
 use Rattle.am_store.specs.Reading.{reached}
 use Rattle.am_store.specs.Rows.{IsConfig, IsSilenceRow, IsStore, config_in, id_text, pairs_in, silence_in}

@@ -17,7 +17,8 @@ use Rattle.am_match.specs.Spelling.{spelling}
 use Rattle.am_match.specs.Taking.{taken}
 use Rattle.am_match.proofs.RoundTrip.{taken_back}
 use Rattle.am_item.specs.declared.stamp.Stamp.{Stamp}
-use Rattle.am_item.specs.Key.{ConfigurationKey, SilenceKey, key_cmp}
+use Rattle.am_item.specs.Key.{key_cmp}
+use Rattle.am_item.specs.declared.key.ThingKey.TheVariants.{Configuration as ConfigurationKey, Silence as SilenceKey}
 use Rattle.am_store.specs.Apart.{HasId}
 use Rattle.am_store.specs.Rows.{IsConfig, IsSilence, IsSilenceRow, body_in, body_value, config_fields, config_in, id_text, matchers_in, silence_fields, silence_in}
 use Rattle.am_store.specs.Stored.{ConfigurationText, SilenceText, SilenceWords, Stored, stamped}

@@ -11,7 +11,7 @@ use Rattle.sqlite.specs.Effect.{Database}
 use Rattle.am_tenant.specs.Names.{is_tenant_name, same}
 use Rattle.am_tenant.proofs.Same.{same-refl}
 use Rattle.am_item.specs.declared.stamp.Stamp.{Stamp}
-use Rattle.am_item.specs.Key.{ConfigurationKey, SilenceKey}
+use Rattle.am_item.specs.declared.key.ThingKey.TheVariants.{Configuration as ConfigurationKey, Silence as SilenceKey}
 use Rattle.am_item.proofs.Keys.{key_itself}
 use Rattle.am_share.specs.Pairs.{things_of}
 use Rattle.am_store.specs.Apart.{AreApart}

@@ -1,7 +1,7 @@
 -- What a store has of a tenant, beside a list of the tenant's items.
 use Rattle.std.specs.Prelude.{◌≡◌, ℕ, List, option_and_then}
 use Rattle.am_item.specs.Best.{item_at}
-use Rattle.am_item.specs.Key.{Key}
+use Rattle.am_item.specs.declared.key.ThingKey.{ThingKey as Key}
 use Rattle.am_item.specs.declared.item.Item.{Item}
 use Rattle.am_store.specs.Stored.{Stored, stored_at, stored_item}
 

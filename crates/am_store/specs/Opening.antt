@@ -52,7 +52,7 @@ Opens old new = (IsStore old.now × IsSame old new × IsTrue new.is_open) ⊎ Co
 
 -- what a crash within the opening may leave, beside what was there before it
 abbrev pub LeavesNew : State → Trees → Type 0
-LeavesNew old trees = old.now.schema ≡ no_schema → (db : Database) × Founds old.now db × (trees ≡ db.trees)
+LeavesNew old trees = (db : Database) × Founds old.now db × (trees ≡ db.trees)
 
 -- the database has tables, and is no store
 pub record IsForeign (db : Database) : Type 0 where

@@ -83,7 +83,7 @@ pub record IsNumbered (s : Stamp) : Type 0 where
 -- an item that may be stored, as far as its type leaves that open: the matchers of a silence can be written as bytes
 abbrev pub IsFitThing : Thing → Type 0
 IsFitThing (thing.Configuration text) = ⊤
-IsFitThing (thing.Silence silence) = IsSpellable silence.matchers.items
+IsFitThing (thing.Silence silence) = IsSpellable silence.matchers
 IsFitThing (thing.Alert alert) = ⊤
 IsFitThing (thing.SentEntry entry) = ⊤
 

@@ -8,7 +8,8 @@ use Rattle.sqlite.specs.Edit.{is_taken}
 use Rattle.sqlite.specs.Tree.{Trees, put_row}
 use Rattle.sqlite.specs.Effect.{Database}
 use Rattle.sqlite.specs.State.{State}
-use Rattle.am_item.specs.Key.{Key, key_cmp}
+use Rattle.am_item.specs.Key.{key_cmp}
+use Rattle.am_item.specs.declared.key.ThingKey.{ThingKey as Key}
 use Rattle.am_share.specs.Pairs.{Drops, LeavesOthers}
 use Rattle.am_store.specs.Rows.{IsStore, pairs_in}
 use Rattle.am_store.specs.Stored.{Puts, Stored, stored_at}

@@ -9,7 +9,9 @@ use Rattle.am_item.specs.declared.item.Thing.TheVariants as thing
 use Rattle.am_item.specs.declared.silence.Silence.{Silence}
 use Rattle.am_item.specs.declared.stamp.Stamp.{Stamp}
 use Rattle.am_item.specs.declared.stamp.Stamped.{Stamped}
-use Rattle.am_item.specs.Key.{Key, ConfigurationKey, SilenceKey, key_cmp}
+use Rattle.am_item.specs.Key.{key_cmp}
+use Rattle.am_item.specs.declared.key.ThingKey.{ThingKey as Key}
+use Rattle.am_item.specs.declared.key.ThingKey.TheVariants.{Configuration as ConfigurationKey, Silence as SilenceKey}
 use Rattle.am_item.specs.Newest.{newest}
 use Rattle.am_share.specs.Pairs.{things_of}
 
@@ -48,7 +50,7 @@ silence_text s = record {
   kept_until = s.kept_until;
   created_by = s.created_by;
   comment = s.comment;
-  matchers = s.matchers.items;
+  matchers = s.matchers;
 }
 
 abbrev pub stamped : Stamp → Content → Stored

@@ -123,8 +123,9 @@ fn make_tables<S: Alter>(tx: &mut Transaction<'_, S>) -> Result<(), Error>
 
 // Makes a store of a blank database, and commits it.
 fn found<S: Alter>(conn: &mut Connection<S>) -> Result<(), Error>
-    requires { conn.old.in_transaction ≡ false }
-    ensures ok { HasCleanDisk (state S.Store conn.new) → (state S.Store conn.old).now.schema ≡ no_schema
+    requires idle { conn.old.in_transaction ≡ false }
+    requires blank { (state S.Store conn.old).now.schema ≡ no_schema }
+    ensures ok { HasCleanDisk (state S.Store conn.new)
         → OnOk result (Commits Founds (state S.Store conn.old) (state S.Store conn.new)) }
     ensures err { HasCleanDisk (state S.Store conn.new) → IsTrue (state S.Store conn.new).is_open
         → OnErr result (IsSame (state S.Store conn.old) (state S.Store conn.new)) }

@@ -12,7 +12,7 @@ ghost use Rattle.am_store.specs.Rows.{body_value, id_text};
 use crate::refusal::StoreRefusal;
 use crate::silence::text_of;
 use crate::stamps::{moment_of, stamp_of};
-use am_item::{Item, Silence, SilenceId, Thing};
+use am_item::{Item, Matchers, Silence, SilenceId, Thing};
 use am_match::{Matcher, take_matchers};
 use am_tenant::TenantName;
 use am_text::{Failure, Text};
@@ -160,7 +160,7 @@ pub(crate) fn read_silence(
         kept_until: or_foreign(moment_of(row, 5))?,
         created_by: text_in(alloc, row, 6)?,
         comment: text_in(alloc, row, 7)?,
-        matchers: matchers_in(alloc, row)?,
+        matchers: Matchers::from_vec(matchers_in(alloc, row)?),
     };
     Ok((
         tenant,

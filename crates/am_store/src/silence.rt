@@ -72,7 +72,7 @@ fn columns<'a>(
     requires stamp { IsNumbered stamp.now }
     requires id { id.now ≡ id_text silence.now.id }
     requires back { parsed (id_text silence.now.id) ≡ Some silence.now.id }
-    requires matchers { Spells matchers.now silence.now.matchers.items }
+    requires matchers { Spells matchers.now silence.now.matchers }
     ensures stamp { IsStamp stamp.now }
     ensures valid { IsSilence (silence_text silence.now) }
     ensures bound { bound result ≡ silence_fields tenant.now stamp.now (silence_text silence.now) }
@@ -176,7 +176,7 @@ fn put_in<S: Alter>(
     requires stamp { IsNumbered stamp.now }
     requires id { id.now ≡ id_text silence.now.id }
     requires back { parsed (id_text silence.now.id) ≡ Some silence.now.id }
-    requires matchers { Spells matchers.now silence.now.matchers.items }
+    requires matchers { Spells matchers.now silence.now.matchers }
     ensures stamp { IsStamp stamp.now }
     ensures valid { IsSilence (silence_text silence.now) }
     ensures name { IsTrue (is_tenant_name tenant.now) }
@@ -208,7 +208,7 @@ pub(crate) fn put<S: Alter>(
     silence: &Silence,
 ) -> Result<(), Error>
     requires stamp { IsNumbered stamp.now }
-    requires matchers { IsSpellable silence.now.matchers.items }
+    requires matchers { IsSpellable silence.now.matchers }
     ensures same_reference { tx.new.conn.ghost_name ≡ tx.old.conn.ghost_name }
     ensures ok { HasCleanDisk (state S.Store tx.new.conn.now) → IsStore (state S.Store tx.old.conn.now).now
         → OnOk result (Stores tenant.now (stamped stamp.now (SilenceWords (silence_text silence.now)) ∷ [])
@@ -220,7 +220,7 @@ pub(crate) fn put<S: Alter>(
         → IsTrue (state S.Store tx.new.conn.now).in_transaction) }
     ensures survives { Survives (state S.Store tx.old.conn.now) (state S.Store tx.new.conn.now) (λ _. ⊥) }
 {
-    let matchers = spelled(alloc, &silence.matchers)?;
+    let matchers = spelled(alloc, silence.matchers.as_slice())?;
     let mut buffer = Uuid::encode_buffer();
     let id = text_of(&silence.id, &mut buffer);
     let rows = stamps(tx, tenant, id)?;

@@ -58,7 +58,7 @@ silence_value s = record {
   kept_until = s.kept_until;
   created_by = s.created_by;
   comment = s.comment;
-  matchers = s.matchers.items;
+  matchers = s.matchers;
 }
 
 abbrev pub thing_value : Thing → ThingValue

@@ -13,7 +13,7 @@ ghost use Rattle.am_wire.specs.Values.{item_value, item_values, silence_value, t
 use crate::kinds::ThingKind;
 use crate::reader::Reader;
 use crate::refusal::WireRefusal;
-use am_item::{Alert, Item, SentEntry, Silence, SilenceId, Stamp, Thing};
+use am_item::{Alert, Item, Matchers, SentEntry, Silence, SilenceId, Stamp, Thing};
 use am_labels::is_label_name;
 use am_match::{Matcher, Operator};
 use am_text::{Failure, Text};
@@ -145,7 +145,7 @@ impl<'a> Reader<'a> {
         let kept_until = self.moment()?;
         let created_by = self.text(alloc)?;
         let comment = self.text(alloc)?;
-        let matchers = self.matchers(alloc)?;
+        let matchers = Matchers::from_vec(self.matchers(alloc)?);
         Ok(Silence {
             id,
             starts_at,

@@ -105,7 +105,7 @@ fn push_silence(out: &mut Vec<u8>, silence: &Silence) -> Result<(), Failure<Enco
     push_moment(out, silence.kept_until)?;
     push_text(out, &silence.created_by)?;
     push_text(out, &silence.comment)?;
-    push_matchers(out, &silence.matchers)?;
+    push_matchers(out, silence.matchers.as_slice())?;
     Ok(())
 }
 

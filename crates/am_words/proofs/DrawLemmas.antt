@@ -4,7 +4,7 @@ use Rattle.std.specs.Option.{option_map, is_some}
 use Rattle.rand_core.specs.Steps.{fill_via_u32, word_bytes}
 use Rattle.rand_chacha.specs.ChaCha.{ChaCha, next_word, word_at}
 use Rattle.am_item.specs.Best.{item_at}
-use Rattle.am_item.specs.Key.{SilenceKey}
+use Rattle.am_item.specs.declared.key.ThingKey.TheVariants.{Silence as SilenceKey}
 use Rattle.am_item.specs.declared.item.Item.{Item}
 use Rattle.am_words.specs.Draws.{bytes_at, bytes_from, draws, first_unheld, id_from, is_held}
 use Rattle.am_words.specs.Words.{words_in, place_after}

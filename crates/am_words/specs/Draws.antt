@@ -6,7 +6,7 @@ use Rattle.uuid.specs.Parts.{with_variant, with_version}
 use Rattle.uuid.specs.declared.Variant.TheVariants.{RFC4122}
 use Rattle.uuid.specs.declared.Version.TheVariants.{Random}
 use Rattle.am_item.specs.Best.{item_at}
-use Rattle.am_item.specs.Key.{SilenceKey}
+use Rattle.am_item.specs.declared.key.ThingKey.TheVariants.{Silence as SilenceKey}
 use Rattle.am_item.specs.declared.item.Item.{Item}
 use Rattle.am_words.specs.Words.{place_after}
 

@@ -145,7 +145,7 @@ fn draw(words: &mut ChaCha20Rng) -> SilenceId
 mod tests {
     use super::*;
     use crate::id::{ID_LENGTH, print_id};
-    use am_item::{Item, Silence, Stamp, Thing};
+    use am_item::{Item, Matchers, Silence, Stamp, Thing};
     use am_text::{Moment, Text};
     use std::alloc::Global;
     use std::test::Fail;
@@ -177,7 +177,7 @@ mod tests {
             kept_until: moment,
             created_by: Text::read(alloc, "")?,
             comment: Text::read(alloc, "")?,
-            matchers: Vec::new(alloc),
+            matchers: Matchers::from_vec(Vec::new(alloc)),
         });
         held.put(Item { stamp, thing })?;
         Ok(())

@@ -1,7 +1,6 @@
 -- what was decided on a request, as the instance sees it
-use Rattle.std.proofs.Common.{◌≡◌, ◌⊎◌, inl, inr, ◌∙◌, ℕ, ◌+◌, ◌<◌, ◌≤◌, Bool, true, List, [], ◌∷◌, ◌++◌, length, Result, Ok, Err, IfOk, IfErr, refl, sym, ap, arith}
+use Rattle.std.proofs.Common.{◌≡◌, inl, inr, ◌∙◌, ℕ, ◌+◌, ◌<◌, ◌≤◌, true, List, [], ◌∷◌, ◌++◌, length, Result, Ok, Err, IfOk, IfErr, refl, sym, ap, arith}
 use Rattle.am_alert.specs.Made.{counts_fit, greatest_count}
-use Rattle.am_alert.specs.declared.maker.Maker.{Maker}
 use Rattle.am_api.specs.Deciding.{DecidesUnless, IsUnbuilt, decision_of}
 use Rattle.am_api.specs.Decision.{Decision, decided}
 use Rattle.am_api.specs.Patterns.{patterns_of_request, patterns_of_routes}

@@ -1,5 +1,5 @@
 -- an event whose one instance stopped
-use Rattle.std.proofs.Common.{◌≡◌, ◌∙◌, inl, inr, ℕ, ◌+◌, ◌-◌, ◌^◌, ◌<◌, ◌≤◌, ◌==◌, nat_eq, suc, Bool, true, false, List, [], ◌∷◌, Option, None, Some, IsSome, refl, sym, ap, arith, length, filter, min, max}
+use Rattle.std.proofs.Common.{◌≡◌, ◌∙◌, inl, inr, ℕ, ◌+◌, ◌-◌, ◌^◌, ◌<◌, ◌≤◌, ◌==◌, nat_eq, suc, true, false, List, [], ◌∷◌, Option, None, Some, IsSome, refl, sym, ap, arith, length, filter, min}
 use Rattle.std.proofs.lemmas.List.{append-nil}
 use Rattle.std.proofs.lemmas.Bool.{cases_Bool}
 use Rattle.std.proofs.lemmas.Bool.Decides.{nat_tests}

@@ -1,5 +1,5 @@
 -- the instance of a number, by its place
-use Rattle.std.proofs.Common.{◌≡◌, ◌≢◌, ◌∙◌, inl, inr, ℕ, ◌+◌, ◌==◌, ◌<◌, zero, suc, nat_eq, Bool, true, false, List, [], ◌∷◌, ◌++◌, ◌&&◌, nat_le, length, map, slice_set, find, Option, Some, None, ◌≤◌, IsSome, is_some, OnOk, Result, Ok, Err, slice_get, slice_index_or, refl, sym, ap, arith, if◌then◌else◌}
+use Rattle.std.proofs.Common.{◌≡◌, ◌∙◌, inl, inr, ℕ, ◌+◌, ◌==◌, ◌<◌, zero, suc, nat_eq, Bool, true, false, List, [], ◌∷◌, ◌++◌, ◌&&◌, nat_le, length, map, slice_set, find, Option, Some, None, ◌≤◌, IsSome, is_some, OnOk, Result, Ok, Err, slice_get, slice_index_or, refl, sym, ap, arith, if◌then◌else◌}
 use Rattle.std.proofs.lemmas.Bool.{cases_Bool}
 use Rattle.std.proofs.lemmas.Bool.Decides.{nat_tests}
 use Rattle.std.proofs.lemmas.List.{length-map}
@@ -12,7 +12,7 @@ use Rattle.am_limit.specs.declared.limits.Limits.{Limits}
 use Rattle.am_world.specs.declared.event.Output.{Output}
 use Rattle.am_world.specs.Places.{AreNumbered, HasMore, IsDownAt, IsReadOnce, KeepRefused, SameElsewhere, bytes_at, bytes_where, here_in, here_of, incarnation_at, incarnation_where, instance_at, local_at, local_in, local_where, numbers, reads, refused_at, refused_where, roster_of, up_at, up_where}
 use Rattle.am_http.specs.Verdict.{verdict}
-use Rattle.am_world.specs.Reaction.{Brought, Here, MayDecide, blank, brought, decision_at}
+use Rattle.am_world.specs.Reaction.{Brought, Here, MayDecide, blank, brought, decision_at, retired_if}
 use Rattle.am_world.specs.Roster.{IsSameRoster}
 use Rattle.am_world.specs.Setup.{is_instance}
 use Rattle.am_world.specs.Taking.{Brings, Takes, taken_at}
@@ -316,6 +316,31 @@ pub local_kept : (i : ℕ) (xs ys : List Instance) (x y : Instance) → instance
     ((t : List ℕ) → local_in t y ≡ local_in t x) → (t : List ℕ) (j : ℕ) → local_at t j ys ≡ local_at t j xs
 unfolding local_at
 local_kept i xs ys x y here change same t = same_all (local_where t) i xs ys x y here change (same t)
+
+-- what is retired goes at one place, where that instance is up, and all else stays
+pub local_retired : (i moment : ℕ) (xs ys : List Instance) (x y : Instance) → instance_at i xs ≡ Some x → Changed i xs ys y →
+    ((t : List ℕ) → local_in t y ≡ retired_if x.up moment (local_in t x)) → (t : List ℕ) (j : ℕ) →
+    local_at t j ys ≡ (if j == i then retired_if (up_at j xs) moment (local_at t j xs) else local_at t j xs)
+unfolding local_at up_at
+local_retired i moment xs ys x y here change own t j = at_all (local_where t) i j xs ys y change ∙ elim (cases_Bool (nat_eq j i)) [
+  | inl h ↦
+      let number : j ≡ i = grind (arith, nat_tests) in
+      let there : instance_at j xs ≡ Some x = ap (λ k. instance_at k xs) number ∙ here in
+      rw (h, there) (own t)
+  | inr h ↦ rw h refl
+]
+
+pub bytes_kept : (i : ℕ) (xs ys : List Instance) (x y : Instance) → instance_at i xs ≡ Some x → Changed i xs ys y →
+    y.front ≡ x.front → (c j : ℕ) → bytes_at c j ys ≡ bytes_at c j xs
+unfolding bytes_at
+bytes_kept i xs ys x y here change same c = same_all (bytes_where c) i xs ys x y here change (ap (bytes_of c) same)
+
+-- an instance that doesn't exist isn't up
+pub not_up : (i : ℕ) (xs : List Instance) → AreNumbered xs → is_instance i ≡ false → up_at i xs ≡ false
+not_up i xs e none = elim (cases_Bool (up_at i xs)) [
+  | inl up ↦ let never = sym none ∙ up_exists i xs e up in absurd cc
+  | inr down ↦ down
+]
 
 -- one connection is another's at one place, and all others are as they were
 pub reading_put : (i c : ℕ) (o : Option (List ℕ)) (xs ys : List Instance) (x y : Instance) → instance_at i xs ≡ Some x → Changed i xs ys y →

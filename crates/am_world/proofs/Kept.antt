@@ -1,10 +1,10 @@
 -- each kind of event but bytes keeps the simulation
-use Rattle.std.proofs.Common.{◌≡◌, ◌∙◌, inl, inr, ℕ, ◌||◌, ◌==◌, nat_eq, nat_lt, Bool, true, false, List, [], ◌∷◌, ◌++◌, Option, None, Some, IsSome, is_some, map, ◌&&◌, refl, sym, ap, arith, max, ◌≤◌, if◌then◌else◌}
+use Rattle.std.proofs.Common.{◌≡◌, ◌∙◌, inl, inr, ℕ, ◌||◌, ◌==◌, nat_eq, nat_lt, Bool, true, false, List, [], ◌∷◌, ◌++◌, Option, None, Some, IsSome, is_some, map, filter, not, ◌&&◌, refl, sym, ap, arith, max, ◌≤◌, if◌then◌else◌}
 use Rattle.std.proofs.lemmas.List.{append-nil}
 use Rattle.std.proofs.lemmas.Bool.{cases_Bool}
 use Rattle.std.proofs.lemmas.Bool.Decides.{nat_tests}
 use Rattle.am_world.specs.declared.event.Event.{Event}
-use Rattle.am_world.specs.declared.event.Event.TheVariants.{Open, Bytes, Close, Limits, Tick}
+use Rattle.am_world.specs.declared.event.Event.TheVariants.{Open, Bytes, Limits, Tick}
 use Rattle.am_world.specs.declared.event.Refused.{Refused}
 use Rattle.am_world.specs.declared.event.Refused.TheVariants.{MomentRefused}
 use Rattle.am_world.specs.declared.instance.Instance.{Instance}
@@ -12,16 +12,23 @@ use Rattle.am_world.specs.declared.world.World.{World}
 use Rattle.am_world.specs.Moments.{clock_after, last_moment}
 use Rattle.am_world.specs.Outputs.{front_told}
 use Rattle.am_world.specs.Places.{IsReadOnce, SameElsewhere, bytes_at, incarnation_at, local_at, refused_at, roster_of, up_at}
-use Rattle.am_world.specs.PrivateCluster.{Course, Limited, PrivateCluster, Ticked, after_all, course, fits_all, local_of, told_all, unchanged}
-use Rattle.am_world.specs.Reaction.{output_of}
+use Rattle.am_item.specs.declared.item.Item.{Item}
+use Rattle.am_item.specs.Best.{best}
+use Rattle.am_item.specs.Key.{key_of}
+use Rattle.am_item.specs.Retirement.{is_retired}
+use Rattle.am_world.specs.PrivateCluster.{Accepted, Course, Limited, PrivateCluster, PrivateInstance, Ticked, after_all, course, fits_all, items_in, local_of, retired, ticked, told_all, unchanged}
+use Rattle.am_world.specs.Reaction.{Local, output_of, retired_if, retired_local}
 use Rattle.am_world.specs.Roster.{IsSameRoster, Roster, roster_after}
 use Rattle.am_limit.specs.Books.{limits_of}
 use Rattle.am_limit.specs.declared.limits.Limits as limit
 use Rattle.am_tenant.specs.Names.{same}
-use Rattle.am_world.specs.Simulation.{Follows, IsAsAlone, Kept, Premises, Stands, bytes_read, fault_count, limits_after, put_out}
+use Rattle.am_world.specs.Simulation.{Follows, Kept, Premises, Stands, bytes_read, fault_count, limits_after, put_out}
 use Rattle.am_world.specs.View.{Reading, Seen, AskedAs, FrontAnswered, Shut, Watch, adds, look, watch}
 use Rattle.am_world.proofs.Built.{keep_equal, keep_same}
+use Rattle.am_book.proofs.Sifting.{best-dropped}
+use Rattle.am_book.specs.Retired.{is_key_retired}
 use Rattle.am_world.proofs.Faults.{incarnations_stay}
+use Rattle.am_world.proofs.Retiring.{Retires}
 
 pub same_again : (r : Roster) → IsSameRoster r r
 same_again r = record { up = λ i. refl; incarnation = λ i. refl }
@@ -136,12 +143,12 @@ kept_late_bytes w c m piece late = kept_nothing w (Bytes c m piece) (λ v f. rw 
 
 -- what a tick is to a private cluster
 tick_course : (b : Bool) (p : PrivateCluster) (m : ℕ) → (nat_lt last_moment m || nat_lt m p.clock) ≡ b →
-    course p (Ticked m) ≡ (if b then unchanged p else unchanged (record p { clock = m }))
+    course p (Ticked m) ≡ (if b then unchanged p else unchanged (ticked m p))
 unfolding course
 tick_course true p m e =
-    ap (λ b. if is_some (let o : Option Refused = if b then Some MomentRefused else None in o) then unchanged p else unchanged (record p { clock = m })) e
+    ap (λ b. if is_some (let o : Option Refused = if b then Some MomentRefused else None in o) then unchanged p else unchanged (ticked m p)) e
 tick_course false p m e =
-    ap (λ b. if is_some (let o : Option Refused = if b then Some MomentRefused else None in o) then unchanged p else unchanged (record p { clock = m })) e
+    ap (λ b. if is_some (let o : Option Refused = if b then Some MomentRefused else None in o) then unchanged p else unchanged (ticked m p)) e
 
 -- a tick that is refused changes no private cluster either
 pub kept_refused_tick : (w : World) (m : ℕ) → (nat_lt last_moment m || nat_lt m w.clock) ≡ true → Kept w (Tick m) w
@@ -156,33 +163,56 @@ kept_refused_tick w m refused = kept_nothing w (Tick m) (λ v f. refl)
 pub max_later : (m clock : ℕ) → clock ≤ m → max m clock ≡ m
 max_later m clock h = omega arith
 
-pub kept_tick : (w w' : World) (m : ℕ) → (nat_lt last_moment m || nat_lt m w.clock) ≡ false → w'.clock ≡ m → w'.instances ≡ w.instances →
-    w'.limits ≡ w.limits → put_out w' ≡ put_out w → fault_count w' ≡ fault_count w → Kept w (Tick m) w'
+-- the items of what was accepted, where it passes a test by its item
+items-filter : (p : Item → Bool) (accepted : List Accepted) → items_in (filter (λ (a : Accepted). p a.item) accepted) ≡ filter p (items_in accepted)
+items-filter p [] = refl
+items-filter p (a ∷ accepted) = elim (cases_Bool (p a.item)) [
+  | inl h ↦ rw h (ap (λ items. a.item ∷ items) (items-filter p accepted))
+  | inr h ↦ rw h (items-filter p accepted)
+]
+
+-- what is retired is gone of what the private instance holds
+local_of-retired : (m : ℕ) (own : PrivateInstance) → local_of (retired m own) ≡ retired_local m (local_of own)
+unfolding retired_local
+local_of-retired m own =
+    let items = items_in own.accepted in
+    ap (λ held. (let l : Local = record { held = held; ledger = own.ledger } in l))
+    (ap best (items-filter (λ item. not (is_key_retired m (best items) (key_of item))) own.accepted) ∙ sym (best-dropped (is_retired m) items))
+
+local_ticked : (up : Bool) (m : ℕ) (own : PrivateInstance) → local_of (if up then retired m own else own) ≡ retired_if up m (local_of own)
+local_ticked true m own = local_of-retired m own
+local_ticked false m own = refl
+
+stands_ticked : (t : List ℕ) (w w' : World) (p : PrivateCluster) (m : ℕ) → w'.clock ≡ m → w'.limits ≡ w.limits →
+    Retires m w.instances w'.instances → Stands t w p → Stands t w' (ticked m p)
+stands_ticked t w w' p m clock limits retires s = record {
+  tenant = s.tenant;
+  clock = clock;
+  limits = ap (limits_of t) limits ∙ s.limits;
+  roster = roster_then _ _ _ retires.roster s.roster;
+  local = λ i. retires.local t i ∙ rw (s.roster.up i, s.local i) (sym (local_ticked (p.roster.up i) m (p.at i)));
+}
+
+pub kept_tick : (w w' : World) (m : ℕ) → (nat_lt last_moment m || nat_lt m w.clock) ≡ false → w'.clock ≡ m →
+    Retires m w.instances w'.instances → w'.limits ≡ w.limits → put_out w' ≡ put_out w → fault_count w' ≡ fault_count w → Kept w (Tick m) w'
 unfolding watch adds front_told
-kept_tick w w' m allowed clock instances limits outputs faults = record {
-  follows = λ v f. record { reading = rw instances f.reading; roster = rw instances f.roster };
+kept_tick w w' m allowed clock retires limits outputs faults = record {
+  follows = λ v f. record { reading = λ c i. retires.reading c i ∙ f.reading c i; roster = roster_then _ _ _ retires.roster f.roster };
   outs = [];
   appended = outputs ∙ sym (append-nil (put_out w));
   tenants = λ t v p given.
-      let ticked : course p (Ticked m) ≡ unchanged (record p { clock = m }) = tick_course false p m (rw (← given.stands.clock) allowed) in
+      let course_is : course p (Ticked m) ≡ unchanged (ticked m p) = tick_course false p m (rw (← given.stands.clock) allowed) in
       record {
-        stands = rw (ap (λ (q : Course). q.cluster) ticked)
-            (record {
-              tenant = given.stands.tenant;
-              clock = clock;
-              limits = ap (limits_of t) limits ∙ given.stands.limits;
-              roster = rw instances given.stands.roster;
-              local = rw instances given.stands.local;
-            });
-        told = λ u later. sym (ap (λ (q : Course). map (output_of p.tenant) q.said ++ []) ticked);
-        fits = ap (λ (q : Course). q.fits && true) ticked;
+        stands = rw (ap (λ (q : Course). q.cluster) course_is) (stands_ticked t w w' p m clock limits retires given.stands);
+        told = λ u later. sym (ap (λ (q : Course). map (output_of p.tenant) q.said ++ []) course_is);
+        fits = ap (λ (q : Course). q.fits && true) course_is;
       };
   front = λ v f u later. refl;
   owned = λ v f u later. refl;
-  roster = rw instances (same_again (roster_of w.instances));
+  roster = retires.roster;
   clock = rw allowed clock;
   limits = λ t. ap (limits_of t) limits;
-  refused = keep_equal _ _ instances;
+  refused = keep_same _ _ retires.refused;
   faults = faults;
 }
 

@@ -1,9 +1,8 @@
 -- bytes keep the simulation, whatever their verdict
-use Rattle.std.proofs.Common.{◌≡◌, inl, inr, ◌∙◌, ℕ, ◌==◌, ◌&&◌, nat_lt, Bool, true, false, is_some, List, [], ◌∷◌, ◌++◌, Option, None, Some, refl, sym, ap, arith, if◌then◌else◌, nat_eq, filter}
+use Rattle.std.proofs.Common.{◌≡◌, inl, inr, ◌∙◌, ℕ, ◌==◌, ◌&&◌, nat_lt, true, false, List, [], ◌∷◌, ◌++◌, Option, None, Some, refl, sym, ap, arith, if◌then◌else◌, nat_eq}
 use Rattle.std.proofs.lemmas.List.{append-nil, append_assoc}
 use Rattle.std.proofs.lemmas.Bool.{cases_Bool}
 use Rattle.std.proofs.lemmas.Bool.Decides.{nat_tests}
-use Rattle.std.specs.List.{list_all}
 use Rattle.am_item.proofs.BestLaws.{best-push}
 use Rattle.am_http.specs.Connections.{left_open}
 use Rattle.am_http.specs.Verdict.{verdict}
@@ -25,17 +24,17 @@ use Rattle.am_world.specs.declared.event.Output.TheVariants.{Reply}
 use Rattle.am_world.specs.declared.instance.Instance.{Instance}
 use Rattle.am_world.specs.declared.world.World.{World}
 use Rattle.am_world.specs.Moments.{effective, last_moment}
-use Rattle.am_world.specs.Outputs.{answered_by, answered_on, are_owned, front_outputs, front_told, is_front, is_tenant, outputs_of, owner}
+use Rattle.am_world.specs.Outputs.{answered_by, answered_on, are_owned, front_outputs, front_told, outputs_of, owner}
 use Rattle.am_world.specs.Places.{AreBuilt, KeepRefused, SameElsewhere, bytes_at, bytes_where, here_in, incarnation_at, incarnation_where, instance_at, local_at, local_where, refused_at, roster_of, up_at, up_where}
 use Rattle.am_world.specs.PrivateCluster.{Accepted, Asked, Course, PrivateCluster, PrivateInstance, accepted_at, after, after_all, course, fits_all, here_at, items_in, local_of, own_after, patterns_in, told, told_all}
 use Rattle.am_item.specs.Best.{all_joined, best}
-use Rattle.am_world.specs.Reaction.{Brought, Here, Local, MayDecide, Reaction, asked, brought, carried_out, decision_at, local_after}
+use Rattle.am_world.specs.Reaction.{Brought, Here, MayDecide, Reaction, asked, brought, carried_out, decision_at, local_after}
 use Rattle.am_world.specs.Roster.{IsSameRoster, put_at}
-use Rattle.am_world.specs.Simulation.{Follows, IsAsAlone, Kept, Later, Premises, Stands, bytes_read, fault_count, put_out, refused_by}
+use Rattle.am_world.specs.Simulation.{Follows, Kept, Later, Stands, bytes_read, fault_count, put_out, refused_by}
 use Rattle.am_world.specs.Taking.{Takes, taken_at}
 use Rattle.am_world.specs.View.{AskedAs, FrontAnswered, Reading, Seen, Shut, Table, Watch, adds, asked_by, asked_on, look, noted, seen_as, watch}
 use Rattle.am_world.proofs.Built.{none_refused}
-use Rattle.am_world.proofs.Kept.{SameParts, itself, kept_nothing, roster_then, same_again, stands_same}
+use Rattle.am_world.proofs.Kept.{itself, kept_nothing, roster_then, same_again}
 
 -- ---- what is read
 

@@ -8,6 +8,7 @@ mod KeptClose
 mod LocalLemmas
 mod Opening
 mod RefusalSeen
+mod Retiring
 mod RingLemmas
 mod Run
 pub mod Steps

@@ -1,10 +1,10 @@
 -- in a world of which what is known is so, an event is refused as it says
-use Rattle.std.proofs.Common.{◌≡◌, ◌∙◌, ℕ, nat_eq, Bool, true, false, is_some, IsSome, List, Option, None, Some, option_map, refl, sym, ap, find, if◌then◌else◌}
+use Rattle.std.proofs.Common.{◌≡◌, ◌∙◌, ℕ, true, false, is_some, IsSome, Option, None, Some, option_map, refl, sym, find}
 use Rattle.am_world.specs.declared.event.Event.{Event}
 use Rattle.am_world.specs.declared.event.Event.TheVariants.{Open, Bytes, Close, Limits, Tick}
 use Rattle.am_world.specs.declared.instance.Instance.{Instance}
 use Rattle.am_world.specs.declared.world.World.{World}
-use Rattle.am_world.specs.Places.{AreNumbered, bytes_at, reader_of, reads}
+use Rattle.am_world.specs.Places.{AreNumbered, reader_of, reads}
 use Rattle.am_world.specs.Refusal.{is_read, refusal, refusal_seen}
 use Rattle.am_world.specs.Simulation.{Follows, bytes_read}
 use Rattle.am_world.specs.View.{AskedAs, FrontAnswered, Reading, Seen, Shut, Watch, look}

@@ -1,5 +1,5 @@
 -- the ring behind which zeros stand
-use Rattle.std.proofs.Common.{◌≡◌, ◌∙◌, ℕ, zero, suc, Bool, true, false, ◌&&◌, nat_le, nat_lt, ◌-◌, List, [], ◌∷◌, ◌++◌, drop, replicate, filter, length, refl, ap, arith, if◌then◌else◌}
+use Rattle.std.proofs.Common.{◌≡◌, ℕ, zero, suc, Bool, true, false, ◌&&◌, nat_le, nat_lt, List, [], ◌∷◌, ◌++◌, drop, length, refl, ap, arith}
 use Rattle.std.proofs.lemmas.Bool.Decides.{nat_tests}
 use Rattle.std.specs.List.{list_all}
 use Rattle.am_world.specs.Setup.{all_differ, is_instance, is_ring, ring_in}

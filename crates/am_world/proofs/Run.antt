@@ -1,6 +1,5 @@
 -- from single steps to whole runs; no kind of event is named here but in what a table remembers
-use Rattle.std.proofs.Common.{IsTrue, ◌&&◌, ◌≡◌, ◌≢◌, ◌⊎◌, inl, inr, ◌∙◌, ◌==◌, ℕ, nat_lt, Bool, true, false, is_some, List, [], ◌∷◌, ◌++◌, drop, length, Option, None, Some, refl, sym, ap, arith, filter, if◌then◌else◌, nat_eq}
-use Rattle.std.specs.List.{list_all}
+use Rattle.std.proofs.Common.{IsTrue, ◌&&◌, ◌≡◌, ◌≢◌, ◌⊎◌, inl, inr, ◌∙◌, ℕ, nat_lt, Bool, true, false, is_some, List, [], ◌∷◌, ◌++◌, Option, None, Some, refl, sym, ap, arith, if◌then◌else◌, nat_eq}
 use Rattle.std.proofs.Math.Seq.{drop-append_seam, take-append_seam}
 use Rattle.std.proofs.lemmas.Bool.Decides.{nat_tests}
 use Rattle.std.proofs.lemmas.List.{append-nil, append_assoc}
@@ -14,8 +13,7 @@ use Rattle.am_world.specs.Moments.{last_moment}
 use Rattle.am_world.specs.Outputs.{are_owned, front_outputs, front_told, front_told_all, is_front, is_tenant, outputs_of, owner}
 use Rattle.am_world.specs.Places.{AreBuilt, KeepRefused}
 use Rattle.am_world.specs.PrivateCluster.{Happening, PrivateCluster, after, after_all, fits, fits_all, opened, patterns_in, told, told_all}
-use Rattle.am_world.specs.Roster.{roster_after}
-use Rattle.am_world.specs.Runs.{Alone, Broken, Headline, Isolated, Prefixes, Run, RunPremises, added}
+use Rattle.am_world.specs.Runs.{Alone, Headline, Prefixes, Run}
 use Rattle.am_world.specs.Setup.{Origin}
 use Rattle.am_world.specs.Simulation.{Faulted, Follows, Kept, Later, Opens, Premises, Stands, Step, fault_count, put_out, refused_by}
 use Rattle.am_world.specs.View.{AskedAs, FrontAnswered, Reading, Seen, Shut, Table, Watch, adds, first_watch, left, look, names_once, noted, opens_new, table_after, view, watch, watch_all}

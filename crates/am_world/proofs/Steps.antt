@@ -10,7 +10,7 @@ use Rattle.am_world.specs.Setup.{Origin}
 use Rattle.am_world.specs.Simulation.{Follows, Opens, Stands, Step, fault_count, put_out, refused_by}
 use Rattle.am_world.specs.View.{Watch, adds, first_watch, names_once, view, watch}
 use Rattle.am_world.proofs.Built.{keep_equal, keep_then}
-use Rattle.am_world.proofs.Run.{Given, Ran, RanAlone, alone_of, first_given, given_opening, ran_nothing, ran_more, rest_given, step_faults, step_kept, step_refused}
+use Rattle.am_world.proofs.Run.{Given, Ran, alone_of, first_given, given_opening, ran_nothing, ran_more, rest_given, step_faults, step_kept, step_refused}
 
 -- what a world put out says nothing of what it reads and has
 forgets_follows : (v : Watch) (w w' : World) → Forgets w w' → Follows v w → Follows v w'

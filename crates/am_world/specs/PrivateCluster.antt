@@ -1,10 +1,12 @@
 -- what one tenant would have if nobody else were there: lists and recomputation alone
-use Rattle.std.specs.Prelude.{ℕ, Bool, true, ◌&&◌, List, [], ◌∷◌, ◌++◌, map, Option, Some, None, is_some, if◌then◌else◌}
+use Rattle.std.specs.Prelude.{ℕ, Bool, true, not, ◌&&◌, filter, List, [], ◌∷◌, ◌++◌, map, Option, Some, None, is_some, if◌then◌else◌}
 use Rattle.std.specs.List.{flat_map}
 use Rattle.am_api.specs.Patterns.{patterns_of_request}
 use Rattle.am_http.specs.declared.request.Request.{Request}
 use Rattle.am_item.specs.declared.item.Item.{Item}
+use Rattle.am_book.specs.Retired.{is_key_retired}
 use Rattle.am_item.specs.Best.{best}
+use Rattle.am_item.specs.Key.{key_of}
 use Rattle.am_limit.specs.declared.limits.Limits.{Limits}
 use Rattle.am_limit.specs.Limits.{default_limits}
 use Rattle.am_world.specs.declared.event.Output.{Output}
@@ -91,6 +93,17 @@ react reaction moment i p =
     let r : Reaction = reaction (here_at p moment i) (local_of (p.at i)) in
     record { cluster = record p { at = put_at p.at i (own_after moment r (p.at i)) }; said = r.said; fits = r.fits }
 
+-- at a moment, all items of every key of which the best is retired go
+abbrev pub retired : ℕ → PrivateInstance → PrivateInstance
+retired moment own =
+    let held = best (items_in own.accepted) in
+    record own { accepted = filter (λ (a : Accepted). not (is_key_retired moment held (key_of a.item))) own.accepted }
+
+-- at a tick the clock is told, and they go at each instance that is up
+abbrev pub ticked : ℕ → PrivateCluster → PrivateCluster
+ticked moment p =
+    record p { clock = moment; at = λ i. if p.roster.up i then retired moment (p.at i) else p.at i }
+
 -- ---- one thing happens
 
 -- why it is refused
@@ -104,7 +117,7 @@ abbrev pub handled : PrivateCluster → Happening → Course
 handled p (Asked connection i moment request) =
     react (λ here local. asked here connection request local) (effective moment p.clock) i p
 handled p (Limited limits) = unchanged (record p { limits = limits })
-handled p (Ticked moment) = unchanged (record p { clock = moment })
+handled p (Ticked moment) = unchanged (ticked moment p)
 
 -- what is refused changes nothing
 unfoldable pub course : PrivateCluster → Happening → Course

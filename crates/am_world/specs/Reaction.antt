@@ -1,5 +1,5 @@
 -- what one tenant has at one instance, and what the instance does when something happens to the tenant
-use Rattle.std.specs.Prelude.{◌≡◌, ◌⊎◌, ℕ, ◌+◌, Bool, true, false, List, [], ◌∷◌, length, map, Result, Ok, Err, if◌then◌else◌}
+use Rattle.std.specs.Prelude.{◌≡◌, ◌⊎◌, ℕ, ◌+◌, Bool, true, false, List, [], ◌∷◌, length, map, filter, not, if◌then◌else◌}
 use Rattle.am_alert.specs.Made.{counts_fit}
 use Rattle.am_alert.specs.declared.maker.Maker.{Maker}
 use Rattle.am_http.specs.Codes.{code_of, status_of}
@@ -10,6 +10,7 @@ use Rattle.am_http.specs.declared.request.Fed.TheVariants as fed
 use Rattle.am_http.specs.declared.request.Request.{Request}
 use Rattle.am_item.specs.declared.item.Item.{Item}
 use Rattle.am_item.specs.Best.{all_joined}
+use Rattle.am_item.specs.Retirement.{is_retired}
 use Rattle.am_item.specs.declared.fault.Fault.{Fault}
 use Rattle.am_item.specs.declared.fault.Fault.TheVariants.{OutOfMemory, CountsExhausted, PatternNotBuilt}
 use Rattle.am_tenant.specs.Names.{same}
@@ -85,6 +86,15 @@ MayDecide refused request decision d = (d ≡ decision) ⊎ (IsUnbuilt d × HasR
 -- what the instance has of the tenant after a reaction
 unfoldable pub local_after : Reaction → Local → Local
 local_after reaction local = record { held = all_joined local.held reaction.accepts; ledger = reaction.ledger }
+
+-- what the instance has of the tenant once what is retired at the moment is gone
+unfoldable pub retired_local : ℕ → Local → Local
+retired_local moment local =
+    record { held = filter (λ item. not (is_retired moment item)) local.held; ledger = local.ledger }
+
+-- .. where the instance is up
+abbrev pub retired_if : Bool → ℕ → Local → Local
+retired_if up moment local = if up then retired_local moment local else local
 
 -- what is said of a tenant, as an output
 abbrev pub output_of : List ℕ → Said → Output

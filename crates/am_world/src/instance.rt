@@ -42,7 +42,7 @@ impl Instance {
     ghost use Rattle.am_item.specs.Counts.{count_of};
     ghost use Rattle.am_api.specs.Deciding.{decision_of};
     ghost use Rattle.am_world.specs.Places.{HasMore, here_of, local_in};
-    ghost use Rattle.am_world.specs.Reaction.{IsCause, MayDecide, StopsFor, blank, decision_at};
+    ghost use Rattle.am_world.specs.Reaction.{IsCause, MayDecide, StopsFor, blank, decision_at, retired_if};
     ghost use Rattle.am_world.specs.Taking.{Brings};
 
     /// The instance of a number, in this incarnation, up or down. It has nothing, and keeps at most `capacity` patterns
@@ -77,7 +77,7 @@ impl Instance {
 
     /// Stops the instance for a fault, as a crash does: it is down, and all that it had is lost but its patterns. It takes
     /// no memory.
-    #[tactic(auto, unfolding(crate::specs::Places::local_in, am_item::specs::Book::items_of, am_item::specs::Counts::count_of))]
+    #[tactic(auto, unfolding(crate::specs::Places::local_in, am_book::specs::Book::items_of, am_item::specs::Counts::count_of))]
     pub fn stop(&mut self, alloc: Global, fault: Fault)
         ensures cause { self.new.cause ≡ Some fault }
         ensures up { self.new.up ≡ false }
@@ -125,6 +125,20 @@ impl Instance {
     {
         self.front.open(alloc, connection)?;
         Ok(())
+    }
+
+    /// Lets what is retired at the moment go, where the instance is up. It takes no memory.
+    pub fn retire(&mut self, moment: Moment)
+        ensures local { (t : List ℕ) → local_in t self.new ≡ retired_if self.old.up moment (local_in t self.old) }
+        ensures front { self.new.front ≡ self.old.front }
+        ensures up { self.new.up ≡ self.old.up }
+        ensures incarnation { self.new.incarnation ≡ self.old.incarnation }
+        ensures number { self.new.number ≡ self.old.number }
+        ensures refused { self.new.cache.refused ≡ self.old.cache.refused }
+    {
+        if self.up {
+            self.holdings.retire(moment);
+        }
     }
 
     /// Takes a piece of a connection that the instance reads, at a moment and where tenants have these limits, and puts out

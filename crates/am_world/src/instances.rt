@@ -18,6 +18,9 @@ use std::marker::Model;
 /// The numbers of all instances.
 const NUMBERS: [u8; 8] = [1, 2, 3, 4, 5, 6, 7, 8];
 
+/// One more than the number of the last instance.
+const AFTER_LAST: u8 = 9;
+
 /// The instance that serves from the opening on.
 const SERVING: u8 = 1;
 
@@ -41,7 +44,7 @@ impl Model for Instances {
 
 impl Instances {
     ghost use Rattle.am_world.specs.Places.{IsDownAt, IsReadOnce, KeepRefused, SameElsewhere, bytes_at, cause_at, incarnation_at, instance_at, local_at, reader_of, reads, refused_at, roster_of, up_at};
-    ghost use Rattle.am_world.specs.Reaction.{blank};
+    ghost use Rattle.am_world.specs.Reaction.{blank, retired_if};
 
     /// All instances in their first incarnation. None reads or has anything, and those that serve are up. Each keeps at
     /// most `capacity` patterns built, by hashes of which `hash_key` is the secret.
@@ -108,9 +111,12 @@ impl Instances {
     fn reader(&self, connection: ConnectionId) -> Option<&Instance>
         ensures { option_copied result ≡ find (reads connection) self.now }
     {
-        self.list
-            .iter()
-            .find(|instance| instance.is_reading(connection))
+        for instance in &self.list {
+            if instance.is_reading(connection) {
+                return Some(instance);
+            }
+        }
+        None
     }
 
     // The instance of a number.
@@ -118,7 +124,12 @@ impl Instances {
     fn at(&self, number: u8) -> Option<&Instance>
         ensures { option_copied result ≡ instance_at number self.now }
     {
-        self.list.iter().find(|instance| instance.number == number)
+        for instance in &self.list {
+            if instance.number == number {
+                return Some(instance);
+            }
+        }
+        None
     }
 
     /// Begins a connection to an instance that is up. Where the connection is being read already, it begins anew. An
@@ -174,6 +185,31 @@ impl Instances {
         ensures refused { (i : ℕ) → refused_at i self.new ≡ refused_at i self.old }
     {
         self.list[place(number)].close(connection);
+    }
+
+    /// Lets what is retired at the moment go at each instance that is up. It takes no memory.
+    pub fn retire(&mut self, moment: Moment)
+        ensures local { (t : List ℕ) (i : ℕ) → local_at t i self.new ≡ retired_if (up_at i self.old) moment (local_at t i self.old) }
+        ensures reading { (c i : ℕ) → bytes_at c i self.new ≡ bytes_at c i self.old }
+        ensures roster { IsSameRoster (roster_of self.new) (roster_of self.old) }
+        ensures refused { (i : ℕ) → refused_at i self.new ≡ refused_at i self.old }
+    {
+        let _ = &self.list;
+        for number in 1..AFTER_LAST {
+            self.retire_at(number, moment);
+        }
+    }
+
+    // .. at one of them.
+    fn retire_at(&mut self, number: u8, moment: Moment)
+        requires { IsTrue (is_instance number) }
+        ensures local { (t : List ℕ) (i : ℕ) → local_at t i self.new ≡ (if i == number
+            then retired_if (up_at i self.old) moment (local_at t i self.old) else local_at t i self.old) }
+        ensures reading { (c i : ℕ) → bytes_at c i self.new ≡ bytes_at c i self.old }
+        ensures roster { IsSameRoster (roster_of self.new) (roster_of self.old) }
+        ensures refused { (i : ℕ) → refused_at i self.new ≡ refused_at i self.old }
+    {
+        self.list[place(number)].retire(moment);
     }
 
     /// Gives a piece to the instance that reads its connection, where tenants have these limits.

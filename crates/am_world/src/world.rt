@@ -179,6 +179,7 @@ impl World {
             return Err(Refused::MomentRefused);
         }
         self.clock = self.effective(moment);
+        self.instances.retire(self.clock);
         Ok(())
     }
 

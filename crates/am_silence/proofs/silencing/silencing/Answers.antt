@@ -22,17 +22,17 @@ pub returns-in_err-taken-clause-failure : goal.returns-in_err-taken-clause-failu
 returns-in_err-taken-clause-failure c =
     let p = err_from_is_err_and c.from_residual-in_err-taken.result c.from_residual-in_err-taken.ensures.1 in
     rw (p.1, p.2)
-    (failure_among_more (matchers_in (map held_silence c.args.silences.now)) c.silence-item.result.held.now.value.matchers.items _ _ _ _
+    (failure_among_more (matchers_in (map held_silence c.args.silences.now)) c.silence-item.result.held.now.value.matchers _ _ _ _
     (among_all c.args.silences.now c.loop-silence.silence-index c.silence-item.result c.loop-silence-test.true c.silence-item.is)
-    c.loop-silence.invariant.stays (rw c.deref.ensures.value at c.in_err-taken.ensures.failure))
+    c.loop-silence.invariant.stays (rw c.as_slice.ensures at c.in_err-taken.ensures.failure))
 
 pub push_at-requires : goal.push_at-requires
 push_at-requires c =
     let long : length c.loop-silence.found.items ≡ length c.args.sets.now =
     sym (length-map c.loop-silence.found.items (λ ids. ids.items)) ∙ ap length c.loop-silence.invariant.so_far
     ∙ length-map (map (λ s. s.now) c.args.sets.now) _ ∙ length-map c.args.sets.now (λ s. s.now) in
-    rw (c.deref-in-loop-silence.ensures.value, c.in_ok-taken.ensures.taken, long)
-    (places_within 0 (all_take c.deref.result.now) (map (λ s. s.now) c.args.sets.now) (length c.args.sets.now) (omega (arith, length-map c.args.sets.now (λ s. s.now))))
+    rw (c.deref.ensures.value, c.in_ok-taken.ensures.taken, long)
+    (places_within 0 (all_take c.as_slice.result.now) (map (λ s. s.now) c.args.sets.now) (length c.args.sets.now) (omega (arith, length-map c.args.sets.now (λ s. s.now))))
 
 pub returns-in_err-push_at-clause-asked : goal.returns-in_err-push_at-clause-asked
 returns-in_err-push_at-clause-asked c =
@@ -44,8 +44,8 @@ pub loop-silence-preserved : goal.loop-silence-preserved
 loop-silence-preserved c = record {
   stays = stays-trans _ _ _ c.loop-silence.invariant.stays c.in_ok-taken.ensures.asked;
   so_far = silence_more c.args.silences.now c.loop-silence.silence-index c.silence-item.result _ _ _ _ c.loop-silence-test.true c.silence-item.is
-      c.loop-silence.invariant.so_far (rw c.deref.ensures.value at c.in_ok-taken.ensures.taken)
-      (rw c.deref-in-loop-silence.ensures.value at c.in_ok-push_at.ensures);
+      c.loop-silence.invariant.so_far (rw c.as_slice.ensures at c.in_ok-taken.ensures.taken)
+      (rw c.deref.ensures.value at c.in_ok-push_at.ensures);
 }
 
 pub returns-clause-taking : goal.returns-clause-taking

@@ -4,7 +4,7 @@ use Rattle.sqlite.specs.State.{HasCleanDisk, KeepsCommit, Survives}
 use Rattle.sqlite.proofs.Callers.{survives_begin}
 use Rattle.sqlite.proofs.StateLemmas.{survives_then}
 use Rattle.am_store.specs.Steps.{IsSame, Leaves, Removes}
-use Rattle.am_item.specs.Key.{SilenceKey}
+use Rattle.am_item.specs.declared.key.ThingKey.TheVariants.{Silence as SilenceKey}
 use Rattle.am_store.proofs.Calls.{clean_before}
 use Rattle.am_store.proofs.Commits.{commit_fails}
 use Rattle.am_store.proofs.commit.drop_silence.Goals as goal

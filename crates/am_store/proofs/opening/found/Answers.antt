@@ -24,7 +24,7 @@ returns-clause-err g c clean still =
     let inside = rw begun at (c.in_ok-make_tables.ensures.inside clean_mid) in
     subst (λ h. OnErr c.commit.result (IsSame (state g.S.Store old) (state g.S.Store h))) same
     (commit_fails (state g.S.Store old) (state g.S.Store mid) (state g.S.Store last) c.commit.result kept
-    (c.is_autocommit-settled.ensures.settled (c.is_autocommit-settled.ensures.value ∙ ap not c.requires)) (inside refl) still_last (c.commit.ensures.err clean_last))
+    (c.is_autocommit-settled.ensures.settled (c.is_autocommit-settled.ensures.value ∙ ap not c.requires.idle)) (inside refl) still_last (c.commit.ensures.err clean_last))
 
 pub returns-clause-crash : goal.returns-clause-crash
 returns-clause-crash g c =
@@ -35,7 +35,7 @@ returns-clause-crash g c =
     let P = LeavesNew (state g.S.Store old) in
     let one : Survives (state g.S.Store old) (state g.S.Store mid) (λ _. ⊥) = survives_begin g.S.Store old (state g.S.Store mid) _ (rw begun at c.make_tables.ensures.survives) in
     let whole = survives_then (state g.S.Store old) (state g.S.Store mid) (state g.S.Store last) (λ _. ⊥) _ P (λ _ db none. absurd none)
-    (λ clean db is blank.
-    (_, rw begun at (c.in_ok-make_tables.ensures.ok (clean_before (state g.S.Store mid) (state g.S.Store last) _ c.commit.ensures.survives clean) (rw begun blank)), is)) one c.commit.ensures.survives in
+    (λ clean db is.
+    (_, rw begun at (c.in_ok-make_tables.ensures.ok (clean_before (state g.S.Store mid) (state g.S.Store last) _ c.commit.ensures.survives clean) (rw begun c.requires.blank)), is)) one c.commit.ensures.survives in
     let same : last ≡ c.conn-2-1.given.0 = search rules in
     subst (λ h. Survives (state g.S.Store old) (state g.S.Store h) P) same whole

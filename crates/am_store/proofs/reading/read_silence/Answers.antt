@@ -18,7 +18,7 @@ returns c =
     let starts = read_ok (λ m. (column row 3 ≡ Int (pos m)) × (m ≤ greatest_moment)) c.moment_of.result c.or_foreign-3.result c.in_ok-or_foreign.field-0 c.or_foreign-3.ensures c.in_ok-or_foreign.was (both _ _ c.moment_of.result c.moment_of.ensures.value c.moment_of.ensures.bound) in
     let ends = read_ok (λ m. (column row 4 ≡ Int (pos m)) × (m ≤ greatest_moment)) c.moment_of-2.result c.or_foreign-4.result c.in_ok-or_foreign-2.field-0 c.or_foreign-4.ensures c.in_ok-or_foreign-2.was (both _ _ c.moment_of-2.result c.moment_of-2.ensures.value c.moment_of-2.ensures.bound) in
     let kept = read_ok (λ m. (column row 5 ≡ Int (pos m)) × (m ≤ greatest_moment)) c.moment_of-3.result c.or_foreign-5.result c.in_ok-or_foreign-3.field-0 c.or_foreign-5.ensures c.in_ok-or_foreign-3.was (both _ _ c.moment_of-3.result c.moment_of-3.ensures.value c.moment_of-3.ensures.bound) in
-    let matchers = c.in_ok-matchers_in.ensures in
+    let matchers = rw (← c.from_vec.ensures) at c.in_ok-matchers_in.ensures in
     let s : SilenceText = record {
       id = c.in_ok-id_in.field-0;
       starts_at = c.in_ok-or_foreign.field-0;
@@ -26,7 +26,7 @@ returns c =
       kept_until = c.in_ok-or_foreign-3.field-0;
       created_by = c.in_ok-text_in.field-0;
       comment = c.in_ok-text_in-2.field-0;
-      matchers = c.in_ok-matchers_in.field-0.items;
+      matchers = c.from_vec.result;
     } in
     let valid : IsSilence s = record {
       id = c.in_ok-id_in.ensures.back;

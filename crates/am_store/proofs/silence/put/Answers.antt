@@ -20,7 +20,7 @@ returns-then-branch-clause-ok g c clean store =
     let got = c.in_ok-rows.ensures.ok clean store in
     let told = silence_reached old.now store c.args.tenant.now c.args.stamp.now c.in_ok-rows.rows.items c.args.silence.now.id c.text_of-id.ensures.back (rw c.text_of-id.ensures.text at got.1) in
     let yes_it_is : list_any (reached c.args.stamp.now) c.in_ok-rows.rows.items ≡ true =
-    ap (list_any (reached c.args.stamp.now)) (sym c.deref-2.ensures.value) ∙ sym c.in_ok-is_reached.ensures ∙ c.if-branch.true in
+    ap (list_any (reached c.args.stamp.now)) (sym c.deref.ensures.value) ∙ sym c.in_ok-is_reached.ensures ∙ c.if-branch.true in
     stays old.now new.now c.args.tenant.now (stamped c.args.stamp.now (SilenceWords (silence_text c.args.silence.now))) store got.0.0.now_is (told ∙ yes_it_is)
 
 pub returns-clause-ok : goal.returns-clause-ok
@@ -35,7 +35,7 @@ returns-clause-ok g c clean store =
     let same = got.0.0.now_is in
     let told = silence_reached old.now store c.args.tenant.now c.args.stamp.now c.in_ok-rows.rows.items c.args.silence.now.id c.text_of-id.ensures.back (rw c.text_of-id.ensures.text at got.1) in
     let none : list_any (reached c.args.stamp.now) c.in_ok-rows.rows.items ≡ false =
-    ap (list_any (reached c.args.stamp.now)) (sym c.deref-2.ensures.value) ∙ sym c.in_ok-is_reached.ensures ∙ c.if-branch.false in
+    ap (list_any (reached c.args.stamp.now)) (sym c.deref.ensures.value) ∙ sym c.in_ok-is_reached.ensures ∙ c.if-branch.false in
     let out : TakesOut 3 (hit of_silence (Text c.args.tenant.now ∷ Text (id_text c.args.silence.now.id) ∷ [])) old.now mid.now =
     subst (λ db. TakesOut 3 (hit of_silence (Text c.args.tenant.now ∷ Text (id_text c.args.silence.now.id) ∷ [])) db mid.now) same (rw c.text_of-id.ensures.text at (c.in_ok-take_out.ensures.ok clean_mid (subst IsStore (sym same) store))) in
     on_ok_weaker c.put_in.result

@@ -1,6 +1,6 @@
 use Rattle.std.proofs.Common.{IfNone, IfSome, ap, refl, rules, subst, ◌≡◌, ◌∙◌}
 use Rattle.am_config.specs.Default.{default_configuration}
-use Rattle.am_item.specs.Book.{items_of}
+use Rattle.am_book.specs.Book.{items_of}
 use Rattle.am_current.specs.Current.{configuration_in, read_for}
 use Rattle.am_current.proofs.InUse.{in_use_found, in_use_read}
 use Rattle.am_current.proofs.holdings.Holdings.in_use.Goals as goal

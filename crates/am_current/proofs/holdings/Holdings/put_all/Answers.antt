@@ -1,7 +1,7 @@
 use Rattle.std.proofs.Common.{ap, sym, ◌∙◌}
 use Rattle.std.specs.List.{list_any}
 use Rattle.am_item.specs.Best.{item_at}
-use Rattle.am_item.specs.Key.{ConfigurationKey}
+use Rattle.am_item.specs.declared.key.ThingKey.TheVariants.{Configuration as ConfigurationKey}
 use Rattle.am_current.specs.Replacing.{replaces}
 use Rattle.am_current.proofs.InUse.{at_ok, in_use_put}
 use Rattle.am_current.proofs.holdings.Holdings.put_all.Goals as goal

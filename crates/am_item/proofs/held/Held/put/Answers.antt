@@ -1,7 +1,9 @@
 use Rattle.std.proofs.Common.{◌≡◌, ap, refl, sym, ◌∙◌}
+use Rattle.std.specs.Option.{option_map}
 use Rattle.std.proofs.lemmas.Result.{on_err_weaker, on_ok_weaker}
-use Rattle.am_item.specs.Best.{joined}
+use Rattle.am_item.specs.Best.{item_at, joined}
 use Rattle.am_item.specs.Held.{AreOrdered, alert_item, entry_item, items_in, silence_item}
+use Rattle.am_item.specs.Key.{AlertKey, SentEntryKey, SilenceKey, key_in, key_of}
 use Rattle.am_item.specs.declared.entry.EntryDetails.{EntryDetails}
 use Rattle.am_item.specs.declared.held.Held.TheInside.{Inside}
 use Rattle.am_item.specs.declared.item.AlertDetails.{AlertDetails}
@@ -9,7 +11,7 @@ use Rattle.am_item.specs.declared.item.Item.{Item}
 use Rattle.am_item.specs.declared.silence.SilenceDetails.{SilenceDetails}
 use Rattle.am_item.specs.declared.stamp.Stamped.{Stamped}
 use Rattle.am_item.specs.declared.item.Thing.{Thing}
-use Rattle.am_item.proofs.Whole.{came_alert, came_configuration, came_entry, came_silence, joined_whole, same_whole}
+use Rattle.am_item.proofs.Whole.{at_whole, came_alert, came_configuration, came_entry, came_silence, joined_whole, same_whole}
 use Rattle.am_item.proofs.held.Held.put.Goals as goal
 
 -- an item by its thing
@@ -84,3 +86,27 @@ returns-in-SentEntry-clause-err c =
     let h = c.self.inside in
     let n : Inside = record { configuration = h.configuration; silences = h.silences; alerts = h.alerts; sent = c.put_newest-in-SentEntry.new.held } in
     on_err_weaker c.put_newest-in-SentEntry.result (λ stay. same_whole h n refl refl refl stay ∙ c.self.view_is) c.put_newest-in-SentEntry.ensures.err
+
+pub returns-in-Silence-clause-absent : goal.returns-in-Silence-clause-absent
+returns-in-Silence-clause-absent c =
+    let name = c.into_parts-id.result.0 in
+    let key : key_of c.args.item ≡ SilenceKey name = ap key_in c.in-Silence.is ∙ ap (λ p. SilenceKey p.0) (sym c.into_parts-id.ensures) in
+    on_err_weaker c.put_newest.result
+    (λ none. ap (item_at (key_of c.args.item)) (sym c.self.view_is) ∙ ap (λ k. item_at k (items_in c.self.inside)) key ∙ at_whole (SilenceKey name) c.self.inside ∙ ap (option_map (silence_item name)) none)
+    c.put_newest.ensures.absent
+
+pub returns-in-Alert-clause-absent : goal.returns-in-Alert-clause-absent
+returns-in-Alert-clause-absent c =
+    let name = c.into_parts-labels.result.0 in
+    let key : key_of c.args.item ≡ AlertKey name = ap key_in c.in-Alert.is ∙ ap (λ p. AlertKey p.0) (sym c.into_parts-labels.ensures) in
+    on_err_weaker c.put_newest-in-Alert.result
+    (λ none. ap (item_at (key_of c.args.item)) (sym c.self.view_is) ∙ ap (λ k. item_at k (items_in c.self.inside)) key ∙ at_whole (AlertKey name) c.self.inside ∙ ap (option_map (alert_item name)) none)
+    c.put_newest-in-Alert.ensures.absent
+
+pub returns-in-SentEntry-clause-absent : goal.returns-in-SentEntry-clause-absent
+returns-in-SentEntry-clause-absent c =
+    let name = c.into_parts-key.result.0 in
+    let key : key_of c.args.item ≡ SentEntryKey name = ap key_in c.in-SentEntry.is ∙ ap (λ p. SentEntryKey p.0) (sym c.into_parts-key.ensures) in
+    on_err_weaker c.put_newest-in-SentEntry.result
+    (λ none. ap (item_at (key_of c.args.item)) (sym c.self.view_is) ∙ ap (λ k. item_at k (items_in c.self.inside)) key ∙ at_whole (SentEntryKey name) c.self.inside ∙ ap (option_map (entry_item name)) none)
+    c.put_newest-in-SentEntry.ensures.absent

@@ -1,6 +1,5 @@
-use Rattle.std.proofs.Common.{◌≡◌, ◌∙◌, ◌+◌, ◌++◌, ◌∷◌, [], length, ap, sym, List}
+use Rattle.std.proofs.Common.{◌≡◌, ◌∙◌, ◌+◌, ◌++◌, ◌∷◌, [], length, ap, List}
 use Rattle.am_api.specs.Deciding.{decision_of}
-use Rattle.am_http.specs.declared.request.Request.{Request}
 use Rattle.am_item.specs.declared.item.Item.{Item}
 use Rattle.am_item.specs.Best.{all_joined}
 use Rattle.am_world.specs.declared.event.Output.TheVariants.{Reply}

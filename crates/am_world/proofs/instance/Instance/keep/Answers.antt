@@ -1,5 +1,5 @@
 use Rattle.std.proofs.Common.{◌≡◌, ◌+◌, length, vec_len, rules}
-use Rattle.am_item.specs.Book.{items_of}
+use Rattle.am_book.specs.Book.{items_of}
 use Rattle.am_item.specs.Counts.{count_of}
 use Rattle.am_tenant.specs.Names.{same}
 use Rattle.am_item.specs.Best.{all_joined}

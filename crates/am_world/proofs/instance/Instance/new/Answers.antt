@@ -1,5 +1,5 @@
 use Rattle.std.proofs.Common.{refl}
-use Rattle.am_item.specs.Book.{items_of}
+use Rattle.am_book.specs.Book.{items_of}
 use Rattle.am_item.specs.Counts.{count_of}
 use Rattle.am_world.specs.Places.{local_in}
 use Rattle.am_world.proofs.instance.Instance.new.Goals as goal

@@ -1,6 +1,5 @@
-use Rattle.std.proofs.Common.{◌≡◌, ◌∙◌, Some, nat_eq, false, arith, ap, sym}
+use Rattle.std.proofs.Common.{◌≡◌, nat_eq, false, arith}
 use Rattle.std.proofs.lemmas.Bool.Decides.{nat_tests}
-use Rattle.am_world.specs.Places.{bytes_at}
 use Rattle.am_world.proofs.InstancesLemmas.{begun, begun_anew, unread_elsewhere}
 use Rattle.am_world.proofs.instances.Instances.begin.Goals as goal
 

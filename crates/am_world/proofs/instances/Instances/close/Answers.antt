@@ -1,6 +1,5 @@
-use Rattle.std.proofs.Common.{◌≡◌, ◌∙◌, Some, None, [], length, vec_len, rules}
-use Rattle.std.proofs.lemmas.Result.{on_ok_weaker}
-use Rattle.am_world.proofs.InstancesLemmas.{at_number, bytes_exist, changed_at, local_kept, number_of, reading_put, refused_kept, roster_kept, up_exists, within}
+use Rattle.std.proofs.Common.{◌≡◌, ◌∙◌, None, length, vec_len, rules}
+use Rattle.am_world.proofs.InstancesLemmas.{at_number, bytes_exist, changed_at, local_kept, number_of, reading_put, refused_kept, roster_kept, within}
 use Rattle.am_world.proofs.instances.Instances.close.Goals as goal
 
 pub place-requires : goal.place-requires

@@ -1,4 +1,3 @@
-use Rattle.std.proofs.Common.{◌∙◌, sym}
 use Rattle.am_world.specs.Places.{up_at}
 use Rattle.am_world.proofs.InstancesLemmas.{up_exists}
 use Rattle.am_world.proofs.instances.Instances.is_up.Goals as goal

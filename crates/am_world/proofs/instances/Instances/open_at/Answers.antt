@@ -1,6 +1,6 @@
-use Rattle.std.proofs.Common.{◌≡◌, ◌∙◌, Some, None, [], length, vec_len, rules}
+use Rattle.std.proofs.Common.{◌≡◌, ◌∙◌, Some, [], length, vec_len, rules}
 use Rattle.std.proofs.lemmas.Result.{on_ok_weaker}
-use Rattle.am_world.proofs.InstancesLemmas.{at_number, bytes_exist, changed_at, local_kept, number_of, reading_put, refused_kept, roster_kept, up_exists, within}
+use Rattle.am_world.proofs.InstancesLemmas.{at_number, changed_at, local_kept, number_of, reading_put, refused_kept, roster_kept, up_exists, within}
 use Rattle.am_world.proofs.instances.Instances.open_at.Goals as goal
 
 pub place-requires : goal.place-requires

@@ -1,4 +1,4 @@
-use Rattle.std.proofs.Common.{◌≡◌, ◌∙◌, refl, sym, rules}
+use Rattle.std.proofs.Common.{◌≡◌, refl, sym, rules}
 use Rattle.am_world.proofs.Opening.{follows_opening, stands_opening}
 use Rattle.am_world.proofs.world.World.open.Goals as goal
 

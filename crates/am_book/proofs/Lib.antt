@@ -1,0 +1,6 @@
+pub mod Dropping
+pub mod Sifting
+pub mod RowLemmas
+pub mod Told
+pub mod Lists
+pub mod Retiring

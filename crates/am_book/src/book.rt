@@ -1,0 +1,250 @@
+ghost use Rattle.std.specs.Prelude.{◌≡◌, ◌+◌, ℕ, List, [], None, true, false, not, filter, IsSome, nat_le, IfErr, IfNone, IfSome, OnErr, OnOk, if◌then◌else◌};
+ghost use Rattle.std.specs.BTreeMap.{IsOrdered};
+ghost use Rattle.std.specs.BTreeSet.{btree_set_len};
+ghost use Rattle.std.specs.Cmp.Lexicographic.{slice_cmp};
+ghost use Rattle.std.specs.Ordering.{nat_cmp};
+ghost use Rattle.am_tenant.specs.Names.{same};
+ghost use Rattle.am_item.specs.Best.{IsRising, all_joined, item_at, joined};
+ghost use Rattle.am_item.specs.Key.{has_key, key_of};
+ghost use Rattle.am_item.specs.Retirement.{is_retired, standing_of};
+ghost use Rattle.am_book.specs.Book.{AreHeld, held_of, items_of};
+ghost use Rattle.am_book.specs.Row.{has_row, is_row_of, same_row, tells};
+ghost use Rattle.am_book.specs.declared.row.Row.{Row};
+
+use crate::row::Row;
+use am_item::{Held, Item, Standing, ThingKey};
+use am_tenant::TenantName;
+use am_text::Moment;
+use std::alloc::{AllocError, AllocFailed, Global};
+use std::collections::{BTreeMap, BTreeSet};
+use std::marker::Model;
+
+/// The items of all tenants: for each tenant the best of what was put, in the order of keys, but what retired.
+#[derive(Debug, Drop)]
+pub struct Book {
+    tenants: BTreeMap<TenantName, Held>,
+    rows: BTreeSet<Row>,
+    nothing: Held,
+}
+
+impl Model for Book {
+    ghost use Rattle.std.specs.Prelude.{◌≡◌, ℕ, List, []};
+    ghost use Rattle.am_item.specs.declared.item.Item.{Item};
+    ghost use Rattle.am_book.specs.Book.{AreHeld, AreTold, pairs_of};
+
+    ghost Value = { List (List ℕ × Item) };
+
+    ghost view = { λ book. pairs_of book.tenants };
+
+    ghost invariant = { λ book. AreHeld book.tenants × (book.nothing ≡ []) × AreTold book.rows book.tenants };
+}
+
+impl Book {
+    /// A book without items.
+    #[tactic(auto, unfolding(crate::specs::Book::pairs_of, crate::specs::Row::tells))]
+    pub fn new(alloc: Global) -> Book
+        ensures { result ≡ [] }
+    {
+        Book {
+            tenants: BTreeMap::new(alloc),
+            rows: BTreeSet::new(alloc),
+            nothing: Held::new(alloc),
+        }
+    }
+
+    /// What is held of a tenant, in the order of keys.
+    pub fn held(&self, tenant: &TenantName) -> &Held
+        ensures items { result.now ≡ items_of tenant.now self.now }
+        ensures rising { IsRising result.now }
+    {
+        match self.tenants.get(tenant) {
+            Some(held) => held,
+            None => &self.nothing,
+        }
+    }
+
+    /// Puts an item of a tenant: it takes its key's place, unless an item of that key is held whose
+    /// stamp is no smaller. Other tenants' items stay. An error, which is out of memory, leaves all items as
+    /// they were.
+    pub fn put(&mut self, alloc: Global, tenant: &TenantName, item: Item) -> Result<(), AllocError>
+        ensures joined { OnOk result ((t : List ℕ) → items_of t self.new ≡ (if same t tenant.now then joined (items_of t self.old) item else items_of t self.old)) }
+        ensures err { OnErr result ((t : List ℕ) → items_of t self.new ≡ items_of t self.old) }
+    {
+        let held = self.tenants.entry(*tenant)?.or_insert(Held::new(alloc));
+        put_in(alloc, held, &mut self.rows, tenant, item)
+    }
+
+    /// Puts items of a tenant, as [`Book::put`] does one after the other. After an error, which is out of memory,
+    /// the first of them may be there; other tenants' items stay.
+    pub fn put_all(
+        &mut self,
+        alloc: Global,
+        tenant: &TenantName,
+        items: Vec<Item>,
+    ) -> Result<(), AllocError>
+        ensures joined { OnOk result ((t : List ℕ) → items_of t self.new ≡ (if same t tenant.now then all_joined (items_of t self.old) items.items else items_of t self.old)) }
+        ensures others { OnErr result ((t : List ℕ) → same t tenant.now ≡ false → items_of t self.new ≡ items_of t self.old) }
+    {
+        for item in items {
+            self.put(alloc, tenant, item)?;
+        }
+        Ok(())
+    }
+
+    /// Drops of every tenant what is retired at the moment. It takes no memory, and looks at no more than what it
+    /// drops and what retires next.
+    pub fn retire(&mut self, moment: Moment)
+        ensures { (t : List ℕ) → items_of t self.new ≡ filter (λ item. not (is_retired moment item)) (items_of t self.old) }
+    {
+        while let Some(row) = pop_retired(&mut self.rows, moment) {
+            remove_of(&mut self.tenants, &row);
+        }
+    }
+}
+
+// Puts an item of a tenant into what is held of it, and its row in the place of that of the item that it replaces.
+fn put_in(
+    alloc: Global,
+    held: &mut Held,
+    rows: &mut BTreeSet<Row>,
+    tenant: &TenantName,
+    item: Item,
+) -> Result<(), AllocError>
+    requires { (row : Row) → same row.tenant tenant.now ≡ true → has_row rows.old row ≡ tells row held.old }
+    ensures joined { OnOk result (held.new ≡ joined held.old item) }
+    ensures err { OnErr result (held.new ≡ held.old) }
+    ensures told { (row : Row) → has_row rows.new row ≡ (if same row.tenant tenant.now then tells row held.new else has_row rows.old row) }
+{
+    let key = item.thing.key(alloc)?;
+    match held.standing(&key) {
+        None => add(held, rows, tenant, key, item),
+        Some(old) if item.stamp.exceeds(&old.stamp) => {
+            replace(alloc, held, rows, tenant, key, old, item)
+        }
+        Some(_) => Ok(()),
+    }
+}
+
+// Puts an item whose key has none.
+fn add(
+    held: &mut Held,
+    rows: &mut BTreeSet<Row>,
+    tenant: &TenantName,
+    key: ThingKey,
+    item: Item,
+) -> Result<(), AllocError>
+    requires key { key ≡ key_of item }
+    requires absent { item_at key held.old ≡ None }
+    requires rising { IsRising held.old }
+    ensures joined { OnOk result (held.new ≡ joined held.old item) }
+    ensures err { OnErr result (held.new ≡ held.old) }
+    ensures row { OnOk result ((row : Row) → has_row rows.new row ≡ (if is_row_of tenant.now key (standing_of item) row then true else has_row rows.old row)) }
+    ensures rows { OnErr result ((row : Row) → has_row rows.new row ≡ has_row rows.old row) }
+{
+    let standing = item.standing();
+    held.put(item)?;
+    match remember(rows, tenant, standing, key) {
+        Ok(()) => Ok(()),
+        Err(refused) => {
+            held.remove(&refused.value.key);
+            Err(AllocError)
+        }
+    }
+}
+
+// Puts an item in the place of one with a smaller stamp, whose row is found by a key of its own. Once the new row is
+// there it doesn't fail.
+fn replace(
+    alloc: Global,
+    held: &mut Held,
+    rows: &mut BTreeSet<Row>,
+    tenant: &TenantName,
+    key: ThingKey,
+    old: Standing,
+    item: Item,
+) -> Result<(), AllocError>
+    requires key { key ≡ key_of item }
+    requires there { IsSome (item_at key held.old) }
+    ensures joined { OnOk result (held.new ≡ joined held.old item) }
+    ensures err { OnErr result (held.new ≡ held.old) }
+    ensures row { OnOk result ((row : Row) → has_row rows.new row ≡ (if is_row_of tenant.now key old row then false else (if is_row_of tenant.now key (standing_of item) row then true else has_row rows.old row))) }
+    ensures rows { OnErr result ((row : Row) → has_row rows.new row ≡ has_row rows.old row) }
+{
+    let own = item.thing.key(alloc)?;
+    remember(rows, tenant, item.standing(), key)?;
+    forget(rows, tenant, old, own);
+    held.put(item)
+}
+
+// Adds the row of what stands at a tenant's key. Where memory runs out no row is added, and the key comes back.
+fn remember(
+    rows: &mut BTreeSet<Row>,
+    tenant: &TenantName,
+    standing: Standing,
+    key: ThingKey,
+) -> Result<(), AllocFailed<Row>>
+    ensures row { OnOk result ((row : Row) → has_row rows.new row ≡ (if is_row_of tenant.now key standing row then true else has_row rows.old row)) }
+    ensures err { OnErr result (rows.new.keys ≡ rows.old.keys) }
+    ensures key { IfErr result (λ refused. refused.value.key ≡ key) }
+{
+    let Some(retires_at) = standing.retires_at else {
+        return Ok(());
+    };
+    let row = Row {
+        retires_at,
+        stamp: standing.stamp,
+        tenant: *tenant,
+        key,
+    };
+    match rows.insert(row) {
+        Ok(_) => Ok(()),
+        Err(refused) => Err(refused),
+    }
+}
+
+// Removes the row of what stood at a tenant's key.
+fn forget(rows: &mut BTreeSet<Row>, tenant: &TenantName, standing: Standing, key: ThingKey)
+    ensures { (row : Row) → has_row rows.new row ≡ (if is_row_of tenant.now key standing row then false else has_row rows.old row) }
+{
+    if let Some(retires_at) = standing.retires_at {
+        let row = Row {
+            retires_at,
+            stamp: standing.stamp,
+            tenant: *tenant,
+            key,
+        };
+        rows.remove(&row);
+    }
+}
+
+// Takes the first row, where its item is retired at the moment.
+fn pop_retired(rows: &mut BTreeSet<Row>, moment: Moment) -> Option<Row>
+    ensures none { IfNone result ((row : Row) → has_row rows.new row ≡ true → nat_le row.retires_at moment ≡ false) }
+    ensures stay { IfNone result (rows.new.keys ≡ rows.old.keys) }
+    ensures due { IfSome result (λ first. nat_le first.retires_at moment ≡ true) }
+    ensures there { IfSome result (λ first. has_row rows.old first ≡ true) }
+    ensures others { IfSome result (λ first. (row : Row) → has_row rows.new row ≡ (if same_row first row then false else has_row rows.old row)) }
+    ensures fewer { IfSome result (λ _. btree_set_len rows.new + 1 ≡ btree_set_len rows.old) }
+{
+    match rows.first() {
+        None => None,
+        Some(first) => {
+            if first.retires_at <= moment {
+                rows.pop_first()
+            } else {
+                None
+            }
+        }
+    }
+}
+
+// Removes the item of a row.
+fn remove_of(tenants: &mut BTreeMap<TenantName, Held>, row: &Row)
+    requires { AreHeld tenants.old }
+    ensures held { (t : List ℕ) → held_of t tenants.new ≡ (if same t row.now.tenant then filter (λ item. not (has_key row.now.key item)) (held_of t tenants.old) else held_of t tenants.old) }
+    ensures ordered { AreHeld tenants.new }
+{
+    if let Some(held) = tenants.get_mut(&row.tenant) {
+        held.remove(&row.key);
+    }
+}

@@ -1,0 +1,2 @@
+pub mod LabelSets
+pub mod Telling

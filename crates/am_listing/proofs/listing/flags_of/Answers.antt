@@ -1,0 +1,7 @@
+use Rattle.am_listing.proofs.Failures.{refused_pattern, unanswered_matcher}
+use Rattle.am_listing.proofs.listing.flags_of.Goals as goal
+
+pub returns-in-Err-Refused-clause-failure : goal.returns-in-Err-Refused-clause-failure
+returns-in-Err-Refused-clause-failure c =
+    λ stored. refused_pattern _ _ c.requires.patterns
+    (unanswered_matcher c.args.matchers.now _ _ c.in-Err-Refused.field-0-0 (rw c.in-Err-Refused.field-0-is at c.in-Err-Refused.ensures.failure))

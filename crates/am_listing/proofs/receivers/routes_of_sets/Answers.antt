@@ -1,0 +1,8 @@
+use Rattle.am_route.specs.Asked.{route_matchers}
+use Rattle.am_listing.proofs.Failures.{unanswered_matcher}
+use Rattle.am_listing.proofs.receivers.routes_of_sets.Goals as goal
+
+pub returns-in-Err-Refused-clause-failure : goal.returns-in-Err-Refused-clause-failure
+returns-in-Err-Refused-clause-failure c =
+    λ own. unanswered_matcher (route_matchers c.args.config.now.routes) _ _ c.in-Err-Refused.field-0-0
+    (rw c.in-Err-Refused.field-0-is at c.in-Err-Refused.ensures.failure)

@@ -1,0 +1,10 @@
+//! Why alerts aren't listed.
+
+/// Whose pattern gave no answer, so that no alert is listed.
+#[derive(Clone, Copy, Debug, PartialEq, Eq)]
+pub enum Unanswered {
+    /// One of the query.
+    Asked,
+    /// One of the configuration in use or of an active silence.
+    Stored,
+}

@@ -1,0 +1,50 @@
+use Rattle.std.proofs.Common.{◌≡◌, ◌∙◌, ap, rules}
+use Rattle.std.specs.BTreeMap.Entry.{map_with_value}
+use Rattle.std.specs.Option.{unwrap_or}
+use Rattle.std.proofs.lemmas.Result.{on_err_weaker, on_ok_weaker}
+use Rattle.am_members.specs.Grouped.{grouped_of}
+use Rattle.am_members.proofs.Tenants.{grouped_or, grouped_same, part_changed, part_kept}
+use Rattle.am_members.proofs.groups.Groups.rebuild.Goals as goal
+
+pub returns-clause-alerts : goal.returns-clause-alerts
+returns-clause-alerts c =
+    let entry = c.in_ok-self-inside.ensures in
+    let m = c.self.inside.tenants in
+    let own = c.args.tenant.now in
+    let now = c.rebuild.new.self in
+    let after = map_with_value c.in_ok-self-inside.field-0 now in
+    let found : c.or_insert-index.result.now ≡ grouped_of own m.entries = c.or_insert-index.ensures.value ∙ ap (λ o. unwrap_or o c.new.result) entry.value ∙ grouped_or own m.entries c.new.result c.new.ensures in
+    on_ok_weaker c.rebuild.result
+    (λ is t. rw (← c.self.view_is)
+    (grouped_same (λ x. x.alerts) t _ after.entries _
+    (part_changed m after own (λ x. x.alerts) (λ x. c.args.list.items) c.or_insert-index.result.now now (entry.update.0 now) found is t)
+    (search rules)))
+    c.rebuild.ensures.alerts
+
+pub returns-clause-flushes : goal.returns-clause-flushes
+returns-clause-flushes c t =
+    let entry = c.in_ok-self-inside.ensures in
+    let m = c.self.inside.tenants in
+    let own = c.args.tenant.now in
+    let now = c.rebuild.new.self in
+    let after = map_with_value c.in_ok-self-inside.field-0 now in
+    let found : c.or_insert-index.result.now ≡ grouped_of own m.entries = c.or_insert-index.ensures.value ∙ ap (λ o. unwrap_or o c.new.result) entry.value ∙ grouped_or own m.entries c.new.result c.new.ensures in
+    rw (← c.self.view_is)
+    (grouped_same (λ x. x.flushes) t _ after.entries _
+    (part_kept m after own (λ x. x.flushes) c.or_insert-index.result.now now (entry.update.0 now) found c.rebuild.ensures.flushes t)
+    (search rules))
+
+pub returns-clause-err : goal.returns-clause-err
+returns-clause-err c =
+    let entry = c.in_ok-self-inside.ensures in
+    let m = c.self.inside.tenants in
+    let own = c.args.tenant.now in
+    let now = c.rebuild.new.self in
+    let after = map_with_value c.in_ok-self-inside.field-0 now in
+    let found : c.or_insert-index.result.now ≡ grouped_of own m.entries = c.or_insert-index.ensures.value ∙ ap (λ o. unwrap_or o c.new.result) entry.value ∙ grouped_or own m.entries c.new.result c.new.ensures in
+    on_err_weaker c.rebuild.result
+    (λ is t. rw (← c.self.view_is)
+    (grouped_same (λ x. x.alerts) t _ after.entries _
+    (part_kept m after own (λ x. x.alerts) c.or_insert-index.result.now now (entry.update.0 now) found is t)
+    (search rules)))
+    c.rebuild.ensures.err

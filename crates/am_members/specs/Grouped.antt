@@ -1,0 +1,74 @@
+-- The groups of the alerts of a tenant, and of all tenants.
+use Rattle.std.specs.Prelude.{◌≡◌, ℕ, Bool, false, true, not, ◌&&◌, List, [], ◌∷◌, map, filter, Option, Some, None}
+use Rattle.std.specs.BTreeMap.{insert_entry}
+use Rattle.std.specs.List.{list_any}
+use Rattle.std.specs.List.Sorted.{IsStrictlySortedBy}
+use Rattle.std.specs.Map.{keys_of, lookup}
+use Rattle.std.specs.Option.{unwrap_or}
+use Rattle.am_tenant.specs.Names.{same}
+use Rattle.am_labels.specs.declared.Label.{Label}
+use Rattle.am_labels.specs.Labels.{labels_cmp}
+use Rattle.am_members.specs.declared.group.Group.{Group}
+use Rattle.am_members.specs.declared.known.Known.{Known}
+use Rattle.am_members.specs.Members.{is_bare}
+use Rattle.am_members.specs.Names.{is_group, without}
+
+-- what is grouped of a tenant: its alerts by label set, and by group the moment of the last flush
+pub record Grouped : Type 0 where
+  pub alerts : List (List Label × Known)
+  pub flushes : List (Group × ℕ)
+
+abbrev pub nothing : Grouped
+nothing = record { alerts = []; flushes = [] }
+
+-- the alert is in the group
+abbrev pub in_group : Group → Known → Bool
+in_group g known = list_any (is_group g) known.groups
+
+-- the members of a group: the alerts that are in it, in order of their label sets
+abbrev pub members : Group → List (List Label × Known) → List (List Label × ℕ)
+members g alerts = map (λ a. (a.0, a.1.since)) (filter (λ a. in_group g a.1) alerts)
+
+-- the alerts, with one at a label set in the place of any that stood there
+abbrev pub put_in : List Label → Known → List (List Label × Known) → List (List Label × Known)
+put_in l known alerts = insert_entry labels_cmp (without l alerts) l known
+
+-- the alerts, with several put one after the other
+abbrev pub put_all : List (List Label × Known) → List (List Label × Known) → List (List Label × Known)
+put_all [] alerts = alerts
+put_all (p ∷ puts) alerts = put_all puts (put_in p.0 p.1 alerts)
+
+-- the last flush of a group
+abbrev pub flush_of : Group → List (Group × ℕ) → Option ℕ
+flush_of g flushes = lookup (is_group g) flushes
+
+-- the group had members and has none
+abbrev pub lost : Group → (old new : List (List Label × Known)) → Bool
+lost g old new = not (is_bare (members g old)) && is_bare (members g new)
+
+-- the groups that an index has members of
+abbrev pub named_in : List (Group × List (List Label × ℕ)) → List Group
+named_in lists = keys_of (filter (λ e. not (is_bare e.1)) lists)
+
+-- what is listed of a group, where the list may lack it
+abbrev pub listed : Option (List (List Label × ℕ)) → List (List Label × ℕ)
+listed None = []
+listed (Some ms) = ms
+
+-- the members that an index has of a group
+abbrev pub held_at : Group → List (Group × List (List Label × ℕ)) → List (List Label × ℕ)
+held_at g groups = listed (lookup (is_group g) groups)
+
+-- an index has of each group exactly its members
+pub record AreGrouped (alerts : List (List Label × Known)) (groups : List (Group × List (List Label × ℕ))) : Type 0 where
+  pub rising : IsStrictlySortedBy labels_cmp (keys_of alerts)
+  pub held : (g : Group) → held_at g groups ≡ members g alerts
+
+-- the same, and where nothing is left to sweep, a group without members has no flush
+pub record IsIndex (alerts : List (List Label × Known)) (groups : List (Group × List (List Label × ℕ))) (flushes : List (Group × ℕ)) (unswept : Bool) : Type 0 where
+  pub grouped : AreGrouped alerts groups
+  pub swept : unswept ≡ false → (g : Group) → is_bare (members g alerts) ≡ true → flush_of g flushes ≡ None
+
+-- what is grouped of a tenant
+unfoldable pub grouped_of : List ℕ → List (List ℕ × Grouped) → Grouped
+grouped_of t pairs = unwrap_or (lookup (λ s. same t s) pairs) nothing

@@ -1,0 +1,27 @@
+ghost use Rattle.std.specs.Prelude.{◌≡◌, IfOk};
+
+use am_labels::LabelSet;
+use std::alloc::AllocError;
+
+/// The name of a group of alerts: a route, and the labels that the route groups its members by.
+///
+/// Groups are ordered by their routes, then by their labels.
+#[derive(Debug, PartialEq, Eq, PartialOrd, Ord, Drop)]
+pub struct Group {
+    /// The number of the route.
+    pub route: usize,
+    /// The labels that the members have in common.
+    pub labels: LabelSet,
+}
+
+impl Group {
+    /// A copy of the name.
+    pub fn copy(&self) -> Result<Group, AllocError>
+        ensures { IfOk result (λ group. group ≡ self.now) }
+    {
+        Ok(Group {
+            route: self.route,
+            labels: self.labels.copy()?,
+        })
+    }
+}

@@ -1,0 +1,232 @@
+//! The groups of all tenants.
+
+ghost use Rattle.std.specs.Prelude.{◌≡◌, ◌&&◌, ℕ, List, IfOk, false, not, None, OnErr, OnOk, Some, if◌then◌else◌};
+ghost use Rattle.std.specs.List.{list_any};
+ghost use Rattle.std.specs.List.Sorted.{IsStrictlySortedBy};
+ghost use Rattle.std.specs.Map.{keys_of, lookup};
+ghost use Rattle.std.specs.Option.{option_and_then, option_copied};
+ghost use Rattle.am_tenant.specs.Names.{same};
+ghost use Rattle.am_share.specs.Pairs.{Drops};
+ghost use Rattle.am_labels.specs.Labels.{labels_cmp};
+ghost use Rattle.am_members.specs.Grouped.{Grouped, flush_of, grouped_of, listed, lost, members, nothing, put_in};
+ghost use Rattle.am_members.specs.Members.{is_bare, least_of};
+ghost use Rattle.am_members.specs.Names.{group_cmp, is_group, is_set, without};
+ghost use Rattle.am_members.specs.declared.group.Group.{Group as Name};
+
+use crate::group::Group;
+use crate::index::Index;
+use crate::known::Known;
+use crate::members::Members;
+use am_labels::LabelSet;
+use am_share::{ShareRefusal, Shared};
+use am_tenant::TenantName;
+use am_text::{Failure, Moment};
+use std::alloc::{AllocError, Global};
+use std::collections::BTreeMap;
+use std::marker::Model;
+
+/// The alerts of all tenants by label set, the members of their groups, and the last flush of each group.
+///
+/// A call for one tenant leaves what is grouped of all others.
+#[derive(Drop)]
+pub struct Groups {
+    tenants: BTreeMap<TenantName, Index>,
+}
+
+impl Model for Groups {
+    ghost use Rattle.std.specs.Prelude.{ℕ, List};
+    ghost use Rattle.am_members.specs.Grouped.{Grouped};
+
+    ghost Value = { List (List ℕ × Grouped) };
+
+    ghost view = { λ groups. groups.tenants.entries };
+}
+
+impl Groups {
+    /// No groups.
+    #[tactic(auto, unfolding(crate::specs::Grouped::grouped_of))]
+    pub fn new(alloc: Global) -> Groups
+        ensures { (t : List ℕ) → grouped_of t result ≡ nothing }
+    {
+        Groups {
+            tenants: BTreeMap::new(alloc),
+        }
+    }
+
+    /// What is kept of a tenant's alert; `None` where none of these labels is held.
+    pub fn known(&self, tenant: &TenantName, labels: &LabelSet) -> Option<&Known>
+        ensures { option_copied result ≡ lookup (is_set labels.now) (grouped_of tenant.now self.now).alerts }
+    {
+        self.tenants.get(tenant)?.known(labels)
+    }
+
+    /// The members of a group, which are the alerts that are in it; `None` where it has none.
+    pub fn members(&self, tenant: &TenantName, group: &Group) -> Option<&Members>
+        ensures { listed (option_copied result) ≡ members group.now (grouped_of tenant.now self.now).alerts }
+    {
+        self.tenants.get(tenant)?.members(group)
+    }
+
+    /// The groups of a tenant that have members, in order of route and labels.
+    pub fn groups(&self, alloc: Global, tenant: &TenantName) -> Result<Vec<Group>, AllocError>
+        ensures rising { IfOk result (λ v. IsStrictlySortedBy group_cmp v.items) }
+        ensures each { IfOk result (λ v. (q : Name) → list_any (is_group q) v.items ≡ not (is_bare (members q (grouped_of tenant.now self.now).alerts))) }
+    {
+        match self.tenants.get(tenant) {
+            Some(index) => index.groups(alloc),
+            None => Ok(Vec::new(alloc)),
+        }
+    }
+
+    /// The least moment since which a member of the group is held; `None` where it has none.
+    pub fn least_since(&self, tenant: &TenantName, group: &Group) -> Option<Moment>
+        ensures { result ≡ least_of (members group.now (grouped_of tenant.now self.now).alerts) }
+    {
+        self.members(tenant, group)?.least_since()
+    }
+
+    /// The moment of the group's last flush; `None` where it had none, or it was forgotten.
+    pub fn last_flush(&self, tenant: &TenantName, group: &Group) -> Option<Moment>
+        ensures { result ≡ flush_of group.now (grouped_of tenant.now self.now).flushes }
+    {
+        self.tenants.get(tenant)?.last_flush(group)
+    }
+
+    /// Puts an alert in the place of any of the tenant that has its labels. Flushes stay, also those of groups that have
+    /// no member now: [`Groups::forget_empty`] forgets them.
+    ///
+    /// After an error, which is out of memory, there may be nothing left of the tenant.
+    pub fn put(
+        &mut self,
+        alloc: Global,
+        tenant: &TenantName,
+        labels: &LabelSet,
+        known: Known,
+    ) -> Result<(), AllocError>
+        ensures alerts { OnOk result ((t : List ℕ) → (grouped_of t self.new).alerts ≡ (if same t tenant.now then put_in labels.now known (grouped_of t self.old).alerts else (grouped_of t self.old).alerts)) }
+        ensures flushes { OnOk result ((t : List ℕ) → (grouped_of t self.new).flushes ≡ (grouped_of t self.old).flushes) }
+        ensures others { OnErr result ((t : List ℕ) → same t tenant.now ≡ false → grouped_of t self.new ≡ grouped_of t self.old) }
+    {
+        let index = self.tenants.entry(*tenant)?.or_insert(Index::new(alloc));
+        index.put(alloc, labels, known)
+    }
+
+    /// Removes a tenant's alert, and the flushes of the groups that lose their last member by it. It takes no memory.
+    ///
+    /// Answers what was kept of the alert; its groups are those that have changed.
+    pub fn remove(&mut self, tenant: &TenantName, labels: &LabelSet) -> Option<Known>
+        ensures known { result ≡ lookup (is_set labels.now) (grouped_of tenant.now self.old).alerts }
+        ensures alerts { (t : List ℕ) → (grouped_of t self.new).alerts ≡ (if same t tenant.now then without labels.now (grouped_of t self.old).alerts else (grouped_of t self.old).alerts) }
+        ensures flushes { (t : List ℕ) (q : Name) → flush_of q (grouped_of t self.new).flushes ≡ (if same t tenant.now && lost q (grouped_of t self.old).alerts (without labels.now (grouped_of t self.old).alerts) then None else flush_of q (grouped_of t self.old).flushes) }
+    {
+        remove_of(&mut self.tenants, tenant, labels)
+    }
+
+    /// The last flush of a tenant's group, which has members, is that at this moment.
+    ///
+    /// An error, which is out of memory, leaves all as it was.
+    pub fn flush_at(
+        &mut self,
+        tenant: &TenantName,
+        group: &Group,
+        moment: Moment,
+    ) -> Result<(), AllocError>
+        requires { is_bare (members group.now (grouped_of tenant.now self.old).alerts) ≡ false }
+        ensures flushes { OnOk result ((t : List ℕ) (q : Name) → flush_of q (grouped_of t self.new).flushes ≡ (if same t tenant.now && is_group q group.now then Some moment else flush_of q (grouped_of t self.old).flushes)) }
+        ensures alerts { (t : List ℕ) → (grouped_of t self.new).alerts ≡ (grouped_of t self.old).alerts }
+        ensures err { OnErr result ((t : List ℕ) → (grouped_of t self.new).flushes ≡ (grouped_of t self.old).flushes) }
+    {
+        flush_of_tenant(&mut self.tenants, tenant, group, moment)
+    }
+
+    /// Puts these alerts, in the order of their labels, in the place of all that the tenant has. Flushes stay, also those
+    /// of groups that have no member now: [`Groups::forget_empty`] forgets them.
+    ///
+    /// An error, which is out of memory, leaves all as it was.
+    pub fn rebuild(
+        &mut self,
+        alloc: Global,
+        tenant: &TenantName,
+        list: Vec<(LabelSet, Known)>,
+    ) -> Result<(), AllocError>
+        requires { IsStrictlySortedBy labels_cmp (keys_of list.items) }
+        ensures alerts { OnOk result ((t : List ℕ) → (grouped_of t self.new).alerts ≡ (if same t tenant.now then list.items else (grouped_of t self.old).alerts)) }
+        ensures flushes { (t : List ℕ) → (grouped_of t self.new).flushes ≡ (grouped_of t self.old).flushes }
+        ensures err { OnErr result ((t : List ℕ) → (grouped_of t self.new).alerts ≡ (grouped_of t self.old).alerts) }
+    {
+        let index = self.tenants.entry(*tenant)?.or_insert(Index::new(alloc));
+        index.rebuild(alloc, list)
+    }
+
+    /// Forgets the flushes of a tenant's groups that have no members. It takes no memory, and goes over the flushes only
+    /// where a group can have lost its members otherwise than by [`Groups::remove`].
+    pub fn forget_empty(&mut self, tenant: &TenantName)
+        ensures flushes { (t : List ℕ) (q : Name) → flush_of q (grouped_of t self.new).flushes ≡ (if same t tenant.now && is_bare (members q (grouped_of t self.old).alerts) then None else flush_of q (grouped_of t self.old).flushes) }
+        ensures alerts { (t : List ℕ) → (grouped_of t self.new).alerts ≡ (grouped_of t self.old).alerts }
+    {
+        sweep_of(&mut self.tenants, tenant);
+    }
+
+    /// Drops all that is grouped of a tenant. It takes no memory.
+    pub fn clear(&mut self, tenant: &TenantName)
+        ensures grouped { (t : List ℕ) → grouped_of t self.new ≡ (if same t tenant.now then nothing else grouped_of t self.old) }
+        ensures dropped { Drops tenant.now self.old self.new }
+    {
+        self.tenants.remove(tenant);
+    }
+}
+
+/// Of a tenant it holds one thing: what is grouped of it.
+impl Shared for Groups {
+    ghost Thing = { Grouped };
+
+    ghost pairs = { λ groups. groups };
+
+    ghost stands = { λ _. Unit {0} };
+
+    fn drop_tenant(&mut self, tenant: &TenantName) -> Result<(), Failure<ShareRefusal>> {
+        self.clear(tenant);
+        Ok(())
+    }
+}
+
+fn remove_of(
+    tenants: &mut BTreeMap<TenantName, Index>,
+    tenant: &TenantName,
+    labels: &LabelSet,
+) -> Option<Known>
+    ensures known { result ≡ lookup (is_set labels.now) (grouped_of tenant.now tenants.old.entries).alerts }
+    ensures alerts { (t : List ℕ) → (grouped_of t tenants.new.entries).alerts ≡ (if same t tenant.now then without labels.now (grouped_of t tenants.old.entries).alerts else (grouped_of t tenants.old.entries).alerts) }
+    ensures flushes { (t : List ℕ) (q : Name) → flush_of q (grouped_of t tenants.new.entries).flushes ≡ (if same t tenant.now && lost q (grouped_of t tenants.old.entries).alerts (without labels.now (grouped_of t tenants.old.entries).alerts) then None else flush_of q (grouped_of t tenants.old.entries).flushes) }
+{
+    match tenants.get_mut(tenant) {
+        Some(index) => index.remove(labels),
+        None => None,
+    }
+}
+
+fn flush_of_tenant(
+    tenants: &mut BTreeMap<TenantName, Index>,
+    tenant: &TenantName,
+    group: &Group,
+    moment: Moment,
+) -> Result<(), AllocError>
+    requires { is_bare (members group.now (grouped_of tenant.now tenants.old.entries).alerts) ≡ false }
+    ensures flushes { OnOk result ((t : List ℕ) (q : Name) → flush_of q (grouped_of t tenants.new.entries).flushes ≡ (if same t tenant.now && is_group q group.now then Some moment else flush_of q (grouped_of t tenants.old.entries).flushes)) }
+    ensures alerts { (t : List ℕ) → (grouped_of t tenants.new.entries).alerts ≡ (grouped_of t tenants.old.entries).alerts }
+    ensures err { OnErr result ((t : List ℕ) → (grouped_of t tenants.new.entries).flushes ≡ (grouped_of t tenants.old.entries).flushes) }
+{
+    match tenants.get_mut(tenant) {
+        Some(index) => index.flush_at(group, moment),
+        None => Ok(()),
+    }
+}
+
+fn sweep_of(tenants: &mut BTreeMap<TenantName, Index>, tenant: &TenantName)
+    ensures flushes { (t : List ℕ) (q : Name) → flush_of q (grouped_of t tenants.new.entries).flushes ≡ (if same t tenant.now && is_bare (members q (grouped_of t tenants.old.entries).alerts) then None else flush_of q (grouped_of t tenants.old.entries).flushes) }
+    ensures alerts { (t : List ℕ) → (grouped_of t tenants.new.entries).alerts ≡ (grouped_of t tenants.old.entries).alerts }
+{
+    if let Some(index) = tenants.get_mut(tenant) {
+        index.forget_empty();
+    }
+}

@@ -1,0 +1,24 @@
+use Rattle.std.proofs.Common.{sym, ap, ◌∙◌, refl}
+use Rattle.am_outlet.specs.Attempts.{Desk, after_outcome, outcome_of}
+use Rattle.am_outlet.proofs.Seen.{each_none, each_written, no_desk, others_stay, own_desk}
+use Rattle.am_outlet.proofs.attempts.Attempts.outcome.Goals as goal
+
+pub returns-in_default-clause-outcome : goal.returns-in_default-clause-outcome
+returns-in_default-clause-outcome c = rw (← c.self.view_is) (sym (ap (λ (d : Desk). outcome_of c.args.number c.args.tries c.args.moment c.args.status d.open_ones) (no_desk c.self.inside.desks c.args.tenant.now c.self.invariant c.in_default.ensures.value)))
+
+pub returns-in_default-clause-each : goal.returns-in_default-clause-each
+returns-in_default-clause-each c =
+    rw (c.get_mut.follows.holds-at-none, ← c.self.view_is) (each_none c.self.inside.desks c.args.tenant.now (after_outcome c.args.number c.args.tries c.args.moment c.args.status) c.self.invariant c.in_default.ensures.value refl)
+
+pub returns-clause-outcome : goal.returns-clause-outcome
+returns-clause-outcome c =
+    rw (← c.self.view_is) (c.outcome.ensures.outcome ∙ sym (ap (λ (d : Desk). outcome_of c.args.number c.args.tries c.args.moment c.args.status d.open_ones) (own_desk c.self.inside.desks c.args.tenant.now c.in-Some.desk.now c.self.invariant c.in-Some.ensures.value)))
+
+pub returns-clause-each : goal.returns-clause-each
+returns-clause-each c =
+    let now = c.outcome.new.self in
+    rw (← c.self.view_is) (each_written c.self.inside.desks (c.get_mut.follows.lender now) c.args.tenant.now (after_outcome c.args.number c.args.tries c.args.moment c.args.status) c.self.invariant c.in-Some.desk.now now
+    c.in-Some.ensures.value (c.get_mut.follows.holds now) c.outcome.ensures.desk)
+
+pub returns-clause-others : goal.returns-clause-others
+returns-clause-others c = others_stay c.args.tenant.now _ _ (after_outcome c.args.number c.args.tries c.args.moment c.args.status) (returns-clause-each c)

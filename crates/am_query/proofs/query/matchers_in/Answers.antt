@@ -1,0 +1,25 @@
+use Rattle.std.proofs.lemmas.Result.{err_from_is_err_and}
+use Rattle.am_pattern.proofs.AskingLemmas.{asked-after, asked-refl, stays-trans}
+use Rattle.am_query.proofs.QueryLemmas.{all_done, own_failed, own_more}
+use Rattle.am_query.proofs.query.matchers_in.Goals as goal
+
+pub returns-in_err-own-clause-read : goal.returns-in_err-own-clause-read
+returns-in_err-own-clause-read c =
+    let p = err_from_is_err_and c.from_residual.result c.from_residual.ensures.1 in
+    rw (p.1, p.2)
+    (own_failed _ _ _ c.parameter-item.result _ _ c.loop-parameter-test.true c.parameter-item.is c.loop-parameter.invariant.so_far
+    c.in_err-own.ensures.read)
+
+pub returns-in_err-append-clause-asked : goal.returns-in_err-append-clause-asked
+returns-in_err-append-clause-asked c =
+    asked-after _ _ _ _ (stays-trans _ _ _ c.loop-parameter.invariant.stays c.in_ok-own.ensures.asked) (asked-refl _ _)
+
+pub loop-parameter-preserved : goal.loop-parameter-preserved
+loop-parameter-preserved c = record {
+  so_far = own_more _ _ c.parameter-item.result _ _ _ c.loop-parameter-test.true c.parameter-item.is c.loop-parameter.invariant.so_far
+      c.in_ok-own.ensures.read c.in_ok-append.ensures.items;
+  stays = stays-trans _ _ _ c.loop-parameter.invariant.stays c.in_ok-own.ensures.asked;
+}
+
+pub returns-clause-read : goal.returns-clause-read
+returns-clause-read c = all_done _ _ _ c.loop-parameter-test.false c.loop-parameter.invariant.so_far

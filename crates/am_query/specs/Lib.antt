@@ -1,0 +1,6 @@
+-- what a query asks
+pub mod Queries
+-- the patterns of queries
+pub mod Patterns
+-- what is returned where a build was refused
+pub mod Unbuilt

@@ -1,0 +1,11 @@
+//! What the query of a request asks of the alerts or of the silences.
+#![tactic(auto)]
+
+mod query;
+mod refusal;
+
+pub use query::{Query, read_filters, read_query};
+pub use refusal::QueryRefusal;
+
+#[cfg(test)]
+mod tests;

@@ -1,0 +1,5 @@
+pub mod Timer
+pub mod KeyTotal
+pub mod Queue
+pub mod Tied
+pub mod Calls
