@@ -19,13 +19,11 @@ use Rattle.am_item.specs.declared.item.Item.{Item}
 use Rattle.am_alert.specs.declared.maker.Maker.{Maker}
 use Rattle.am_api.specs.declared.decision.Decided.{Decided}
 use Rattle.am_api.specs.Deciding.{Decides, DecidesUnless}
-use Rattle.am_http.specs.declared.request.Endpoint.{Endpoint}
-use Rattle.am_http.specs.declared.request.Endpoint.TheVariants.{Configuration}
-use Rattle.am_http.specs.declared.request.Method.TheVariants.{Post}
-use Rattle.am_http.specs.declared.request.Request.{Request}
-use Rattle.am_api.specs.Decision.{accepted_or_refused, configuration_decided, configuration_posted, decided_by, refused as refused_with, status_of}
-use Rattle.am_api.specs.Patterns.{HasRefused, patterns_by, patterns_of_document}
-use Rattle.am_api.proofs.Builds.{decides_unless, rightly_or_refused}
+use Rattle.am_query.specs.Patterns.{HasRefused}
+use Rattle.am_query.proofs.Builds.{rightly_or_refused}
+use Rattle.am_api.specs.Decision.{accepted_or_refused, configuration_posted, status_of}
+use Rattle.am_api.specs.Replied.{refused as refused_with}
+use Rattle.am_api.proofs.Builds.{decides_unless}
 
 -- a refusal of a matcher
 abbrev pub IsOfMatcher : ConfigRefusal → Type 0
@@ -63,21 +61,6 @@ by_refusal refused own stored refusal held moment maker outcome (Ok d) (inr (inr
 by_refusal refused own stored refusal held moment maker outcome (Err CountsExhausted) (inr either) decides = absurd (cc)
 by_refusal refused own stored refusal held moment maker outcome (Err OutOfMemory) (inr either) decides = tt
 by_refusal refused own stored refusal held moment maker outcome (Err PatternNotBuilt) (inr either) decides = absurd decides
-
--- the decision on a posted document, as that on its request
-pub posted_decides : (refused stored : List (List ℕ)) (result : Result Decided Fault) (request : Request) (held : List Item) (limits : Limits)
-    (moment : ℕ) (maker : Maker) (document : List ℕ) → request.method ≡ Post → document ≡ request.body →
-    DecidesUnless refused (patterns_of_draft (posted document)) stored result (configuration_posted limits held moment maker document) →
-    DecidesUnless refused (patterns_of_document request.method request) stored result (configuration_decided request request.method held limits moment maker)
-posted_decides refused stored result request held limits moment maker document method body decides = rw method (rw body at decides)
-
--- and that on a request to the configuration, as that on all requests
-pub configuration_decides : (refused stored : List (List ℕ)) (result : Result Decided Fault) (request : Request) (c : config.Configuration) (held : List Item) (limits : Limits)
-    (moment : ℕ) (maker : Maker) → request.endpoint ≡ Configuration →
-    DecidesUnless refused (patterns_of_document request.method request) stored result (configuration_decided request request.method held limits moment maker) →
-    DecidesUnless refused (patterns_by request.endpoint request) stored result (decided_by c request request.endpoint held limits moment maker)
-configuration_decides refused stored result request c held limits moment maker endpoint decides =
-    subst (λ (e : Endpoint). DecidesUnless refused (patterns_by e request) stored result (decided_by c request e held limits moment maker)) (sym endpoint) decides
 
 -- a document within the limit that is refused
 pub refusal_decides : (old new : Cache) (refusal : ConfigRefusal) (limits : Limits) (held : List Item) (moment : ℕ) (maker : Maker) (document : List ℕ) →

@@ -20,11 +20,22 @@ use Rattle.am_draft.specs.Drafts as drafts
 use Rattle.am_item.specs.Best.{item_at}
 use Rattle.am_item.specs.declared.key.ThingKey.TheVariants.{Configuration as ConfigurationKey}
 use Rattle.am_current.specs.Current.{configuration_in}
-use Rattle.am_api.specs.declared.query.Query.{Query}
-use Rattle.am_api.specs.declared.refusal.QueryRefusal.{QueryRefusal}
+use Rattle.am_match.specs.Matchers.{MatcherText}
+use Rattle.am_silence.specs.Changing as changing
+use Rattle.am_silence.specs.Held.{SilenceValue}
+use Rattle.am_silence.specs.Posted as silences
+use Rattle.am_silence.specs.declared.refusal.SilenceRefusal.{SilenceRefusal}
+use Rattle.am_words.specs.Draws.{new_id}
+use Rattle.am_words.specs.Ids.{id_in}
+use Rattle.am_words.specs.Words.{words_in}
+use Rattle.rand_chacha.specs.ChaCha.{ChaCha}
+use Rattle.am_query.specs.declared.query.Query.{Query}
+use Rattle.am_query.specs.declared.refusal.QueryRefusal.{QueryRefusal}
+use Rattle.am_query.specs.Queries.{filters_in, query_in}
 use Rattle.am_api.specs.Deciding.{AreCounted}
-use Rattle.am_api.specs.Decision.{Decision, accepted_or_refused, alerts_decided, configuration_decided, count_with, decided, decided_by, listed_or_refused, read_or_none, receivers_decided, stored_or_refused, text_at}
-use Rattle.am_api.specs.Queries.{query_in}
+use Rattle.am_api.specs.Decision.{accepted_or_refused, alerts_decided, configuration_decided, count_with, decided, decided_by, listed_or_refused, read_or_none, receivers_decided, stored_or_refused, text_at}
+use Rattle.am_api.specs.Replied.{Decision, stored}
+use Rattle.am_api.specs.Silences as silencing
 
 -- items with one count after another leave room, where none is past the greatest
 room_more : (used more : ℕ) → used + 1 ≤ greatest_count → (0 < more → used + 1 + more ≤ greatest_count) → used + (1 + more) ≤ greatest_count
@@ -56,7 +67,7 @@ counted_from held moment maker [] = tt
 counted_from held moment maker (alert ∷ posted) = (refl, counted_from held moment (record maker { used = maker.used + 1 }) posted)
 
 counted_within : (past : Bool) (held : List Item) (moment : ℕ) (maker : Maker) (posted : List Alert) (decision : Decision) → decision.items ≡ [] →
-    AreCounted maker.used (let chosen : Decision = if past then decision else record { items = made held moment maker posted; status = 200; body = [] } in chosen.items)
+    AreCounted maker.used (let chosen : Decision = if past then decision else stored (made held moment maker posted) 200 [] in chosen.items)
 unfolding made
 counted_within true held moment maker posted decision none = rw none tt
 counted_within false held moment maker posted decision none = counted_from held moment maker (last_of_each posted)
@@ -103,24 +114,85 @@ counted_receivers c Get used = tt
 counted_receivers c Post used = tt
 counted_receivers c Delete used = tt
 
-counted_by : (c : config.Configuration) (request : Request) (endpoint : Endpoint) (held : List Item) (limits : Limits) (moment : ℕ) (maker : Maker) →
-    AreCounted maker.used (decided_by c request endpoint held limits moment maker).items
-counted_by c request Alerts held limits moment maker = counted_alerts c request request.method held limits moment maker
-counted_by c request AlertGroups held limits moment maker = tt
-counted_by c request Silences held limits moment maker = tt
-counted_by c request (Silence id) held limits moment maker = tt
-counted_by c request Receivers held limits moment maker = counted_receivers c request.method maker.used
-counted_by c request Configuration held limits moment maker = counted_configuration request request.method held limits moment maker
+-- ---- silences
+
+counted_items : (maker : Maker) (ws : List changing.Write) → AreCounted maker.used (silencing.silence_items maker ws)
+unfolding silencing.silence_items
+counted_items maker [] = tt
+counted_items maker (w ∷ ws) = (refl, counted_items (record maker { used = maker.used + 1 }) ws)
+
+counted_new : (maker : Maker) (change : changing.Changed) (id : Option (List ℕ)) → AreCounted maker.used (silencing.new_stored maker change id).items
+counted_new maker change None = tt
+counted_new maker change (Some id) = counted_items maker (changing.writes_of change id)
+
+counted_identified : (held : List Item) (maker : Maker) (words : ChaCha) (change : changing.Changed) (id : Option (List ℕ)) →
+    AreCounted maker.used (silencing.identified held maker words change id).items
+counted_identified held maker words change None = counted_new maker change (new_id (words_in words) words.word_pos held)
+counted_identified held maker words change (Some id) = counted_items maker (changing.writes_of change id)
+
+counted_changed : (limit : ℕ) (held : List Item) (moment : ℕ) (maker : Maker) (words : ChaCha) (outcome : Result changing.Changed SilenceRefusal) →
+    AreCounted maker.used (silencing.changed_or_refused limit held moment maker words outcome).items
+counted_changed limit held moment maker words (Ok change) =
+    counted_document (nat_lt limit (silencing.count_with moment held change)) maker.used _ (silencing.identified held maker words change change.id) refl
+    (counted_identified held maker words change change.id)
+counted_changed limit held moment maker words (Err reason) = tt
+
+counted_silence : (limit : ℕ) (held : List Item) (moment : ℕ) (maker : Maker) (words : ChaCha) (outcome : Result silences.Posted SilenceRefusal) →
+    AreCounted maker.used (silencing.posted_or_refused limit held moment maker words outcome).items
+counted_silence limit held moment maker words (Ok posted) = counted_changed limit held moment maker words (silencing.change_by held moment posted)
+counted_silence limit held moment maker words (Err reason) = tt
+
+counted_having : (held : List Item) (moment used : ℕ) (outcome : Result (List MatcherText) QueryRefusal) → AreCounted used (silencing.silences_or_refused held moment outcome).items
+counted_having held moment used (Ok wanted) = tt
+counted_having held moment used (Err reason) = tt
+
+counted_silences : (request : Request) (method : Method) (held : List Item) (limits : Limits) (moment : ℕ) (maker : Maker) (words : ChaCha) →
+    AreCounted maker.used (silencing.silences_decided request method held limits moment maker words).items
+counted_silences request Get held limits moment maker words = counted_having held moment maker.used (filters_in request.query)
+counted_silences request Post held limits moment maker words =
+    counted_document (nat_lt limits.silence (length request.body)) maker.used _
+    (silencing.posted_or_refused limits.silences held moment maker words (silences.posted moment request.body)) refl
+    (counted_silence limits.silences held moment maker words (silences.posted moment request.body))
+counted_silences request Delete held limits moment maker words = tt
+
+counted_found : (moment used : ℕ) (found : Option SilenceValue) → AreCounted used (silencing.read_or_unknown moment found).items
+counted_found moment used None = tt
+counted_found moment used (Some silence) = tt
+
+counted_expiry : (maker : Maker) (outcome : Result changing.Write SilenceRefusal) → AreCounted maker.used (silencing.expiry_or_refused maker outcome).items
+counted_expiry maker (Ok w) = counted_items maker (w ∷ [])
+counted_expiry maker (Err reason) = tt
+
+counted_deleted : (held : List Item) (moment : ℕ) (maker : Maker) (id : Option (List ℕ)) → AreCounted maker.used (silencing.deleted_or_unknown held moment maker id).items
+counted_deleted held moment maker None = tt
+counted_deleted held moment maker (Some id) = counted_expiry maker (changing.deleted held id moment)
+
+counted_one : (text : List ℕ) (method : Method) (held : List Item) (moment : ℕ) (maker : Maker) →
+    AreCounted maker.used (silencing.silence_decided text method held moment maker).items
+counted_one text Get held moment maker = counted_found moment maker.used (silencing.silence_named text held)
+counted_one text Post held moment maker = tt
+counted_one text Delete held moment maker = counted_deleted held moment maker (id_in text)
+
+-- ---- all requests
+
+counted_by : (c : config.Configuration) (request : Request) (endpoint : Endpoint) (held : List Item) (limits : Limits) (moment : ℕ) (maker : Maker) (words : ChaCha) →
+    AreCounted maker.used (decided_by c request endpoint held limits moment maker words).items
+counted_by c request Alerts held limits moment maker words = counted_alerts c request request.method held limits moment maker
+counted_by c request AlertGroups held limits moment maker words = tt
+counted_by c request Silences held limits moment maker words = counted_silences request request.method held limits moment maker words
+counted_by c request (Silence text) held limits moment maker words = counted_one text request.method held moment maker
+counted_by c request Receivers held limits moment maker words = counted_receivers c request.method maker.used
+counted_by c request Configuration held limits moment maker words = counted_configuration request request.method held limits moment maker
 
 -- the items of a decision have one count after another
-pub counted : (request : Request) (held : List Item) (limits : Limits) (moment : ℕ) (maker : Maker) →
-    AreCounted maker.used (decided request held limits moment maker).items
+pub counted : (request : Request) (held : List Item) (limits : Limits) (moment : ℕ) (maker : Maker) (words : ChaCha) →
+    AreCounted maker.used (decided request held limits moment maker words).items
 unfolding decided
-counted request held limits moment maker = counted_by (configuration_in held) request request.endpoint held limits moment maker
+counted request held limits moment maker words = counted_by (configuration_in held) request request.endpoint held limits moment maker words
 
 -- and leave room where they fit
-pub room : (request : Request) (held : List Item) (limits : Limits) (moment : ℕ) (maker : Maker) →
-    counts_fit (decided request held limits moment maker).items ≡ true → 0 < length (decided request held limits moment maker).items →
-    maker.used + length (decided request held limits moment maker).items ≤ greatest_count
-room request held limits moment maker fit some =
-    room_counted maker.used (decided request held limits moment maker).items (counted request held limits moment maker) fit some
+pub room : (request : Request) (held : List Item) (limits : Limits) (moment : ℕ) (maker : Maker) (words : ChaCha) →
+    counts_fit (decided request held limits moment maker words).items ≡ true → 0 < length (decided request held limits moment maker words).items →
+    maker.used + length (decided request held limits moment maker words).items ≤ greatest_count
+room request held limits moment maker words fit some =
+    room_counted maker.used (decided request held limits moment maker words).items (counted request held limits moment maker words) fit some

@@ -1,4 +1,4 @@
--- The replies to requests that list alerts.
+-- The replies to requests whose patterns are refused.
 use Rattle.std.proofs.Common.{◌≡◌, ◌⊎◌, ℕ, List, Result, Ok, Err, ap, ◌∙◌, inl, inr}
 use Rattle.std.specs.Prelude.{codes}
 use Rattle.am_item.specs.declared.fault.Fault.{Fault}
@@ -6,12 +6,21 @@ use Rattle.am_item.specs.declared.fault.Fault.TheVariants.{CountsExhausted, OutO
 use Rattle.am_item.specs.declared.item.Item.{Item}
 use Rattle.am_config.specs.Configuration.{Configuration}
 use Rattle.am_api.specs.declared.decision.Decided.{Decided}
-use Rattle.am_api.specs.declared.query.Query.{Query}
-use Rattle.am_api.specs.declared.refusal.QueryRefusal.{QueryRefusal}
-use Rattle.am_api.specs.Deciding.{Decides, DecidesUnless, IsUnbuiltRefusal}
-use Rattle.am_api.specs.Decision.{Decision, listed_or_refused, refused as refused_with}
-use Rattle.am_api.specs.Patterns.{HasRefused}
-use Rattle.am_api.specs.Queries.{code_of, status_of}
+use Rattle.am_match.specs.Matchers.{MatcherText}
+use Rattle.am_query.specs.declared.query.Query.{Query}
+use Rattle.am_query.specs.declared.refusal.QueryRefusal.{QueryRefusal}
+use Rattle.am_query.specs.Patterns.{HasRefused}
+use Rattle.am_query.specs.Queries.{code_of, status_of}
+use Rattle.am_query.specs.Unbuilt.{IsUnbuiltRefusal}
+use Rattle.am_silence.specs.Posted.{Posted}
+use Rattle.am_silence.specs.Unbuilt.{IsUnbuilt}
+use Rattle.am_silence.specs.declared.refusal.SilenceRefusal.{SilenceRefusal}
+use Rattle.am_alert.specs.declared.maker.Maker.{Maker}
+use Rattle.rand_chacha.specs.ChaCha.{ChaCha}
+use Rattle.am_api.specs.Deciding.{Decides, DecidesUnless}
+use Rattle.am_api.specs.Decision.{listed_or_refused}
+use Rattle.am_api.specs.Replied.{Decision, refused as refused_with}
+use Rattle.am_api.specs.Silences.{posted_or_refused, refused_for, silences_or_refused}
 use Rattle.am_api.proofs.Builds.{decides_unless}
 
 -- a refusal for a pattern that is not built
@@ -37,3 +46,27 @@ pub query_refused : (refused own stored : List (List ℕ)) (reason : QueryRefusa
 query_refused refused own stored reason c held moment outcome result (inl is) decides = rw is (decides_unless refused own stored result _ decides)
 query_refused refused own stored reason c held moment outcome result (inr unbuilt) decides =
     by_reason refused own stored reason (listed_or_refused c held moment outcome) result unbuilt decides
+
+-- filters that are refused
+pub filters_refused : (refused own stored : List (List ℕ)) (reason : QueryRefusal) (held : List Item) (moment : ℕ) (outcome : Result (List MatcherText) QueryRefusal)
+    (result : Result Decided Fault) → (outcome ≡ Err reason) ⊎ IsUnbuiltRefusal refused own reason →
+    Decides result (refused_with (status_of reason) (code_of reason)) → DecidesUnless refused own stored result (silences_or_refused held moment outcome)
+filters_refused refused own stored reason held moment outcome result (inl is) decides = rw is (decides_unless refused own stored result _ decides)
+filters_refused refused own stored reason held moment outcome result (inr unbuilt) decides =
+    by_reason refused own stored reason (silences_or_refused held moment outcome) result unbuilt decides
+
+by_silence : (refused own stored : List (List ℕ)) (reason : SilenceRefusal) (decision : Decision) (result : Result Decided Fault) →
+    IsUnbuilt refused own reason → Decides result (refused_for reason) → DecidesUnless refused own stored result decision
+by_silence refused own stored reason decision (Ok d) (inl build, found) decides = inr (inl (decides.0 ∙ ap refused_for build), found)
+by_silence refused own stored reason decision (Ok d) (inr deep, found) decides = inr (inr (inl (decides.0 ∙ ap refused_for deep)), found)
+by_silence refused own stored reason decision (Err CountsExhausted) unbuilt decides = absurd (cc)
+by_silence refused own stored reason decision (Err OutOfMemory) unbuilt decides = tt
+by_silence refused own stored reason decision (Err PatternNotBuilt) unbuilt decides = absurd decides
+
+-- a posted silence that is refused
+pub silence_refused : (refused own stored : List (List ℕ)) (reason : SilenceRefusal) (limit : ℕ) (held : List Item) (moment : ℕ) (maker : Maker) (words : ChaCha)
+    (outcome : Result Posted SilenceRefusal) (result : Result Decided Fault) → (outcome ≡ Err reason) ⊎ IsUnbuilt refused own reason →
+    Decides result (refused_for reason) → DecidesUnless refused own stored result (posted_or_refused limit held moment maker words outcome)
+silence_refused refused own stored reason limit held moment maker words outcome result (inl is) decides = rw is (decides_unless refused own stored result _ decides)
+silence_refused refused own stored reason limit held moment maker words outcome result (inr unbuilt) decides =
+    by_silence refused own stored reason (posted_or_refused limit held moment maker words outcome) result unbuilt decides

@@ -1,6 +1,5 @@
--- What is decided on a request: the items that it brings, and the reply.
+-- The decision on a request.
 use Rattle.std.specs.Prelude.{ℕ, ◌+◌, nat_lt, List, [], ◌∷◌, codes, length, Option, Some, None, option_map, Result, Ok, Err, if◌then◌else◌}
-use Rattle.am_http.specs.Replies.{refusal}
 use Rattle.am_http.specs.declared.request.Method.{Method}
 use Rattle.am_http.specs.declared.request.Method.TheVariants.{Get, Post, Delete}
 use Rattle.am_http.specs.declared.request.Endpoint.{Endpoint}
@@ -25,32 +24,20 @@ use Rattle.am_alert.specs.declared.refusal.PostedRefusal.{PostedRefusal}
 use Rattle.am_alert.specs.Made.{made, stamp_moment}
 use Rattle.am_alert.specs.Posted as alerts
 use Rattle.am_current.specs.Current.{configuration_in}
-use Rattle.am_api.specs.declared.query.Query.{Query}
-use Rattle.am_api.specs.declared.refusal.QueryRefusal.{QueryRefusal}
-use Rattle.am_api.specs.Queries as queries
-use Rattle.am_api.specs.Receivers.{shown}
+use Rattle.am_query.specs.declared.query.Query.{Query}
+use Rattle.am_query.specs.declared.refusal.QueryRefusal.{QueryRefusal}
+use Rattle.am_query.specs.Queries as queries
+use Rattle.am_listing.specs.Written.{alerts_text}
 use Rattle.am_payload.specs.Written.{document_text, receivers_text}
-use Rattle.am_api.specs.Written.{alerts_text}
-
--- the items that are stored, and the status and the body of the reply
-pub record Decision : Type 0 where
-  pub items : List Item
-  pub status : ℕ
-  pub body : List ℕ
-
--- a reply, and nothing is stored
-abbrev pub replied : ℕ → List ℕ → Decision
-replied status body = record { items = []; status = status; body = body }
-
--- a refusal shows its code, and nothing is stored
-abbrev pub refused : ℕ → List ℕ → Decision
-refused status code = replied status (refusal code)
+use Rattle.am_api.specs.Replied.{Decision, refused, replied, stored}
+use Rattle.am_api.specs.Silences.{silence_decided, silences_decided}
+use Rattle.rand_chacha.specs.ChaCha.{ChaCha}
 
 -- ---- the alerts
 
 -- the alerts that fire and that the query asks for are listed
 abbrev pub listed_or_refused : config.Configuration → List Item → ℕ → Result Query QueryRefusal → Decision
-listed_or_refused c held moment (Ok query) = replied 200 (alerts_text c (shown c query moment held))
+listed_or_refused c held moment (Ok query) = replied 200 (alerts_text c query moment held)
 listed_or_refused c held moment (Err reason) = refused (queries.status_of reason) (queries.code_of reason)
 
 -- how many alerts are held once posted ones have come
@@ -61,7 +48,7 @@ count_with held moment maker posted = length (alerts_of (all_joined held (made h
 abbrev pub stored_within : ℕ → List Item → ℕ → Maker → List Alert → Decision
 stored_within limit held moment maker posted =
     if nat_lt limit (count_with held moment maker posted) then refused 429 (codes "Li1")
-    else record { items = made held moment maker posted; status = 200; body = [] }
+    else stored (made held moment maker posted) 200 []
 
 -- a posted list is stored whole, or refused whole
 abbrev pub stored_or_refused : ℕ → List Item → ℕ → Maker → Result (List Alert) PostedRefusal → Decision
@@ -105,7 +92,7 @@ configuration_item held moment maker text = record {
 -- it is stored
 abbrev pub configuration_stored : ℕ → List Item → ℕ → Maker → Option (List ℕ) → Decision
 configuration_stored status held moment maker text =
-    record { items = configuration_item held moment maker text ∷ []; status = status; body = [] }
+    stored (configuration_item held moment maker text ∷ []) status []
 
 -- the status code of a configuration that is refused
 abbrev pub status_of : ConfigRefusal → ℕ
@@ -150,16 +137,20 @@ configuration_decided request Delete held limits moment maker = configuration_st
 -- ---- all requests
 
 -- by what the request speaks of, where this configuration is in use; the front lets no request of the others through
-abbrev pub decided_by : config.Configuration → Request → Endpoint → List Item → Limits → ℕ → Maker → Decision
-decided_by c request Alerts held limits moment maker = alerts_decided c request request.method held limits moment maker
-decided_by c request AlertGroups held limits moment maker = refused 404 (codes "H5")
-decided_by c request Silences held limits moment maker = refused 404 (codes "H5")
-decided_by c request (Silence id) held limits moment maker = refused 404 (codes "H5")
-decided_by c request Receivers held limits moment maker = receivers_decided c request.method
-decided_by c request Configuration held limits moment maker =
+abbrev pub decided_by : config.Configuration → Request → Endpoint → List Item → Limits → ℕ → Maker → ChaCha → Decision
+decided_by c request Alerts held limits moment maker words =
+    alerts_decided c request request.method held limits moment maker
+decided_by c request AlertGroups held limits moment maker words = refused 404 (codes "H5")
+decided_by c request Silences held limits moment maker words =
+    silences_decided request request.method held limits moment maker words
+decided_by c request (Silence text) held limits moment maker words =
+    silence_decided text request.method held moment maker
+decided_by c request Receivers held limits moment maker words = receivers_decided c request.method
+decided_by c request Configuration held limits moment maker words =
     configuration_decided request request.method held limits moment maker
 
--- the decision on a request, from the items held of its tenant, its limits, the moment, and who makes items
-unfoldable pub decided : Request → List Item → Limits → ℕ → Maker → Decision
-decided request held limits moment maker =
-    decided_by (configuration_in held) request request.endpoint held limits moment maker
+-- the decision on a request, from the items held of its tenant, its limits, the moment, who makes items, and the words of
+-- the tenant from the next one on
+unfoldable pub decided : Request → List Item → Limits → ℕ → Maker → ChaCha → Decision
+decided request held limits moment maker words =
+    decided_by (configuration_in held) request request.endpoint held limits moment maker words

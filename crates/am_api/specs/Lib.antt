@@ -1,9 +1,7 @@
--- what a query asks
-pub mod Queries
--- the receivers of alerts, and which alerts a query asks for
-pub mod Receivers
--- the JSON of replies
-pub mod Written
+-- what is decided on a request
+pub mod Replied
+-- the decision on a request to the silences
+pub mod Silences
 -- the decision on a request
 pub mod Decision
 -- posted label sets of which no alert is held
@@ -12,5 +10,3 @@ pub mod Fresh
 pub mod Patterns
 -- what is returned, against the decision
 pub mod Deciding
--- alerts on the way to a list
-pub mod Listed

@@ -11,7 +11,7 @@ ghost use Rattle.am_alert.specs.declared.maker.Maker.{Maker};
 ghost use Rattle.am_api.specs.Deciding.{Decides, DecidesUnless};
 ghost use Rattle.am_api.specs.Decision.{configuration_posted, configuration_stored, read_or_none, seen, status_of, text_at};
 
-use crate::decision::{Decided, refuse, reply};
+use crate::decision::{self, Decided, refuse, reply};
 use am_alert::Maker;
 use am_config::{Config, ConfigRefusal};
 use am_item::{Fault, GREATEST_COUNT, Held, Item, Stamp, Thing};
@@ -99,11 +99,7 @@ fn store(
         stamp,
         thing: Thing::Configuration(text),
     })?;
-    Ok(Decided {
-        items,
-        status,
-        body: Octets::from_vec(Vec::new(alloc)),
-    })
+    Ok(decision::store(items, status, Octets::from_vec(Vec::new(alloc))))
 }
 
 // The stamp moment of the configuration that is held.

@@ -1,18 +1,20 @@
 //! The decision on a request of a tenant.
 
-ghost use Rattle.std.specs.Prelude.{◌≡◌, ℕ, List};
+ghost use Rattle.std.specs.Prelude.{◌≡◌, ℕ, List, All};
 ghost use Rattle.am_pattern.specs.Asking.{Grows};
 ghost use Rattle.am_match.specs.Checking.{AreRefusedRightly};
-ghost use Rattle.am_alert.specs.declared.maker.Maker.{Maker};
+ghost use Rattle.am_pattern.specs.Taking.{IsPattern};
 ghost use Rattle.am_current.specs.Current.{configuration_in};
+ghost use Rattle.am_listing.specs.Failing.{patterns_in_use};
 ghost use Rattle.am_api.specs.Deciding.{Decides, DecidesUnless, decision_of};
-ghost use Rattle.am_api.specs.Decision.{alerts_decided, configuration_decided, decided, decided_by, receivers_decided, refused, replied};
+ghost use Rattle.am_api.specs.Decision.{alerts_decided, configuration_decided, decided, decided_by, receivers_decided};
 ghost use Rattle.am_api.specs.Patterns.{patterns_by, patterns_of_alerts, patterns_of_document, patterns_of_request};
-ghost use Rattle.am_api.specs.Patterns.{patterns_of_routes};
+ghost use Rattle.am_api.specs.Replied.{refused, replied, stored};
 
 use crate::configuration::{delete_configuration, post_configuration, read_configuration};
-use crate::listing::list_alerts;
+use crate::listing::decide_list;
 use crate::posting::post_alerts;
+use crate::silences::{decide_silence, decide_silences};
 use am_alert::Maker;
 use am_config::Config;
 use am_http::{Endpoint, Method, Request, refusal_body};
@@ -21,23 +23,29 @@ use am_limit::Limits;
 use am_pattern::PatternCache;
 use am_payload::receivers_json;
 use am_text::{Moment, Octets};
+use am_words::{Place, Words};
 use std::alloc::{AllocError, Global};
 
-/// What is decided on a request: the items to store, and the status code and the body of the reply.
+/// What is decided on a request.
 #[derive(Drop)]
 pub struct Decided {
+    /// The items to store, in order.
     pub items: Vec<Item>,
+    /// The status code of the reply.
     pub status: u16,
+    /// The body of the reply.
     pub body: Octets,
+    /// Where words of the tenant were drawn, the place of the next one.
+    pub drawn: Option<Place>,
 }
 
-/// Decides a request of a tenant at a moment, where `held` is held of the tenant, `config` is its configuration in use
-/// and `limits` are its limits. A refusal is a decision too. Patterns are asked by lists: each is built at most once for
-/// its check and once for its answers, however few patterns the cache keeps.
+/// Decides a request of a tenant at a moment, where `held` is held of the tenant, `config` is its configuration in use,
+/// `limits` are its limits and `words` its words from the next one on. A refusal is a decision too. Patterns are asked by
+/// lists: each is built at most once for its check and once for its answers, however few patterns the cache keeps.
 ///
 /// # Errors
-/// A count of `maker` would pass 2^62; a pattern of `config` was refused its build; or out of memory. A pattern of the
-/// request itself that was refused its build is a decision, the refusal `B2`.
+/// A count of `maker` would pass 2^62; a pattern of `config` or of an active silence gave no answer, as its build was
+/// refused; or out of memory. A pattern of the request itself that was refused its build is a decision, the refusal `B2`.
 #[tactic(auto, unfolding(crate::specs::Decision::decided, crate::specs::Patterns::patterns_of_request))]
 pub fn decide(
     alloc: Global,
@@ -47,19 +55,23 @@ pub fn decide(
     limits: Limits,
     moment: Moment,
     maker: Maker,
+    words: Words,
     cache: &mut PatternCache,
 ) -> Result<Decided, Fault>
     requires { config.now ≡ configuration_in held.now }
     ensures decides { DecidesUnless cache.new.refused (patterns_of_request request.now)
-        (patterns_of_routes config.now.routes) result (decided request.now held.now limits moment maker) }
+        (patterns_in_use config.now moment held.now) result (decided request.now held.now limits moment maker words) }
     ensures asked { Grows cache.old cache.new }
 
-    // Where no build of a pattern of the request or of the configuration in use was refused, it is the decision.
+    // Where no build of a pattern of the request or of one in use was refused, it is the decision.
     ensures meaning { AreRefusedRightly cache.new.refused (patterns_of_request request.now) →
-        AreRefusedRightly cache.new.refused (patterns_of_routes config.now.routes) →
-        Decides result (decided request.now held.now limits moment maker) }
+        AreRefusedRightly cache.new.refused (patterns_in_use config.now moment held.now) →
+        All IsPattern (patterns_in_use config.now moment held.now) →
+        Decides result (decided request.now held.now limits moment maker words) }
 {
-    decide_by(alloc, request, held, config, limits, moment, maker, cache)
+    decide_by(
+        alloc, request, held, config, limits, moment, maker, words, cache,
+    )
 }
 
 // The same by what the request speaks of.
@@ -71,24 +83,29 @@ fn decide_by(
     limits: Limits,
     moment: Moment,
     maker: Maker,
+    words: Words,
     cache: &mut PatternCache,
 ) -> Result<Decided, Fault>
     ensures decides { DecidesUnless cache.new.refused (patterns_by request.now.endpoint request.now)
-        (patterns_of_routes config.now.routes) result
-        (decided_by config.now request.now request.now.endpoint held.now limits moment maker) }
+        (patterns_in_use config.now moment held.now) result
+        (decided_by config.now request.now request.now.endpoint held.now limits moment maker words) }
     ensures asked { Grows cache.old cache.new }
 {
-    match request.endpoint {
+    match &request.endpoint {
         Endpoint::Alerts => {
             decide_alerts(alloc, request, held, config, limits, moment, maker, cache)
+        }
+        Endpoint::AlertGroups => refuse(alloc, 404, "H5"),
+        Endpoint::Silences => {
+            decide_silences(alloc, request, held, limits, moment, maker, words, cache)
+        }
+        Endpoint::Silence(text) => {
+            decide_silence(alloc, request.method, text.as_str(), held, moment, maker)
         }
         Endpoint::Receivers => list_receivers(alloc, request.method, config),
         Endpoint::Configuration => {
             decide_configuration(alloc, request, held, limits, moment, maker, cache)
         }
-        Endpoint::AlertGroups | Endpoint::Silences | Endpoint::Silence(_) => refuse(
-            alloc, 404, "H5",
-        ),
     }
 }
 
@@ -104,12 +121,12 @@ fn decide_alerts(
     cache: &mut PatternCache,
 ) -> Result<Decided, Fault>
     ensures decides { DecidesUnless cache.new.refused (patterns_of_alerts request.now.method request.now)
-        (patterns_of_routes config.now.routes) result
+        (patterns_in_use config.now moment held.now) result
         (alerts_decided config.now request.now request.now.method held.now limits moment maker) }
     ensures asked { Grows cache.old cache.new }
 {
     match request.method {
-        Method::Get => list_alerts(alloc, request.query.as_str(), held, config, moment, cache),
+        Method::Get => decide_list(alloc, request.query.as_str(), held, config, moment, cache),
         Method::Post => {
             let timeout = config.resolve_timeout();
             post_alerts(
@@ -183,9 +200,17 @@ pub(crate) fn refuse(alloc: Global, status: u16, code: &str) -> Result<Decided, 
 pub(crate) fn reply(alloc: Global, status: u16, body: Octets) -> Decided
     ensures { decision_of result ≡ replied status body }
 {
+    store(Vec::new(alloc), status, body)
+}
+
+/// Items are stored, and no word is drawn.
+pub(crate) fn store(items: Vec<Item>, status: u16, body: Octets) -> Decided
+    ensures { decision_of result ≡ stored items.items status body }
+{
     Decided {
-        items: Vec::new(alloc),
+        items,
         status,
         body,
+        drawn: None,
     }
 }

@@ -10,28 +10,18 @@ ghost use Rattle.am_item.specs.declared.item.Item.{Item};
 ghost use Rattle.am_alert.specs.Made.{counts_fit, greatest_count};
 ghost use Rattle.am_alert.specs.declared.maker.Maker.{Maker};
 ghost use Rattle.am_api.specs.Deciding.{AreCounted};
-ghost use Rattle.am_current.specs.Current.{configuration_in};
 ghost use Rattle.am_api.specs.Decision.{decided};
-ghost use Rattle.am_api.specs.Patterns.{HasRefused, patterns_of_items, patterns_of_request, patterns_of_routes};
+ghost use Rattle.rand_chacha.specs.ChaCha.{ChaCha};
+ghost use Rattle.am_query.specs.Patterns.{HasRefused};
 
 /// The items of a decision are stamped with one count after another, and where none is past the greatest, there was room
 /// for as many.
 pub fn items_are_counted()
-    ensures counted { (request : Request) (held : List Item) (limits : Limits) (moment : ℕ) (maker : Maker) →
-        AreCounted maker.used (decided request held limits moment maker).items }
-    ensures room { (request : Request) (held : List Item) (limits : Limits) (moment : ℕ) (maker : Maker) →
-        counts_fit (decided request held limits moment maker).items ≡ true → 0 < length (decided request held limits moment maker).items →
-        maker.used + length (decided request held limits moment maker).items ≤ greatest_count }
-{}
-
-/// The patterns of what a decision stores are those of its request, and those of the configuration in use are of what is
-/// held. So where no build of these was refused, none of those was.
-pub fn stored_patterns_were_asked()
-    ensures stored { (request : Request) (held : List Item) (limits : Limits) (moment : ℕ) (maker : Maker) (refused : List (List ℕ)) →
-        AreRefusedRightly refused (patterns_of_request request) →
-        AreRefusedRightly refused (patterns_of_items (decided request held limits moment maker).items) }
-    ensures in_use { (held : List Item) (refused : List (List ℕ)) → AreRefusedRightly refused (patterns_of_items held) →
-        AreRefusedRightly refused (patterns_of_routes (configuration_in held).routes) }
+    ensures counted { (request : Request) (held : List Item) (limits : Limits) (moment : ℕ) (maker : Maker) (words : ChaCha) →
+        AreCounted maker.used (decided request held limits moment maker words).items }
+    ensures room { (request : Request) (held : List Item) (limits : Limits) (moment : ℕ) (maker : Maker) (words : ChaCha) →
+        counts_fit (decided request held limits moment maker words).items ≡ true → 0 < length (decided request held limits moment maker words).items →
+        maker.used + length (decided request held limits moment maker words).items ≤ greatest_count }
 {}
 
 /// A refused build stays one: where no build of these texts was refused at last, none was before.

@@ -6,9 +6,8 @@ mod decision;
 pub mod laws;
 mod listing;
 mod posting;
-mod query;
-mod receivers;
-mod refusal;
+mod silences;
+mod silencing;
 
 pub use decision::{Decided, decide};
 

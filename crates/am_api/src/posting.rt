@@ -7,7 +7,7 @@ ghost use Rattle.am_api.specs.Deciding.{Decides};
 ghost use Rattle.am_api.specs.Decision.{count_with, stored_or_refused, stored_within};
 ghost use Rattle.am_api.specs.Fresh.{is_held, new_count};
 
-use crate::decision::{Decided, refuse};
+use crate::decision::{self, Decided, refuse};
 use am_alert::{Maker, items_of_post, read_posted};
 use am_item::{Alert, Fault, Held};
 use am_labels::LabelSet;
@@ -48,11 +48,7 @@ fn store(
         return refuse(alloc, 429, "Li1");
     }
     let items = items_of_post(alloc, posted, held, moment, maker)?;
-    Ok(Decided {
-        items,
-        status: 200,
-        body: Octets::from_vec(Vec::new(alloc)),
-    })
+    Ok(decision::store(items, 200, Octets::from_vec(Vec::new(alloc))))
 }
 
 // Whether more alerts than the limit would be held once the posted ones have come. Those that are held are not gone

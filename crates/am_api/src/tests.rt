@@ -9,7 +9,8 @@ use am_limit::Limits;
 use am_pattern::PatternCache;
 use am_tenant::TenantName;
 use am_text::{Moment, Octets, Text};
-use std::alloc::{AllocError, Global};
+use am_words::{Place, Words};
+use std::alloc::Global;
 use std::test::Fail;
 
 /// 2025-06-15T15:06:40.000Z.
@@ -31,7 +32,7 @@ const DOCUMENT: &str =
 const AB: &str =
     r#"[{"annotations":{},"endsAt":"2025-06-15T15:07:40.000Z","fingerprint":"d2b371819297f98a","generatorURL":"","labels":{"a":"b"},"receivers":[{"name":"r1"},{"name":"r2"}],"startsAt":"2025-06-15T15:06:40.000Z","status":{"inhibitedBy":[],"silencedBy":[],"state":"active"},"updatedAt":"2025-06-15T15:06:40.000Z"}]"#;
 
-const STEPS: [Step; 32] = [
+const STEPS: [Step; 45] = [
     (Get, "configuration", "", "", 404, r#"{"code":"K1"}"#),
     (Get, "receivers", "", "", 200, r#"[{"name":"default"}]"#),
     // The limit comes before what the document says, and nothing is stored.
@@ -142,6 +143,56 @@ const STEPS: [Step; 32] = [
         400,
         r#"{"code":"M2"}"#,
     ),
+    // Silences: the limit of a body comes first, then its form; a refusal draws no words.
+    (Get, "silences", "", "", 200, "[]"),
+    (Post, "silences", "", DOCUMENT, 400, r#"{"code":"Li4"}"#),
+    (Post, "silences", "", "{", 400, r#"{"code":"S6"}"#),
+    (
+        Post,
+        "silences",
+        "",
+        AB_SILENCE,
+        200,
+        r#"{"silenceID":"72a852c9-b135-441b-abe4-89369b874535"}"#,
+    ),
+    (Get, "alerts", "", "", 200, AB3),
+    (Get, "alerts", "silenced=false", "", 200, "[]"),
+    (Post, "silences", "", AB_SILENCE, 429, r#"{"code":"Li2"}"#),
+    // Other matchers: the old one expires, which leaves room for the new one.
+    (
+        Post,
+        "silences",
+        "",
+        AC_SILENCE,
+        200,
+        r#"{"silenceID":"d114fbbf-392c-4662-bc08-f47326b689a4"}"#,
+    ),
+    (
+        Get,
+        "72a852c9-b135-441b-abe4-89369b874535",
+        "",
+        "",
+        200,
+        EXPIRED,
+    ),
+    (
+        Delete,
+        "72a852c9-b135-441b-abe4-89369b874535",
+        "",
+        "",
+        400,
+        r#"{"code":"S5"}"#,
+    ),
+    (Delete, "72A852C9", "", "", 404, r#"{"code":"S4"}"#),
+    (
+        Delete,
+        "d114fbbf-392c-4662-bc08-f47326b689a4",
+        "",
+        "",
+        200,
+        "",
+    ),
+    (Get, "silences", "filter=a%3Dd", "", 200, "[]"),
     // The configuration is deleted, also where there is none.
     (Delete, "configuration", "", "", 200, ""),
     (Get, "configuration", "", "", 404, r#"{"code":"K1"}"#),
@@ -153,6 +204,20 @@ const STEPS: [Step; 32] = [
 const AB2: &str =
     r#"[{"annotations":{},"endsAt":"2025-06-15T15:07:40.000Z","fingerprint":"d2b371819297f98a","generatorURL":"","labels":{"a":"b"},"receivers":[{"name":"r1"},{"name":"r2"}],"startsAt":"2025-06-15T15:06:40.000Z","status":{"inhibitedBy":[],"silencedBy":[],"state":"active"},"updatedAt":"2025-06-15T15:06:40.001Z"}]"#;
 
+/// The same alert, silenced.
+const AB3: &str =
+    r#"[{"annotations":{},"endsAt":"2025-06-15T15:07:40.000Z","fingerprint":"d2b371819297f98a","generatorURL":"","labels":{"a":"b"},"receivers":[{"name":"r1"},{"name":"r2"}],"startsAt":"2025-06-15T15:06:40.000Z","status":{"inhibitedBy":[],"silencedBy":["72a852c9-b135-441b-abe4-89369b874535"],"state":"suppressed"},"updatedAt":"2025-06-15T15:06:40.001Z"}]"#;
+
+const AB_SILENCE: &str =
+    r#"{"matchers":[{"name":"a","value":"b","isRegex":false}],"startsAt":"2025-06-15T15:00:00Z","endsAt":"2025-06-15T16:00:00Z","createdBy":"x","comment":"y"}"#;
+
+const AC_SILENCE: &str =
+    r#"{"id":"72a852c9-b135-441b-abe4-89369b874535","matchers":[{"name":"a","value":"c","isRegex":false}],"startsAt":"2025-06-15T15:00:00Z","endsAt":"2025-06-15T16:00:00Z","createdBy":"x","comment":"y"}"#;
+
+/// The first silence, once it has expired.
+const EXPIRED: &str =
+    r#"{"comment":"y","createdBy":"x","endsAt":"2025-06-15T15:06:40.000Z","id":"72a852c9-b135-441b-abe4-89369b874535","matchers":[{"isEqual":true,"isRegex":false,"name":"a","value":"b"}],"startsAt":"2025-06-15T15:06:40.000Z","status":{"state":"expired"},"updatedAt":"2025-06-15T15:06:40.001Z"}"#;
+
 fn request(alloc: Global, step: &Step) -> Result<Request, Fail> {
     Ok(Request {
         tenant: TenantName::read(b"a")?,
@@ -160,7 +225,9 @@ fn request(alloc: Global, step: &Step) -> Result<Request, Fail> {
         endpoint: match step.1 {
             "alerts" => Endpoint::Alerts,
             "receivers" => Endpoint::Receivers,
-            _ => Endpoint::Configuration,
+            "silences" => Endpoint::Silences,
+            "configuration" => Endpoint::Configuration,
+            text => Endpoint::Silence(Text::read(alloc, text)?),
         },
         query: Text::read(alloc, step.2)?,
         body: Octets::read(alloc, step.3.as_bytes())?,
@@ -173,13 +240,14 @@ fn decided(
     step: &Step,
     holdings: &mut Holdings,
     cache: &mut PatternCache,
+    place: &mut Place,
 ) -> Result<(u16, Octets), Fail> {
     let request = request(alloc, step)?;
     let limits = Limits {
         alerts: 1,
-        silences: 0,
+        silences: 1,
         configuration: 500,
-        silence: 0,
+        silence: 250,
         notices: 0,
     };
     let maker = Maker {
@@ -189,7 +257,11 @@ fn decided(
     };
     let moment = Moment::from_milliseconds(MOMENT).unwrap_or(Moment::greatest());
     let (held, config) = holdings.in_use(alloc, &request.tenant)?;
-    let decided = decide(alloc, &request, held, config, limits, moment, maker, cache)?;
+    let words = Words::new(&[0; 32], &request.tenant, 1, 1, *place);
+    let decided = decide(
+        alloc, &request, held, config, limits, moment, maker, words, cache,
+    )?;
+    *place = decided.drawn.unwrap_or(*place);
     holdings.put_all(alloc, &request.tenant, decided.items)?;
     Ok((decided.status, decided.body))
 }
@@ -199,8 +271,9 @@ fn requests_one_after_another(rt: HostRuntime) -> Result<(), Fail> {
     let alloc = rt.alloc();
     let mut holdings = Holdings::new(alloc)?;
     let mut cache = PatternCache::new(alloc, 1, [0; 16])?;
+    let mut place = Place::first();
     for step in &STEPS {
-        let (status, body) = decided(alloc, step, &mut holdings, &mut cache)?;
+        let (status, body) = decided(alloc, step, &mut holdings, &mut cache, &mut place)?;
         assert_eq!(rt; status, step.4);
         assert_eq!(rt; body.as_slice(), step.5.as_bytes());
     }

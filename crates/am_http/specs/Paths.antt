@@ -58,6 +58,8 @@ path_at path =
 -- the paths whose requests are answered; the others are as if there were none
 abbrev pub is_brought : Path → Bool
 is_brought Alerts = true
+is_brought Silences = true
+is_brought Silence = true
 is_brought Receivers = true
 is_brought Configuration = true
 is_brought _ = false

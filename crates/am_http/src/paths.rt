@@ -31,7 +31,10 @@ impl Path {
     pub fn is_brought(self) -> bool
         ensures { result ≡ is_brought self }
     {
-        matches!(self, Path::Alerts | Path::Receivers | Path::Configuration)
+        matches!(
+            self,
+            Path::Alerts | Path::Silences | Path::Silence | Path::Receivers | Path::Configuration
+        )
     }
 
     /// Whether it takes this method.

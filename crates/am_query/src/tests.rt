@@ -12,10 +12,25 @@ type Read = (&'static str, usize, Option<&'static str>, [bool; 3]);
 
 const READ: [Read; 5] = [
     ("", 0, None, [true, true, true]),
-    ("filter=a%3Db&filter=c%3Dd,e%3D", 3, None, [true, true, true]),
+    (
+        "filter=a%3Db&filter=c%3Dd,e%3D",
+        3,
+        None,
+        [true, true, true],
+    ),
     ("active=false&silenced=true", 0, None, [false, true, true]),
-    ("silenced=false&inhibited=false&inhibited=true", 0, None, [true, false, true]),
-    ("inhibited=false&receiver=r&receiver=s+t&x=%FF&&=", 0, Some("s t"), [true, true, false]),
+    (
+        "silenced=false&inhibited=false&inhibited=true",
+        0,
+        None,
+        [true, false, true],
+    ),
+    (
+        "inhibited=false&receiver=r&receiver=s+t&x=%FF&&=",
+        0,
+        Some("s t"),
+        [true, true, false],
+    ),
 ];
 
 #[test]
@@ -35,9 +50,15 @@ fn queries_are_read(rt: HostRuntime) -> Result<(), Fail> {
 
 const REFUSED: [(&str, QueryRefusal); 4] = [
     ("active=1&filter=%7B", QueryRefusal::BadFlag),
-    ("filter=%7B&active=1", QueryRefusal::BadMatcher(MatcherRefusal::NoMatchers)),
+    (
+        "filter=%7B&active=1",
+        QueryRefusal::BadMatcher(MatcherRefusal::NoMatchers),
+    ),
     ("unprocessed=", QueryRefusal::BadFlag),
-    ("receiver=(&receiver=r", QueryRefusal::BadMatcher(MatcherRefusal::BadPattern)),
+    (
+        "receiver=(&receiver=r",
+        QueryRefusal::BadMatcher(MatcherRefusal::BadPattern),
+    ),
 ];
 
 #[test]

@@ -5,7 +5,7 @@ use Rattle.std.proofs.lemmas.Grind.{flat_map-append}
 use Rattle.std.proofs.lemmas.List.{append-nil, append_assoc}
 use Rattle.std.proofs.lemmas.List.Elements.{All-cons, All-contains, All-head, All-nil, All-tail, All-weaker}
 use Rattle.std.proofs.lemmas.List.Folds.{list_any-append}
-use Rattle.am_api.specs.Patterns.{HasRefused}
+use Rattle.am_query.specs.Patterns.{HasRefused}
 use Rattle.am_match.specs.Checking.{AreRefusedRightly}
 use Rattle.am_pattern.specs.Refused.{IsRefusedRightly, has_text}
 use Rattle.am_world.specs.declared.instance.Instance.{Instance}

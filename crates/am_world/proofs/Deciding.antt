@@ -2,8 +2,9 @@
 use Rattle.std.proofs.Common.{◌≡◌, inl, inr, ◌∙◌, ℕ, ◌+◌, ◌<◌, ◌≤◌, true, List, [], ◌∷◌, ◌++◌, length, Result, Ok, Err, IfOk, IfErr, refl, sym, ap, arith}
 use Rattle.am_alert.specs.Made.{counts_fit, greatest_count}
 use Rattle.am_api.specs.Deciding.{DecidesUnless, IsUnbuilt, decision_of}
-use Rattle.am_api.specs.Decision.{Decision, decided}
-use Rattle.am_api.specs.Patterns.{patterns_of_request, patterns_of_routes}
+use Rattle.am_api.specs.Decision.{decided}
+use Rattle.am_api.specs.Patterns.{patterns_of_request}
+use Rattle.am_api.specs.Replied.{Decision}
 use Rattle.am_api.specs.declared.decision.Decided.{Decided}
 use Rattle.am_api.proofs.Counts.{room}
 use Rattle.am_config.specs.Configuration.{Configuration}
@@ -16,12 +17,14 @@ use Rattle.std.proofs.lemmas.List.{append-nil}
 use Rattle.am_http.specs.Replies.{ready_reply}
 use Rattle.am_http.specs.declared.refusal.FrontRefusal.{FrontRefusal}
 use Rattle.am_http.specs.declared.request.Fed.TheVariants as fed
-use Rattle.am_limit.specs.declared.limits.Limits.{Limits}
+use Rattle.am_listing.specs.Failing.{patterns_in_use}
+use Rattle.am_words.specs.Words.{generator_of}
+use Rattle.rand_chacha.specs.ChaCha.{ChaCha}
 use Rattle.am_world.specs.declared.event.Output.{Output}
 use Rattle.am_world.specs.declared.event.Output.TheVariants.{Reply}
 use Rattle.am_world.specs.declared.instance.Instance.{Instance}
 use Rattle.am_world.specs.Places.{here_of, local_in}
-use Rattle.am_world.specs.Reaction.{Here, Local, MayDecide, StopsFor, decision_at, maker, refusal_reply}
+use Rattle.am_world.specs.Reaction.{Here, Local, MayDecide, StopsFor, Terms, decision_at, maker, refusal_reply, words}
 use Rattle.am_world.specs.Taking.{Brings}
 
 -- a refusal for a pattern has no items
@@ -33,15 +36,19 @@ no_items d (inr (inr e)) = ap (λ (x : Decision). x.items) e
 -- what was returned for a request of a tenant of whom the instance has this
 abbrev pub Returns : List (List ℕ) → Result Decided Fault → Request → Here → Local → Type 0
 Returns refused result request here local =
-    DecidesUnless refused (patterns_of_request request) (patterns_of_routes (configuration_in local.held).routes) result (decision_at here request local)
+    DecidesUnless refused (patterns_of_request request) (patterns_in_use (configuration_in local.held) here.moment local.held) result
+    (decision_at here request local)
 
 pub returned_at : (refused : List (List ℕ)) (result : Result Decided Fault) (request : Request) (here : Here) (local : Local) (held : List Item)
-    (config : Configuration) (used : ℕ) → held ≡ local.held → config ≡ configuration_in local.held → used ≡ local.ledger.stamps →
-    DecidesUnless refused (patterns_of_request request) (patterns_of_routes config.routes) result
-    (decided request held here.limits here.moment (record { instance = here.instance; incarnation = here.incarnation; used = used })) →
+    (config : Configuration) (used drawn : ℕ) (next : ChaCha) → held ≡ local.held → config ≡ configuration_in local.held →
+    used ≡ local.ledger.stamps → drawn ≡ local.ledger.drawn →
+    next ≡ generator_of here.terms.service_key here.terms.tenant here.instance here.incarnation drawn →
+    DecidesUnless refused (patterns_of_request request) (patterns_in_use config here.moment held) result
+    (decided request held here.terms.limits here.moment (record { instance = here.instance; incarnation = here.incarnation; used = used }) next) →
     Returns refused result request here local
 unfolding decision_at
-returned_at refused result request here local held config used held_is config_is used_is returned = rw (held_is, config_is, used_is) at returned
+returned_at refused result request here local held config used drawn next held_is config_is used_is drawn_is next_is returned =
+    rw (next_is, held_is, config_is, used_is, drawn_is) at returned
 
 pub may_decide : (refused : List (List ℕ)) (result : Result Decided Fault) (request : Request) (here : Here) (local : Local) →
     Returns refused result request here local → IfOk result (λ d. MayDecide refused request (decision_at here request local) (decision_of d))
@@ -61,7 +68,7 @@ pub items_have_room : (refused : List (List ℕ)) (result : Result Decided Fault
 unfolding decision_at
 items_have_room refused (Ok d) request here local (inl right) = λ some.
     let items = ap (λ (x : Decision). x.items) right.0 in
-    rw items (room request local.held here.limits here.moment (maker here local.ledger) right.1 (rw items at some))
+    rw items (room request local.held here.terms.limits here.moment (maker here local.ledger) (words here local.ledger) right.1 (rw items at some))
 items_have_room refused (Ok d) request here local (inr unbuilt) = λ some.
     let none = no_items (decision_of d) unbuilt.0 in
     let never : 0 < 0 = rw none at some in absurd (omega arith)
@@ -77,35 +84,35 @@ stops_for refused (Err PatternNotBuilt) request here local returned = returned
 -- ---- what bytes that are no request of a tenant bring
 
 -- where nothing is asked, any decision will do
-abbrev any_decision : (m : ℕ) (limits : List ℕ → Limits) (x : Instance) → Request → Decision
-any_decision m limits x r = decision_at (here_of x m (limits r.tenant)) r (local_in r.tenant x)
+abbrev any_decision : (m : ℕ) (terms : List ℕ → Terms) (x : Instance) → Request → Decision
+any_decision m terms x r = decision_at (here_of x m (terms r.tenant)) r (local_in r.tenant x)
 
-pub brings_waits : (c m : ℕ) (limits : List ℕ → Limits) (x x' : Instance) (outs : List Output) →
-    ((t : List ℕ) → local_in t x' ≡ local_in t x) → Brings fed.Waits c m limits x x' outs outs
-brings_waits c m limits x x' outs local = record {
-  decide = any_decision m limits x;
+pub brings_waits : (c m : ℕ) (terms : List ℕ → Terms) (x x' : Instance) (outs : List Output) →
+    ((t : List ℕ) → local_in t x' ≡ local_in t x) → Brings fed.Waits c m terms x x' outs outs
+brings_waits c m terms x x' outs local = record {
+  decide = any_decision m terms x;
   decided = λ r is. inl refl;
   outputs = sym (append-nil outs);
   fits = refl;
   local = local;
 }
 
-pub brings_refused : (reason : FrontRefusal) (c m : ℕ) (limits : List ℕ → Limits) (x x' : Instance) (outs outs' : List Output) →
+pub brings_refused : (reason : FrontRefusal) (c m : ℕ) (terms : List ℕ → Terms) (x x' : Instance) (outs outs' : List Output) →
     outs' ≡ outs ++ Reply c (refusal_reply reason) ∷ [] → ((t : List ℕ) → local_in t x' ≡ local_in t x) →
-    Brings (fed.Refused reason) c m limits x x' outs outs'
-brings_refused reason c m limits x x' outs outs' said local = record {
-  decide = any_decision m limits x;
+    Brings (fed.Refused reason) c m terms x x' outs outs'
+brings_refused reason c m terms x x' outs outs' said local = record {
+  decide = any_decision m terms x;
   decided = λ r is. inl refl;
   outputs = said;
   fits = refl;
   local = local;
 }
 
-pub brings_ready : (c m : ℕ) (limits : List ℕ → Limits) (x x' : Instance) (outs outs' : List Output) →
+pub brings_ready : (c m : ℕ) (terms : List ℕ → Terms) (x x' : Instance) (outs outs' : List Output) →
     outs' ≡ outs ++ Reply c ready_reply ∷ [] → ((t : List ℕ) → local_in t x' ≡ local_in t x) →
-    Brings fed.Ready c m limits x x' outs outs'
-brings_ready c m limits x x' outs outs' said local = record {
-  decide = any_decision m limits x;
+    Brings fed.Ready c m terms x x' outs outs'
+brings_ready c m terms x x' outs outs' said local = record {
+  decide = any_decision m terms x;
   decided = λ r is. inl refl;
   outputs = said;
   fits = refl;

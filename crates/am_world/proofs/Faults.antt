@@ -37,8 +37,9 @@ one_fault i =
 
 pub faulted_at : (w w' : World) (e : Event) (i : ℕ) → refusal w e ≡ None → works w e i ≡ true → IsDownAt i w'.instances → IsSome (cause_at i w'.instances) →
     SameElsewhere i w.instances w'.instances → ((j : ℕ) → incarnation_at j w'.instances ≡ (roster_after e (roster_of w.instances)).incarnation j) →
-    put_out w' ≡ put_out w → fault_count w' ≡ min (fault_count w + 1) (2 ^ 64 - 1) → w'.clock ≡ clock_after e w.clock → w'.limits ≡ w.limits → KeepRefused w.instances w'.instances → Faulted w e w'
-faulted_at w w' e i taken worked down cause others incarnations outputs counted clock limits refused =
+    put_out w' ≡ put_out w → fault_count w' ≡ min (fault_count w + 1) (2 ^ 64 - 1) → w'.clock ≡ clock_after e w.clock → w'.limits ≡ w.limits → w'.service_key ≡ w.service_key →
+    KeepRefused w.instances w'.instances → Faulted w e w'
+faulted_at w w' e i taken worked down cause others incarnations outputs counted clock limits service_key refused =
     let itself : nat_eq i i ≡ true = grind (arith, nat_tests) in
     record {
       taken = taken;
@@ -58,14 +59,15 @@ faulted_at w w' e i taken worked down cause others incarnations outputs counted 
       counted = counted ∙ ap (λ n. min (fault_count w + n) (2 ^ 64 - 1)) (sym (one_fault i));
       clock = clock;
       limits = λ t. ap (limits_of t) limits;
+      service_key = service_key;
       refused = refused;
     }
 
 -- new limits that find no memory: nothing has changed, and one fault is counted
 pub faulted_limits : (w w' : World) (tenant : List ℕ) (limits : limit.Limits) → w'.instances ≡ w.instances → put_out w' ≡ put_out w →
     fault_count w' ≡ min (fault_count w + 1) (2 ^ 64 - 1) → w'.clock ≡ w.clock → ((t : List ℕ) → limits_of t w'.limits ≡ limits_of t w.limits) →
-    Faulted w (Limits tenant limits) w'
-faulted_limits w w' tenant limits instances outputs counted clock same = record {
+    w'.service_key ≡ w.service_key → Faulted w (Limits tenant limits) w'
+faulted_limits w w' tenant limits instances outputs counted clock same service_key = record {
   taken = refl;
   stopped = λ i. false;
   worked = λ i never. absurd cc;
@@ -78,6 +80,7 @@ faulted_limits w w' tenant limits instances outputs counted clock same = record 
   appended = outputs ∙ sym (append-nil (put_out w));
   silent = λ all. refl;
   limits = same;
+  service_key = service_key;
   refused = keep_equal _ _ instances;
   counted = counted;
   clock = clock;

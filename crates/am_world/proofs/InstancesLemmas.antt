@@ -5,14 +5,13 @@ use Rattle.std.proofs.lemmas.Bool.Decides.{nat_tests}
 use Rattle.std.proofs.lemmas.List.{length-map}
 use Rattle.std.proofs.lemmas.Option.{slice_get_read, slice_get_within}
 use Rattle.am_world.specs.declared.instance.Instance.{Instance}
-use Rattle.am_api.specs.Decision.{Decision}
+use Rattle.am_api.specs.Replied.{Decision}
 use Rattle.am_http.specs.Connections.{bytes_of, left_open}
 use Rattle.am_http.specs.declared.request.Request.{Request}
-use Rattle.am_limit.specs.declared.limits.Limits.{Limits}
 use Rattle.am_world.specs.declared.event.Output.{Output}
 use Rattle.am_world.specs.Places.{AreNumbered, HasMore, IsDownAt, IsReadOnce, KeepRefused, SameElsewhere, bytes_at, bytes_where, here_in, here_of, incarnation_at, incarnation_where, instance_at, local_at, local_in, local_where, numbers, reads, refused_at, refused_where, roster_of, up_at, up_where}
 use Rattle.am_http.specs.Verdict.{verdict}
-use Rattle.am_world.specs.Reaction.{Brought, Here, MayDecide, blank, brought, decision_at, retired_if}
+use Rattle.am_world.specs.Reaction.{Brought, Here, MayDecide, Terms, blank, brought, decision_at, retired_if}
 use Rattle.am_world.specs.Roster.{IsSameRoster}
 use Rattle.am_world.specs.Setup.{is_instance}
 use Rattle.am_world.specs.Taking.{Brings, Takes, taken_at}
@@ -227,10 +226,10 @@ unfolding refused_at
 refused_here i xs x e = rw e refl
 
 -- what the instance goes by is what the number tells
-here_here : (i moment : ℕ) (limits : Limits) (xs : List Instance) (x : Instance) → instance_at i xs ≡ Some x →
-    here_in moment limits i xs ≡ here_of x moment limits
-here_here i moment limits xs x e =
-    rw (incarnation_here i xs x e) (ap (λ n. (let h : Here = record { instance = n; incarnation = x.incarnation; moment = moment; limits = limits } in h)) (sym (number_of i xs x e)))
+here_here : (i moment : ℕ) (terms : Terms) (xs : List Instance) (x : Instance) → instance_at i xs ≡ Some x →
+    here_in moment terms i xs ≡ here_of x moment terms
+here_here i moment terms xs x e =
+    rw (incarnation_here i xs x e) (ap (λ n. (let h : Here = record { instance = n; incarnation = x.incarnation; moment = moment; terms = terms } in h)) (sym (number_of i xs x e)))
 
 -- what a piece brings is told by the instance that takes it
 taken_here : (i c : ℕ) (xs : List Instance) (x : Instance) (bytes : List ℕ) (decide : Request → Decision) → instance_at i xs ≡ Some x →
@@ -238,23 +237,23 @@ taken_here : (i c : ℕ) (xs : List Instance) (x : Instance) (bytes : List ℕ) 
 unfolding local_at
 taken_here i c xs x bytes decide e = rw e refl
 
-decided_here : (i moment : ℕ) (limits : Limits) (xs ys : List Instance) (x y : Instance) (request : Request) (d : Decision) →
+decided_here : (i moment : ℕ) (terms : Terms) (xs ys : List Instance) (x y : Instance) (request : Request) (d : Decision) →
     instance_at i xs ≡ Some x → instance_at i ys ≡ Some y →
-    MayDecide y.cache.refused request (decision_at (here_of x moment limits) request (local_in request.tenant x)) d →
-    MayDecide (refused_at i ys) request (decision_at (here_in moment limits i xs) request (local_at request.tenant i xs)) d
-decided_here i moment limits xs ys x y request d here there may =
-    rw (refused_here i ys y there, here_here i moment limits xs x here, local_here request.tenant i xs x here) may
+    MayDecide y.cache.refused request (decision_at (here_of x moment terms) request (local_in request.tenant x)) d →
+    MayDecide (refused_at i ys) request (decision_at (here_in moment terms i xs) request (local_at request.tenant i xs)) d
+decided_here i moment terms xs ys x y request d here there may =
+    rw (refused_here i ys y there, here_here i moment terms xs x here, local_here request.tenant i xs x here) may
 
 -- the instance at a place took a piece in
-pub takes_here : (i c : ℕ) (xs ys : List Instance) (x y : Instance) (bytes : List ℕ) (moment : ℕ) (limits : List ℕ → Limits) (outs outs' : List Output) →
-    instance_at i xs ≡ Some x → Changed i xs ys y → Brings (verdict bytes) c moment limits x y outs outs' →
+pub takes_here : (i c : ℕ) (xs ys : List Instance) (x y : Instance) (bytes : List ℕ) (moment : ℕ) (terms : List ℕ → Terms) (outs outs' : List Output) →
+    instance_at i xs ≡ Some x → Changed i xs ys y → Brings (verdict bytes) c moment terms x y outs outs' →
     ((d : ℕ) → bytes_of d y.front ≡ (if nat_eq d c then left_open (verdict bytes) bytes else bytes_of d x.front)) →
-    y.up ≡ x.up → y.incarnation ≡ x.incarnation → Takes i c bytes moment limits xs ys outs outs'
-takes_here i c xs ys x y bytes moment limits outs outs' here change brings front up incarnation =
+    y.up ≡ x.up → y.incarnation ≡ x.incarnation → Takes i c bytes moment terms xs ys outs outs'
+takes_here i c xs ys x y bytes moment terms outs outs' here change brings front up incarnation =
     let same = taken_here i c xs x bytes brings.decide here in
     record {
       decide = brings.decide;
-      decided = λ request is. decided_here i moment (limits request.tenant) xs ys x y request (brings.decide request) here change.here (brings.decided request is);
+      decided = λ request is. decided_here i moment (terms request.tenant) xs ys x y request (brings.decide request) here change.here (brings.decided request is);
       outputs = brings.outputs ∙ ap (λ (b : Brought). outs ++ b.outputs) (sym same);
       fits = ap (λ (b : Brought). b.fits) same ∙ brings.fits;
       local = λ t. local_here t i ys y change.here ∙ brings.local t ∙ ap (λ (b : Brought). b.local t) (sym same);

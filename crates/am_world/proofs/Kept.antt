@@ -40,18 +40,20 @@ roster_then a b c first next = record { up = λ i. first.up i ∙ next.up i; inc
 pub record SameParts (w w' : World) : Type 0 where
   pub clock : w'.clock ≡ w.clock
   pub limits : w'.limits ≡ w.limits
+  pub service_key : w'.service_key ≡ w.service_key
   pub roster : IsSameRoster (roster_of w'.instances) (roster_of w.instances)
   pub local : (t : List ℕ) (i : ℕ) → local_at t i w'.instances ≡ local_at t i w.instances
   pub refused : (i : ℕ) → refused_at i w'.instances ≡ refused_at i w.instances
 
 pub same_itself : (w : World) → SameParts w w
-same_itself w = record { clock = refl; limits = refl; roster = same_again (roster_of w.instances); local = λ t i. refl; refused = λ i. refl }
+same_itself w = record { clock = refl; limits = refl; service_key = refl; roster = same_again (roster_of w.instances); local = λ t i. refl; refused = λ i. refl }
 
 pub stands_same : (t : List ℕ) (w w' : World) (p : PrivateCluster) → SameParts w w' → Stands t w p → Stands t w' p
 stands_same t w w' p e s = record {
   tenant = s.tenant;
   clock = e.clock ∙ s.clock;
   limits = ap (limits_of t) e.limits ∙ s.limits;
+  service_key = e.service_key ∙ s.service_key;
   roster = roster_then _ _ _ e.roster s.roster;
   local = λ i. e.local t i ∙ s.local i;
 }
@@ -103,6 +105,7 @@ kept_open w w' c i up reading same outputs faults = record {
   roster = same.roster;
   clock = same.clock;
   limits = λ t. ap (limits_of t) same.limits;
+  service_key = same.service_key;
   refused = keep_same _ _ same.refused;
   faults = faults;
 }
@@ -127,6 +130,7 @@ kept_nothing w e unchanged nothing unsaid roster clock limits = record {
   roster = roster;
   clock = clock;
   limits = λ t. limits t (limits_of t w.limits);
+  service_key = refl;
   refused = keep_equal w.instances w.instances refl;
   faults = refl;
 }
@@ -184,26 +188,27 @@ local_ticked true m own = local_of-retired m own
 local_ticked false m own = refl
 
 stands_ticked : (t : List ℕ) (w w' : World) (p : PrivateCluster) (m : ℕ) → w'.clock ≡ m → w'.limits ≡ w.limits →
-    Retires m w.instances w'.instances → Stands t w p → Stands t w' (ticked m p)
-stands_ticked t w w' p m clock limits retires s = record {
+    w'.service_key ≡ w.service_key → Retires m w.instances w'.instances → Stands t w p → Stands t w' (ticked m p)
+stands_ticked t w w' p m clock limits service_key retires s = record {
   tenant = s.tenant;
   clock = clock;
   limits = ap (limits_of t) limits ∙ s.limits;
+  service_key = service_key ∙ s.service_key;
   roster = roster_then _ _ _ retires.roster s.roster;
   local = λ i. retires.local t i ∙ rw (s.roster.up i, s.local i) (sym (local_ticked (p.roster.up i) m (p.at i)));
 }
 
 pub kept_tick : (w w' : World) (m : ℕ) → (nat_lt last_moment m || nat_lt m w.clock) ≡ false → w'.clock ≡ m →
-    Retires m w.instances w'.instances → w'.limits ≡ w.limits → put_out w' ≡ put_out w → fault_count w' ≡ fault_count w → Kept w (Tick m) w'
+    Retires m w.instances w'.instances → w'.limits ≡ w.limits → w'.service_key ≡ w.service_key → put_out w' ≡ put_out w → fault_count w' ≡ fault_count w → Kept w (Tick m) w'
 unfolding watch adds front_told
-kept_tick w w' m allowed clock retires limits outputs faults = record {
+kept_tick w w' m allowed clock retires limits service_key outputs faults = record {
   follows = λ v f. record { reading = λ c i. retires.reading c i ∙ f.reading c i; roster = roster_then _ _ _ retires.roster f.roster };
   outs = [];
   appended = outputs ∙ sym (append-nil (put_out w));
   tenants = λ t v p given.
       let course_is : course p (Ticked m) ≡ unchanged (ticked m p) = tick_course false p m (rw (← given.stands.clock) allowed) in
       record {
-        stands = rw (ap (λ (q : Course). q.cluster) course_is) (stands_ticked t w w' p m clock limits retires given.stands);
+        stands = rw (ap (λ (q : Course). q.cluster) course_is) (stands_ticked t w w' p m clock limits service_key retires given.stands);
         told = λ u later. sym (ap (λ (q : Course). map (output_of p.tenant) q.said ++ []) course_is);
         fits = ap (λ (q : Course). q.fits && true) course_is;
       };
@@ -212,6 +217,7 @@ kept_tick w w' m allowed clock retires limits outputs faults = record {
   roster = retires.roster;
   clock = rw allowed clock;
   limits = λ t. ap (limits_of t) limits;
+  service_key = service_key;
   refused = keep_same _ _ retires.refused;
   faults = faults;
 }
@@ -223,36 +229,37 @@ limited_course p limits = refl
 
 -- the tenant's cluster gets them, and no other
 limited_alone : (b : Bool) (t : List ℕ) (w' : World) (p : PrivateCluster) (limits : limit.Limits) →
-    limits_of t w'.limits ≡ (if b then limits else p.limits) → p.tenant ≡ t → w'.clock ≡ p.clock →
+    limits_of t w'.limits ≡ (if b then limits else p.limits) → w'.service_key ≡ p.service_key → p.tenant ≡ t → w'.clock ≡ p.clock →
     IsSameRoster (roster_of w'.instances) p.roster → ((i : ℕ) → local_at t i w'.instances ≡ local_of (p.at i)) →
     Stands t w' (after_all p (if b then Limited limits ∷ [] else []))
     × (told_all p (if b then Limited limits ∷ [] else []) ≡ []) × (fits_all p (if b then Limited limits ∷ [] else []) ≡ true)
 unfolding course
-limited_alone true t w' p limits has tenant clock roster local =
-    (record { tenant = tenant; clock = clock; limits = has; roster = roster; local = local }, refl, refl)
-limited_alone false t w' p limits has tenant clock roster local =
-    (record { tenant = tenant; clock = clock; limits = has; roster = roster; local = local }, refl, refl)
+limited_alone true t w' p limits has service_key tenant clock roster local =
+    (record { tenant = tenant; clock = clock; limits = has; service_key = service_key; roster = roster; local = local }, refl, refl)
+limited_alone false t w' p limits has service_key tenant clock roster local =
+    (record { tenant = tenant; clock = clock; limits = has; service_key = service_key; roster = roster; local = local }, refl, refl)
 
 limits_then : (b : Bool) (limits old own : limit.Limits) → old ≡ own → (if b then limits else old) ≡ (if b then limits else own)
 limits_then b limits old own e = rw e refl
 
 pub kept_limits : (w w' : World) (tenant : List ℕ) (limits : limit.Limits) →
-    ((t : List ℕ) → limits_of t w'.limits ≡ (if same t tenant then limits else limits_of t w.limits)) → w'.clock ≡ w.clock →
+    ((t : List ℕ) → limits_of t w'.limits ≡ (if same t tenant then limits else limits_of t w.limits)) → w'.service_key ≡ w.service_key → w'.clock ≡ w.clock →
     w'.instances ≡ w.instances → put_out w' ≡ put_out w → fault_count w' ≡ fault_count w → Kept w (Limits tenant limits) w'
 unfolding watch adds front_told
-kept_limits w w' tenant limits set clock instances outputs faults = record {
+kept_limits w w' tenant limits set service_key clock instances outputs faults = record {
   follows = λ v f. record { reading = rw instances f.reading; roster = rw instances f.roster };
   outs = [];
   appended = outputs ∙ sym (append-nil (put_out w));
   tenants = λ t v p given.
       let own = limited_alone (same t tenant) t w' p limits (set t ∙ limits_then (same t tenant) limits _ _ given.stands.limits)
-      given.stands.tenant (clock ∙ given.stands.clock) (rw instances given.stands.roster) (rw instances given.stands.local) in
+      (service_key ∙ given.stands.service_key) given.stands.tenant (clock ∙ given.stands.clock) (rw instances given.stands.roster) (rw instances given.stands.local) in
       record { stands = own.0; told = λ u later. sym own.1; fits = own.2 };
   front = λ v f u later. refl;
   owned = λ v f u later. refl;
   roster = rw instances (same_again (roster_of w.instances));
   clock = clock;
   limits = set;
+  service_key = service_key;
   refused = keep_equal _ _ instances;
   faults = faults;
 }

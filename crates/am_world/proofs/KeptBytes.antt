@@ -8,9 +8,8 @@ use Rattle.am_http.specs.Connections.{left_open}
 use Rattle.am_http.specs.Verdict.{verdict}
 use Rattle.am_http.specs.Replies.{reply}
 use Rattle.am_alert.specs.Made.{counts_fit}
-use Rattle.am_api.specs.Decision.{Decision}
 use Rattle.am_api.specs.Patterns.{patterns_of_request}
-use Rattle.am_limit.specs.declared.limits.Limits.{Limits}
+use Rattle.am_api.specs.Replied.{Decision}
 use Rattle.am_http.specs.declared.request.Fed.{Fed}
 use Rattle.am_http.specs.declared.request.Fed.TheVariants as fed
 use Rattle.am_http.specs.declared.request.Request.{Request}
@@ -26,9 +25,9 @@ use Rattle.am_world.specs.declared.world.World.{World}
 use Rattle.am_world.specs.Moments.{effective, last_moment}
 use Rattle.am_world.specs.Outputs.{answered_by, answered_on, are_owned, front_outputs, front_told, outputs_of, owner}
 use Rattle.am_world.specs.Places.{AreBuilt, KeepRefused, SameElsewhere, bytes_at, bytes_where, here_in, incarnation_at, incarnation_where, instance_at, local_at, local_where, refused_at, roster_of, up_at, up_where}
-use Rattle.am_world.specs.PrivateCluster.{Accepted, Asked, Course, PrivateCluster, PrivateInstance, accepted_at, after, after_all, course, fits_all, here_at, items_in, local_of, own_after, patterns_in, told, told_all}
+use Rattle.am_world.specs.PrivateCluster.{Accepted, Asked, Course, PrivateCluster, PrivateInstance, accepted_at, after, after_all, course, fits_all, here_at, items_in, local_of, own_after, patterns_in, terms_at, told, told_all}
 use Rattle.am_item.specs.Best.{all_joined, best}
-use Rattle.am_world.specs.Reaction.{Brought, Here, MayDecide, Reaction, asked, brought, carried_out, decision_at, local_after}
+use Rattle.am_world.specs.Reaction.{Brought, Here, MayDecide, Reaction, Terms, asked, brought, carried_out, decision_at, local_after, terms_of, terms_with}
 use Rattle.am_world.specs.Roster.{IsSameRoster, put_at}
 use Rattle.am_world.specs.Simulation.{Follows, Kept, Later, Stands, bytes_read, fault_count, put_out, refused_by}
 use Rattle.am_world.specs.Taking.{Takes, taken_at}
@@ -205,6 +204,7 @@ pub record Reacts (t : List ℕ) (n : ℕ) (w w' : World) (reaction : Reaction) 
   pub others : (j : ℕ) → nat_eq j n ≡ false → local_at t j w'.instances ≡ local_at t j w.instances
   pub clock : w'.clock ≡ w.clock
   pub limits : w'.limits ≡ w.limits
+  pub service_key : w'.service_key ≡ w.service_key
   pub roster : IsSameRoster (roster_of w'.instances) (roster_of w.instances)
 
 stands_reacts : (t : List ℕ) (n m : ℕ) (w w' : World) (p : PrivateCluster) (reaction : Reaction) → Reacts t n w w' reaction → Stands t w p →
@@ -213,6 +213,7 @@ stands_reacts t n m w w' p reaction r s = record {
   tenant = s.tenant;
   clock = r.clock ∙ s.clock;
   limits = ap (limits_of t) r.limits ∙ s.limits;
+  service_key = r.service_key ∙ s.service_key;
   roster = roster_then _ _ _ r.roster s.roster;
   local = λ j. elim (cases_Bool (nat_eq j n)) [
     | inl h ↦
@@ -223,14 +224,23 @@ stands_reacts t n m w w' p reaction r s = record {
 }
 
 -- the private cluster's reaction is that of what the world has
+terms_same : (t : List ℕ) (w : World) (p : PrivateCluster) → Stands t w p → terms_at p ≡ terms_of w.service_key w.limits t
+terms_same t w p s =
+    ap (λ name. terms_with p.service_key p.limits name) s.tenant ∙ ap (λ limits. terms_with p.service_key limits t) (sym s.limits)
+    ∙ ap (λ key. terms_with key (limits_of t w.limits) t) (sym s.service_key)
+
 here_same : (t : List ℕ) (n m : ℕ) (w : World) (p : PrivateCluster) → Stands t w p →
-    here_at p (effective m p.clock) n ≡ here_in (effective m w.clock) (limits_of t w.limits) n w.instances
+    here_at p (effective m p.clock) n ≡ here_in (effective m w.clock) (terms_of w.service_key w.limits t) n w.instances
 here_same t n m w p s =
-    rw (← s.clock, ← s.limits) (ap (λ k. (let h : Here = record { instance = n; incarnation = k; moment = effective m w.clock; limits = limits_of t w.limits } in h)) (sym (s.roster.incarnation n)))
+    ap (λ clock. (let h : Here = record { instance = n; incarnation = p.roster.incarnation n; moment = effective m clock; terms = terms_at p } in h)) (sym s.clock)
+    ∙ ap (λ terms. (let h : Here = record { instance = n; incarnation = p.roster.incarnation n; moment = effective m w.clock; terms = terms } in h)) (terms_same t w p s)
+    ∙ ap (λ k. (let h : Here = record { instance = n; incarnation = k; moment = effective m w.clock; terms = terms_of w.service_key w.limits t } in h))
+    (sym (s.roster.incarnation n))
 
 -- the decision on a request of the tenant, by what the world has
 abbrev decision_in : List ℕ → (n m : ℕ) → Request → World → Decision
-decision_in t n m r w = decision_at (here_in (effective m w.clock) (limits_of t w.limits) n w.instances) r (local_at t n w.instances)
+decision_in t n m r w =
+    decision_at (here_in (effective m w.clock) (terms_of w.service_key w.limits t) n w.instances) r (local_at t n w.instances)
 
 -- a request of the tenant, on the world and on its cluster
 asked_course : (t : List ℕ) (n c m : ℕ) (r : Request) (w : World) (p : PrivateCluster) → Stands t w p →
@@ -241,13 +251,14 @@ unfolding course asked
 asked_course t n c m r w p s = rw (← here_same t n m w p s, s.local n) refl
 
 -- a tenant of whom nothing changed
-stands_kept : (t : List ℕ) (w w' : World) (p : PrivateCluster) → w'.clock ≡ w.clock → w'.limits ≡ w.limits →
+stands_kept : (t : List ℕ) (w w' : World) (p : PrivateCluster) → w'.clock ≡ w.clock → w'.limits ≡ w.limits → w'.service_key ≡ w.service_key →
     IsSameRoster (roster_of w'.instances) (roster_of w.instances) →
     ((j : ℕ) → local_at t j w'.instances ≡ local_at t j w.instances) → Stands t w p → Stands t w' p
-stands_kept t w w' p clock limits roster local s = record {
+stands_kept t w w' p clock limits service_key roster local s = record {
   tenant = s.tenant;
   clock = clock ∙ s.clock;
   limits = ap (limits_of t) limits ∙ s.limits;
+  service_key = service_key ∙ s.service_key;
   roster = roster_then _ _ _ roster s.roster;
   local = λ j. local j ∙ s.local j;
 }
@@ -286,33 +297,33 @@ IsRight t n m w told decide = (r : Request) → told ≡ fed.Request r → t ≡
 -- the tenant that asked
 asked_alone : (t : List ℕ) (n c m : ℕ) (r : Request) (w w' : World) (p : PrivateCluster) → Stands t w p →
     local_at t n w'.instances ≡ local_after (carried_out c (decision_in t n m r w) (local_at t n w.instances).ledger) (local_at t n w.instances) →
-    SameElsewhere n w.instances w'.instances → w'.clock ≡ w.clock → w'.limits ≡ w.limits →
+    SameElsewhere n w.instances w'.instances → w'.clock ≡ w.clock → w'.limits ≡ w.limits → w'.service_key ≡ w.service_key →
     IsSameRoster (roster_of w'.instances) (roster_of w.instances) → Stands t w' (after p (Asked c n m r))
 unfolding local_at
-asked_alone t n c m r w w' p s here others clock limits roster =
+asked_alone t n c m r w w' p s here others clock limits service_key roster =
     let reaction : Reaction = carried_out c (decision_in t n m r w) (local_at t n w.instances).ledger in
-    let reacts : Reacts t n w w' reaction = record { here = here; others = λ j h. ap (local_where t) (others j h); clock = clock; limits = limits; roster = roster } in
+    let reacts : Reacts t n w w' reaction = record { here = here; others = λ j h. ap (local_where t) (others j h); clock = clock; limits = limits; service_key = service_key; roster = roster } in
     rw (ap (λ (q : Course). q.cluster) (asked_course t n c m r w p s)) (stands_reacts t n (effective m p.clock) w w' p reaction reacts s)
 
 stands_bytes : (told : Fed) (decide : Request → Decision) (t : List ℕ) (n c m : ℕ) (w w' : World) (p : PrivateCluster) → Stands t w p →
     IsRight t n m w told decide → ((s : List ℕ) → local_at s n w'.instances ≡ (brings told decide n c w).local s) →
-    SameElsewhere n w.instances w'.instances → w'.clock ≡ w.clock → w'.limits ≡ w.limits →
+    SameElsewhere n w.instances w'.instances → w'.clock ≡ w.clock → w'.limits ≡ w.limits → w'.service_key ≡ w.service_key →
     IsSameRoster (roster_of w'.instances) (roster_of w.instances) → Stands t w' (after_all p (asked_by t c n m told))
-stands_bytes fed.Waits decide t n c m w w' p s right local others clock limits roster =
-    stands_kept t w w' p clock limits roster (local_everywhere t n w.instances w'.instances (local t) others) s
-stands_bytes (fed.Refused reason) decide t n c m w w' p s right local others clock limits roster =
-    stands_kept t w w' p clock limits roster (local_everywhere t n w.instances w'.instances (local t) others) s
-stands_bytes fed.Ready decide t n c m w w' p s right local others clock limits roster =
-    stands_kept t w w' p clock limits roster (local_everywhere t n w.instances w'.instances (local t) others) s
-stands_bytes (fed.Request r) decide t n c m w w' p s right local others clock limits roster = elim (same_tells t r.tenant) [
+stands_bytes fed.Waits decide t n c m w w' p s right local others clock limits service_key roster =
+    stands_kept t w w' p clock limits service_key roster (local_everywhere t n w.instances w'.instances (local t) others) s
+stands_bytes (fed.Refused reason) decide t n c m w w' p s right local others clock limits service_key roster =
+    stands_kept t w w' p clock limits service_key roster (local_everywhere t n w.instances w'.instances (local t) others) s
+stands_bytes fed.Ready decide t n c m w w' p s right local others clock limits service_key roster =
+    stands_kept t w w' p clock limits service_key roster (local_everywhere t n w.instances w'.instances (local t) others) s
+stands_bytes (fed.Request r) decide t n c m w w' p s right local others clock limits service_key roster = elim (same_tells t r.tenant) [
   | inl e ↦
       let here = rw (e.0) at (local t)
       ∙ ap (λ k. local_after (carried_out c (decide r) (local_at k n w.instances).ledger) (local_at t n w.instances)) (sym e.1)
       ∙ ap (λ d. local_after (carried_out c d (local_at t n w.instances).ledger) (local_at t n w.instances)) (right r refl e.1) in
-      rw (e.0) (asked_alone t n c m r w w' p s here others clock limits roster)
+      rw (e.0) (asked_alone t n c m r w w' p s here others clock limits service_key roster)
   | inr e ↦
       let here = rw (e.0) at (local t) in
-      rw (e.0) (stands_kept t w w' p clock limits roster (local_everywhere t n w.instances w'.instances here others) s)
+      rw (e.0) (stands_kept t w w' p clock limits service_key roster (local_everywhere t n w.instances w'.instances here others) s)
 ]
 
 told_asked : (t : List ℕ) (n c m : ℕ) (r : Request) (w : World) (p : PrivateCluster) → Stands t w p →
@@ -379,10 +390,10 @@ owned_bytes (fed.Request r) decide n c bytes v u w later = owned_reply r.tenant 
 
 -- ---- a piece
 
-roster_taken : (n c : ℕ) (bytes : List ℕ) (m : ℕ) (limits : List ℕ → Limits) (xs ys : List Instance) (outs outs' : List Output) →
-    Takes n c bytes m limits xs ys outs outs' → IsSameRoster (roster_of ys) (roster_of xs)
+roster_taken : (n c : ℕ) (bytes : List ℕ) (m : ℕ) (terms : List ℕ → Terms) (xs ys : List Instance) (outs outs' : List Output) →
+    Takes n c bytes m terms xs ys outs outs' → IsSameRoster (roster_of ys) (roster_of xs)
 unfolding up_at incarnation_at
-roster_taken n c bytes m limits xs ys outs outs' takes = record {
+roster_taken n c bytes m terms xs ys outs outs' takes = record {
   up = λ j. elim (cases_Bool (nat_eq j n)) [
     | inl h ↦ let number : j ≡ n = grind (arith, nat_tests) in ap (λ k. up_at k ys) number ∙ takes.up ∙ ap (λ k. up_at k xs) (sym number)
     | inr h ↦ ap up_where (takes.others j h)
@@ -413,10 +424,10 @@ is_right t n c m bytes w w' told decide decided built r is own =
     right_decision t n c m r w (refused_by w') (decide r) own (rw is at built) (decided r is)
 
 pub kept_bytes : (w w' : World) (n c m : ℕ) (before piece : List ℕ) → nat_lt last_moment m ≡ false → bytes_at c n w.instances ≡ Some before →
-    Takes n c (before ++ piece) (effective m w.clock) (λ t. limits_of t w.limits) w.instances w'.instances (put_out w) (put_out w') →
-    KeepRefused w.instances w'.instances → w'.clock ≡ w.clock → w'.limits ≡ w.limits →
+    Takes n c (before ++ piece) (effective m w.clock) (λ t. terms_of w.service_key w.limits t) w.instances w'.instances (put_out w) (put_out w') →
+    KeepRefused w.instances w'.instances → w'.clock ≡ w.clock → w'.limits ≡ w.limits → w'.service_key ≡ w.service_key →
     fault_count w' ≡ fault_count w → Kept w (Bytes c m piece) w'
-kept_bytes w w' n c m before piece allowed here takes refused clock limits faults =
+kept_bytes w w' n c m before piece allowed here takes refused clock limits service_key faults =
     let bytes = before ++ piece in
     let told = verdict bytes in
     let roster = roster_taken n c bytes (effective m w.clock) _ w.instances w'.instances _ _ takes in
@@ -431,7 +442,7 @@ kept_bytes w w' n c m before piece allowed here takes refused clock limits fault
           let adds_here = gives t v w n c m before piece allowed here given.follows in
           let right = is_right t n c m bytes w w' told takes.decide takes.decided (rw adds_here at given.brought) in
           record {
-            stands = rw adds_here (stands_bytes told takes.decide t n c m w w' p given.stands right takes.local takes.others clock limits roster);
+            stands = rw adds_here (stands_bytes told takes.decide t n c m w w' p given.stands right takes.local takes.others clock limits service_key roster);
             told = λ u later. rw adds_here
                 (told_bytes told takes.decide t n c m bytes v u w p given.stands right (rw (sees v w n c m before piece allowed here given.follows) at later));
             fits = rw adds_here (fits_bytes told takes.decide t n c m w p given.stands right takes.fits);
@@ -442,6 +453,7 @@ kept_bytes w w' n c m before piece allowed here takes refused clock limits fault
       roster = roster;
       clock = clock;
       limits = λ t. ap (limits_of t) limits;
+      service_key = service_key;
       refused = refused;
       faults = faults;
     }

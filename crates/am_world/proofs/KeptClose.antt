@@ -74,6 +74,7 @@ kept_close w w' n c before here reading same outputs faults = record {
   roster = same.roster;
   clock = same.clock;
   limits = λ t. ap (limits_of t) same.limits;
+  service_key = same.service_key;
   refused = keep_same _ _ same.refused;
   faults = faults;
 }

@@ -97,7 +97,8 @@ pub follows_opening : (origin : Origin) (w : World) → IsSameRoster (roster_of 
     ((c i : ℕ) → bytes_at c i w.instances ≡ None) → Follows (first_watch origin) w
 follows_opening origin w roster unread = record { reading = λ c i. unread c i; roster = roster }
 
-pub stands_opening : (origin : Origin) (t : List ℕ) (w : World) → w.clock ≡ 0 → w.limits ≡ [] → IsSameRoster (roster_of w.instances) (opened_roster origin) →
-    ((s : List ℕ) (i : ℕ) → local_at s i w.instances ≡ blank) → Stands t w (opened origin t)
+pub stands_opening : (origin : Origin) (t : List ℕ) (w : World) → w.clock ≡ 0 → w.limits ≡ [] → w.service_key ≡ origin.service_key →
+    IsSameRoster (roster_of w.instances) (opened_roster origin) → ((s : List ℕ) (i : ℕ) → local_at s i w.instances ≡ blank) → Stands t w (opened origin t)
 unfolding best limits_of
-stands_opening origin t w clock limits roster local = record { tenant = refl; clock = clock; limits = rw limits refl; roster = roster; local = λ i. local t i }
+stands_opening origin t w clock limits service_key roster local =
+    record { tenant = refl; clock = clock; limits = rw limits refl; service_key = service_key; roster = roster; local = λ i. local t i }

@@ -21,6 +21,7 @@ forgets_stands t w w' p e s = record {
   tenant = s.tenant;
   clock = e.clock ∙ s.clock;
   limits = rw e.limits s.limits;
+  service_key = e.service_key ∙ s.service_key;
   roster = rw e.instances s.roster;
   local = rw e.instances s.local;
 }

@@ -4,10 +4,10 @@ use Rattle.am_http.specs.Connections.{bytes_of}
 use Rattle.am_book.specs.Book.{items_of}
 use Rattle.am_item.specs.Counts.{count_of}
 use Rattle.am_item.specs.declared.fault.Fault.{Fault}
-use Rattle.am_limit.specs.declared.limits.Limits.{Limits}
 use Rattle.am_match.specs.Checking.{AreRefusedRightly}
+use Rattle.am_words.specs.Places.{place_of}
 use Rattle.am_world.specs.declared.instance.Instance.{Instance}
-use Rattle.am_world.specs.Reaction.{Local, Here, blank}
+use Rattle.am_world.specs.Reaction.{Local, Here, Terms, blank}
 use Rattle.am_world.specs.Roster.{Roster}
 
 -- the numbers of all instances
@@ -24,12 +24,14 @@ instance_at i instances = find (λ (x : Instance). x.number == i) instances
 
 -- all that the instance has of the tenant
 unfoldable pub local_in : List ℕ → Instance → Local
-local_in t x = record { held = items_of t x.holdings; ledger = record { stamps = count_of t x.counts } }
+local_in t x = record {
+  held = items_of t x.holdings;
+  ledger = record { stamps = count_of t x.counts; drawn = place_of t x.places };
+}
 
--- what the instance goes by at a moment, for a tenant of these limits
-abbrev pub here_of : Instance → ℕ → Limits → Here
-here_of x moment limits =
-    record { instance = x.number; incarnation = x.incarnation; moment = moment; limits = limits }
+-- what the instance goes by at a moment, for a tenant on these terms
+abbrev pub here_of : Instance → ℕ → Terms → Here
+here_of x moment terms = record { instance = x.number; incarnation = x.incarnation; moment = moment; terms = terms }
 
 -- .. at a place
 abbrev pub local_where : List ℕ → Option Instance → Local
@@ -81,10 +83,10 @@ cause_at i instances = cause_where (instance_at i instances)
 abbrev pub roster_of : List Instance → Roster
 roster_of instances = record { up = λ i. up_at i instances; incarnation = λ i. incarnation_at i instances }
 
--- what the instance of a number goes by at a moment, for a tenant of these limits
-abbrev pub here_in : ℕ → Limits → ℕ → List Instance → Here
-here_in moment limits i instances =
-    record { instance = i; incarnation = incarnation_at i instances; moment = moment; limits = limits }
+-- what the instance of a number goes by at a moment, for a tenant on these terms
+abbrev pub here_in : ℕ → Terms → ℕ → List Instance → Here
+here_in moment terms i instances =
+    record { instance = i; incarnation = incarnation_at i instances; moment = moment; terms = terms }
 
 -- the patterns that an instance was refused the build of
 abbrev pub refused_where : Option Instance → List (List ℕ)

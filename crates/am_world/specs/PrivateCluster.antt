@@ -13,7 +13,7 @@ use Rattle.am_world.specs.declared.event.Output.{Output}
 use Rattle.am_world.specs.declared.event.Refused.{Refused}
 use Rattle.am_world.specs.declared.event.Refused.TheVariants.{MomentRefused}
 use Rattle.am_world.specs.Moments.{effective, is_refused_tick}
-use Rattle.am_world.specs.Reaction.{Ledger, no_ledger, Local, Here, Said, Reaction, asked, output_of}
+use Rattle.am_world.specs.Reaction.{Ledger, no_ledger, Local, Here, Terms, terms_with, Said, Reaction, asked, output_of}
 use Rattle.am_world.specs.Roster.{Roster, opened_roster, put_at}
 use Rattle.am_world.specs.Setup.{Origin}
 
@@ -36,9 +36,10 @@ pub record PrivateInstance : Type 0 where
   pub accepted : List Accepted
   pub ledger : Ledger
 
--- whose it is never changes; instances go by their number
+-- whose it is and the service's key never change; instances go by their number
 pub record PrivateCluster : Type 0 where
   pub tenant : List ℕ
+  pub service_key : List ℕ
   pub clock : ℕ
   pub limits : Limits
   pub roster : Roster
@@ -54,6 +55,7 @@ pub record Course : Type 0 where
 abbrev pub opened : Origin → List ℕ → PrivateCluster
 opened origin tenant = record {
   tenant = tenant;
+  service_key = origin.service_key;
   clock = 0;
   limits = default_limits;
   roster = opened_roster origin;
@@ -79,10 +81,14 @@ abbrev pub own_after : ℕ → Reaction → PrivateInstance → PrivateInstance
 own_after moment reaction own =
     record { accepted = own.accepted ++ accepted_at moment reaction.accepts; ledger = reaction.ledger }
 
+-- the terms on which its instances serve the tenant
+abbrev pub terms_at : PrivateCluster → Terms
+terms_at p = terms_with p.service_key p.limits p.tenant
+
 -- what the instance goes by at this moment
 abbrev pub here_at : PrivateCluster → (moment i : ℕ) → Here
 here_at p moment i =
-    record { instance = i; incarnation = p.roster.incarnation i; moment = moment; limits = p.limits }
+    record { instance = i; incarnation = p.roster.incarnation i; moment = moment; terms = terms_at p }
 
 abbrev pub unchanged : PrivateCluster → Course
 unchanged p = record { cluster = p; said = []; fits = true }

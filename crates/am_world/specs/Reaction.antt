@@ -1,5 +1,5 @@
 -- what one tenant has at one instance, and what the instance does when something happens to the tenant
-use Rattle.std.specs.Prelude.{◌≡◌, ◌⊎◌, ℕ, ◌+◌, Bool, true, false, List, [], ◌∷◌, length, map, filter, not, if◌then◌else◌}
+use Rattle.std.specs.Prelude.{◌≡◌, ◌⊎◌, ℕ, ◌+◌, Bool, true, false, List, [], ◌∷◌, length, map, filter, not, unwrap_or, if◌then◌else◌}
 use Rattle.am_alert.specs.Made.{counts_fit}
 use Rattle.am_alert.specs.declared.maker.Maker.{Maker}
 use Rattle.am_http.specs.Codes.{code_of, status_of}
@@ -16,15 +16,23 @@ use Rattle.am_item.specs.declared.fault.Fault.TheVariants.{OutOfMemory, CountsEx
 use Rattle.am_tenant.specs.Names.{same}
 use Rattle.am_world.specs.declared.event.Output.{Output}
 use Rattle.am_world.specs.declared.event.Output.TheVariants.{Reply}
+use Rattle.am_limit.specs.Books.{limits_of}
 use Rattle.am_limit.specs.declared.limits.Limits.{Limits}
 use Rattle.am_current.specs.Current.{configuration_in}
-use Rattle.am_api.specs.Decision.{Decision, decided}
+use Rattle.am_words.specs.Words.{generator_of}
+use Rattle.am_query.specs.Patterns.{HasRefused}
+use Rattle.am_listing.specs.Failing.{HasUnanswered, patterns_in_use}
+use Rattle.am_api.specs.Replied.{Decision}
+use Rattle.am_api.specs.Decision.{decided}
 use Rattle.am_api.specs.Deciding.{IsUnbuilt}
-use Rattle.am_api.specs.Patterns.{HasRefused, patterns_of_request, patterns_of_routes}
+use Rattle.am_api.specs.Patterns.{patterns_of_request}
+use Rattle.rand_chacha.specs.ChaCha.{ChaCha}
 
--- what an instance keeps of a tenant beside its items: how many stamps it has counted; the next one is one more
+-- what an instance keeps of a tenant beside its items: how many stamps it has counted, where the next one is one more; and
+-- the place of the next word that is drawn
 pub record Ledger : Type 0 where
   pub stamps : ℕ
+  pub drawn : ℕ
 
 -- all that an instance can tell of a tenant: the items that it holds, and the rest
 pub record Local : Type 0 where
@@ -32,18 +40,33 @@ pub record Local : Type 0 where
   pub ledger : Ledger
 
 abbrev pub no_ledger : Ledger
-no_ledger = record { stamps = 0 }
+no_ledger = record { stamps = 0; drawn = 0 }
 
 -- a tenant of whom the instance knows nothing
 abbrev pub blank : Local
 blank = record { held = []; ledger = no_ledger }
 
--- what an instance goes by beside what it has of the tenant: its number, its incarnation, the moment, and the tenant's limits
+-- the terms on which every instance serves a tenant: the tenant's name and the key of the service, of which the tenant's
+-- words are made, and the tenant's limits
+pub record Terms : Type 0 where
+  pub tenant : List ℕ
+  pub service_key : List ℕ
+  pub limits : Limits
+
+-- .. where the tenant has these limits
+abbrev pub terms_with : (service_key : List ℕ) (limits : Limits) (tenant : List ℕ) → Terms
+terms_with service_key limits tenant = record { tenant = tenant; service_key = service_key; limits = limits }
+
+-- .. where a book has the limits of all tenants
+abbrev pub terms_of : (service_key : List ℕ) (book : List (List ℕ × Limits)) (tenant : List ℕ) → Terms
+terms_of service_key book tenant = terms_with service_key (limits_of tenant book) tenant
+
+-- what an instance goes by beside what it has of the tenant: its number, its incarnation, the moment, and the tenant's terms
 pub record Here : Type 0 where
   pub instance : ℕ
   pub incarnation : ℕ
   pub moment : ℕ
-  pub limits : Limits
+  pub terms : Terms
 
 -- one thing that an instance says about a tenant: the reply of a connection
 pub data Said : Type 0 where
@@ -61,15 +84,29 @@ pub record Reaction : Type 0 where
 abbrev pub maker : Here → Ledger → Maker
 maker here ledger = record { instance = here.instance; incarnation = here.incarnation; used = ledger.stamps }
 
+-- the words of the tenant at the instance, from the next one on
+abbrev pub words : Here → Ledger → ChaCha
+words here ledger =
+    generator_of here.terms.service_key here.terms.tenant here.instance here.incarnation ledger.drawn
+
 -- the decision on a request of the tenant
 unfoldable pub decision_at : Here → Request → Local → Decision
-decision_at here request local = decided request local.held here.limits here.moment (maker here local.ledger)
+decision_at here request local =
+    decided request local.held here.terms.limits here.moment (maker here local.ledger) (words here local.ledger)
+
+-- what it keeps beside the items once a decision is carried out: these are counted, and where words were drawn, the place
+-- of the next one is kept
+abbrev pub ledger_after : Decision → Ledger → Ledger
+ledger_after decision ledger = record {
+  stamps = ledger.stamps + length decision.items;
+  drawn = unwrap_or decision.drawn ledger.drawn;
+}
 
 -- a request is decided at once: what it brings is accepted and counted, and the reply goes out
 abbrev pub carried_out : ℕ → Decision → Ledger → Reaction
 carried_out connection decision ledger = record {
   accepts = decision.items;
-  ledger = record { stamps = ledger.stamps + length decision.items };
+  ledger = ledger_after decision ledger;
   said = Replies connection (reply decision.status decision.body) ∷ [];
   fits = counts_fit decision.items;
 }
@@ -137,13 +174,13 @@ brought (fed.Request request) decide connection locals =
 
 -- ---- faults
 
--- what stops an instance at a request: a count would pass the greatest, or a pattern of the routes in use was refused a
--- build; memory may run out anywhere
+-- what stops an instance at a request: a count would pass the greatest, or a pattern of the configuration in use or of an
+-- active silence gave no answer; memory may run out anywhere
 abbrev pub StopsFor : Fault → Request → Here → Local → List (List ℕ) → Type 0
 StopsFor OutOfMemory request here local refused = Unit {0}
 StopsFor CountsExhausted request here local refused = counts_fit (decision_at here request local).items ≡ false
 StopsFor PatternNotBuilt request here local refused =
-    HasRefused refused (patterns_of_routes (configuration_in local.held).routes)
+    HasUnanswered refused (patterns_in_use (configuration_in local.held) here.moment local.held)
 
 -- .. and at bytes, by their verdict
 abbrev pub IsCause : Fault → Fed → (Request → Here) → (List ℕ → Local) → List (List ℕ) → Type 0

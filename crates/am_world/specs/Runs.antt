@@ -77,6 +77,7 @@ pub record Forgets (w w' : World) : Type 0 where
   pub clock : w'.clock ≡ w.clock
   pub instances : w'.instances ≡ w.instances
   pub limits : w'.limits ≡ w.limits
+  pub service_key : w'.service_key ≡ w.service_key
   pub faults : fault_count w' ≡ fault_count w
 
 -- of all that was put out since the opening, each tenant's outputs are those of its private cluster, which sees what the

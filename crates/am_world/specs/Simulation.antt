@@ -47,6 +47,7 @@ pub record Stands (t : List ℕ) (w : World) (p : PrivateCluster) : Type 0 where
   pub tenant : p.tenant ≡ t
   pub clock : w.clock ≡ p.clock
   pub limits : limits_of t w.limits ≡ p.limits
+  pub service_key : w.service_key ≡ p.service_key
   pub roster : IsSameRoster (roster_of w.instances) p.roster
   pub local : (i : ℕ) → local_at t i w.instances ≡ local_of (p.at i)
 
@@ -101,6 +102,7 @@ pub record Kept (w : World) (e : Event) (w' : World) : Type 0 where
   pub roster : IsSameRoster (roster_of w'.instances) (roster_after e (roster_of w.instances))
   pub clock : w'.clock ≡ clock_after e w.clock
   pub limits : (t : List ℕ) → limits_of t w'.limits ≡ limits_after e t (limits_of t w.limits)
+  pub service_key : w'.service_key ≡ w.service_key
   pub refused : KeepRefused w.instances w'.instances
   pub faults : fault_count w' ≡ fault_count w
 
@@ -132,6 +134,7 @@ pub record Faulted (w : World) (e : Event) (w' : World) : Type 0 where
   pub appended : put_out w' ≡ put_out w ++ outs
   pub silent : ((i : ℕ) → works w e i ≡ true → stopped i ≡ true) → outs ≡ []
   pub limits : (t : List ℕ) → limits_of t w'.limits ≡ limits_of t w.limits
+  pub service_key : w'.service_key ≡ w.service_key
   pub refused : KeepRefused w.instances w'.instances
   pub counted : fault_count w' ≡ min (fault_count w + faults_of stopped) (2 ^ 64 - 1)
   pub clock : w'.clock ≡ clock_after e w.clock

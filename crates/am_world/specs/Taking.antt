@@ -5,19 +5,18 @@ use Rattle.am_http.specs.Verdict.{verdict}
 use Rattle.am_http.specs.declared.request.Fed.{Fed}
 use Rattle.am_http.specs.declared.request.Fed.TheVariants as fed
 use Rattle.am_http.specs.declared.request.Request.{Request}
-use Rattle.am_limit.specs.declared.limits.Limits.{Limits}
-use Rattle.am_api.specs.Decision.{Decision}
+use Rattle.am_api.specs.Replied.{Decision}
 use Rattle.am_world.specs.declared.event.Output.{Output}
 use Rattle.am_world.specs.declared.instance.Instance.{Instance}
 use Rattle.am_world.specs.Places.{local_in, local_at, bytes_at, up_at, incarnation_at, here_of, here_in, refused_at, SameElsewhere}
-use Rattle.am_world.specs.Reaction.{Brought, MayDecide, brought, decision_at}
+use Rattle.am_world.specs.Reaction.{Brought, MayDecide, Terms, brought, decision_at}
 
--- what an instance has and has put out after bytes of this verdict, at this moment, where tenants have these limits
-pub record Brings (told : Fed) (c moment : ℕ) (limits : List ℕ → Limits) (x x' : Instance) (before after : List Output) :
+-- what an instance has and has put out after bytes of this verdict, at this moment, where tenants are served on these terms
+pub record Brings (told : Fed) (c moment : ℕ) (terms : List ℕ → Terms) (x x' : Instance) (before after : List Output) :
     Type 0 where
   pub decide : Request → Decision
   pub decided : (request : Request) → told ≡ fed.Request request → MayDecide x'.cache.refused request
-      (decision_at (here_of x moment (limits request.tenant)) request (local_in request.tenant x)) (decide request)
+      (decision_at (here_of x moment (terms request.tenant)) request (local_in request.tenant x)) (decide request)
   pub outputs : after ≡ before ++ (brought told decide c (λ t. local_in t x)).outputs
   pub fits : (brought told decide c (λ t. local_in t x)).fits ≡ true
   pub local : (t : List ℕ) → local_in t x' ≡ (brought told decide c (λ s. local_in s x)).local t
@@ -27,11 +26,11 @@ abbrev pub taken_at : ℕ → ℕ → List ℕ → (Request → Decision) → Li
 taken_at i c bytes decide instances = brought (verdict bytes) decide c (λ t. local_at t i instances)
 
 -- the instance took them in and put this out, and all others are as they were
-pub record Takes (i c : ℕ) (bytes : List ℕ) (moment : ℕ) (limits : List ℕ → Limits) (before after : List Instance)
+pub record Takes (i c : ℕ) (bytes : List ℕ) (moment : ℕ) (terms : List ℕ → Terms) (before after : List Instance)
     (outs outs' : List Output) : Type 0 where
   pub decide : Request → Decision
   pub decided : (request : Request) → verdict bytes ≡ fed.Request request → MayDecide (refused_at i after) request
-      (decision_at (here_in moment (limits request.tenant) i before) request (local_at request.tenant i before))
+      (decision_at (here_in moment (terms request.tenant) i before) request (local_at request.tenant i before))
       (decide request)
   pub outputs : outs' ≡ outs ++ (taken_at i c bytes decide before).outputs
   pub fits : (taken_at i c bytes decide before).fits ≡ true

@@ -1,7 +1,6 @@
 //! The eight instances, by number.
 
 ghost use Rattle.std.specs.Prelude.{◌≡◌, ◌==◌, ◌+◌, ◌<◌, ℕ, List, [], ◌++◌, Option, None, Some, IfOk, OnOk, OnErr, IfSome, IfNone, IsSome, IsTrue, find, is_some, option_copied, if◌then◌else◌};
-ghost use Rattle.am_limit.specs.Books.{limits_of};
 ghost use Rattle.am_world.specs.Roster.{IsSameRoster, opened_roster};
 ghost use Rattle.am_world.specs.Setup.{Origin, is_instance};
 ghost use Rattle.am_world.specs.Taking.{Takes};
@@ -44,7 +43,7 @@ impl Model for Instances {
 
 impl Instances {
     ghost use Rattle.am_world.specs.Places.{IsDownAt, IsReadOnce, KeepRefused, SameElsewhere, bytes_at, cause_at, incarnation_at, instance_at, local_at, reader_of, reads, refused_at, roster_of, up_at};
-    ghost use Rattle.am_world.specs.Reaction.{blank, retired_if};
+    ghost use Rattle.am_world.specs.Reaction.{blank, retired_if, terms_of};
 
     /// All instances in their first incarnation. None reads or has anything, and those that serve are up. Each keeps at
     /// most `capacity` patterns built, by hashes of which `hash_key` is the secret.
@@ -212,7 +211,7 @@ impl Instances {
         self.list[place(number)].retire(moment);
     }
 
-    /// Gives a piece to the instance that reads its connection, where tenants have these limits.
+    /// Gives a piece to the instance that reads its connection, where tenants have these limits and words of this key.
     pub fn feed(
         &mut self,
         alloc: Global,
@@ -220,19 +219,28 @@ impl Instances {
         connection: ConnectionId,
         piece: &[u8],
         moment: Moment,
+        service_key: &[u8; 32],
         limits: &LimitBook,
         outputs: &mut Vec<Output>,
     ) -> Result<(), Fault>
         requires { IsSome (bytes_at connection number self.old) }
         ensures takes { OnOk result ((before : List ℕ) → bytes_at connection number self.old ≡ Some before →
-            Takes number connection (before ++ piece.now) moment (λ t. limits_of t limits.now) self.old self.new
-            outputs.old.items outputs.new.items) }
+            Takes number connection (before ++ piece.now) moment (λ t. terms_of service_key.now limits.now t)
+            self.old self.new outputs.old.items outputs.new.items) }
         ensures silent { OnErr result (outputs.new.items ≡ outputs.old.items) }
         ensures others { SameElsewhere number self.old self.new }
         ensures incarnation { incarnation_at number self.new ≡ incarnation_at number self.old }
         ensures refused { KeepRefused self.old self.new }
     {
-        self.list[place(number)].feed(alloc, connection, piece, moment, limits, outputs)
+        self.list[place(number)].feed(
+            alloc,
+            connection,
+            piece,
+            moment,
+            service_key,
+            limits,
+            outputs,
+        )
     }
 
     /// Stops an instance for a fault, as a crash does: it is down, and all that it had is lost.

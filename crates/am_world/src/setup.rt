@@ -60,6 +60,13 @@ impl Setup {
         self.start
     }
 
+    /// The service key, of which the words of all tenants are made.
+    pub fn service_key(&self) -> [u8; 32]
+        ensures { result ≡ self.now.origin.service_key }
+    {
+        self.key
+    }
+
     /// How many patterns an instance keeps built at most.
     pub fn capacity(&self) -> usize
         ensures { 0 < result }

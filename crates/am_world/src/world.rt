@@ -18,6 +18,7 @@ pub struct World {
     pub(crate) clock: Moment,
     pub(crate) instances: Instances,
     pub(crate) limits: LimitBook,
+    pub(crate) service_key: [u8; 32],
     pub(crate) outputs: Vec<Output>,
     pub(crate) faults: u64,
 }
@@ -40,6 +41,7 @@ impl World {
             clock: Moment::from_milliseconds(0).unwrap(),
             instances,
             limits: LimitBook::new(alloc),
+            service_key: setup.service_key(),
             outputs: Vec::new(alloc),
             faults: 0,
         })
@@ -152,13 +154,14 @@ impl World {
             return Err(Refused::NotReading);
         };
         let at = self.effective(moment);
-        let (limits, outputs) = (&self.limits, &mut self.outputs);
+        let (service_key, limits, outputs) = (&self.service_key, &self.limits, &mut self.outputs);
         match self.instances.feed(
             alloc,
             reader,
             connection,
             piece.as_slice(),
             at,
+            service_key,
             limits,
             outputs,
         ) {
@@ -227,6 +230,7 @@ impl World {
         ensures outputs { self.new.outputs.items ≡ self.old.outputs.items }
         ensures clock { self.new.clock ≡ self.old.clock }
         ensures limits { self.new.limits ≡ self.old.limits }
+        ensures service_key { self.new.service_key ≡ self.old.service_key }
         ensures refused { (i : ℕ) → refused_at i self.new.instances ≡ refused_at i self.old.instances }
     {
         self.instances.stop(alloc, instance, fault);
@@ -239,6 +243,7 @@ impl World {
         ensures outputs { self.new.outputs.items ≡ self.old.outputs.items }
         ensures clock { self.new.clock ≡ self.old.clock }
         ensures limits { self.new.limits ≡ self.old.limits }
+        ensures service_key { self.new.service_key ≡ self.old.service_key }
     {
         self.faults = self.faults.saturating_add(1);
     }

@@ -2,7 +2,7 @@
 ghost use Rattle.std.specs.Prelude.{◌≡◌, IfOk, MatchResult, None, Some, map, true};
 ghost use Rattle.clap.specs.Words.{app_of, found_of, has_subcommand, kind_of, rows_of};
 ghost use Rattle.clap.specs.Simple.{subcommand_rows_of};
-ghost use Rattle.amring.specs.CommandLine.{Asks, Tells, command_line, number_in, settings_in, settings_of};
+ghost use Rattle.amring.specs.CommandLine.{Asks, Tells, command_line, key_in, number_in, settings_in, settings_of};
 
 #[cfg(test)]
 mod tests;
@@ -11,6 +11,7 @@ use crate::number::number;
 use am_world::setup::Setup;
 use clap::error::ErrorKind;
 use clap::{Arg, ArgMatches, Command, Error};
+use hex::FromHex;
 use std::alloc::{AllocError, Global};
 use std::convert::AsStr;
 use std::fmt;
@@ -20,9 +21,6 @@ const VERSION: &str = "0.1.0";
 
 /// The most patterns that an instance may keep built.
 const MOST_CACHED: u64 = 65_536;
-
-/// The service key.
-const KEY: [u8; 32] = [0; 32];
 
 /// The instances of the ring.
 const RING: [u8; 3] = [1, 2, 3];
@@ -45,12 +43,14 @@ pub enum CommandLine {
 #[derive(Clone, Copy, Debug, PartialEq, Eq)]
 enum BadOption {
     Cache,
+    Key,
 }
 
 impl fmt::Display for BadOption {
     fn fmt<W: fmt::Write>(&self, f: &mut fmt::Formatter<W>) -> fmt::Result {
         match self {
             BadOption::Cache => write!(f, "--cache takes a number from 1 to {MOST_CACHED}"),
+            BadOption::Key => write!(f, "--key takes 64 hexadecimal digits"),
         }
     }
 }
@@ -77,9 +77,14 @@ fn form<'a>(alloc: Global) -> Result<Command<'a>, AllocError>
         .value_name("N")
         .default_value("512")
         .help("How many patterns each instance keeps built, 1 to 65536");
+    let key = Arg::new(alloc, "key")
+        .long("key")
+        .value_name("K")
+        .help("The service key, 64 hexadecimal digits; zeros without it");
     let run = Command::new(alloc, "run")
         .about("Plays the scenario on standard input")
-        .arg(cache)?;
+        .arg(cache)?
+        .arg(key)?;
     Command::new(alloc, "amring")
         .about("A multi-tenant Alertmanager")
         .version(VERSION)
@@ -105,7 +110,8 @@ fn settings_in(run: &ArgMatches<'_>) -> Result<Setup, BadOption>
         (λ _. settings_in (rows_of (found_of run.now)) ≡ None) }
 {
     let cache = number_in(run, "cache", 1, MOST_CACHED).ok_or(BadOption::Cache)?;
-    Ok(Setup::new(KEY, &RING, cache as u32, START).unwrap())
+    let key = key_in(run).ok_or(BadOption::Key)?;
+    Ok(Setup::new(key, &RING, cache as u32, START).unwrap())
 }
 
 /// The number that an option says, where it is one from the least to the most.
@@ -114,6 +120,16 @@ fn number_in(matches: &ArgMatches<'_>, name: &str, least: u64, most: u64) -> Opt
 {
     let number = number(matches.get_str(name)?)?;
     (least <= number && number <= most).then_some(number)
+}
+
+/// The service key that an option says; zeros where none does.
+fn key_in(matches: &ArgMatches<'_>) -> Option<[u8; 32]>
+    ensures { result ≡ key_in (rows_of (found_of matches.now)) }
+{
+    match matches.get_str("key") {
+        Some(digits) => <[u8; 32]>::from_hex(digits).ok(),
+        None => Some([0; 32]),
+    }
 }
 
 /// What clap's error tells: the help, the version, or what is wrong with the words.

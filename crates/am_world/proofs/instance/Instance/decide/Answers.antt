@@ -1,25 +1,29 @@
 use Rattle.std.proofs.Common.{refl}
 use Rattle.am_world.specs.Places.{here_of, local_in}
+use Rattle.am_world.specs.Reaction.{terms_with}
 use Rattle.am_world.proofs.Deciding.{items_have_room, may_decide, returned_at, stops_for}
 use Rattle.am_world.proofs.instance.Instance.decide.Goals as goal
 
 pub returns-clause-decision : goal.returns-clause-decision
 unfolding local_in
 returns-clause-decision c = may_decide _ c.decide.result c.args.request.now _ _
-    (returned_at _ c.decide.result c.args.request.now (here_of c.args.self.now c.args.moment c.args.limits) (local_in c.args.request.now.tenant c.args.self.now) _ _ _
-    c.in_ok-held.ensures.held c.in_ok-held.ensures.configuration c.used.ensures c.decide.ensures.decides)
+    (returned_at _ c.decide.result c.args.request.now (here_of c.args.self.now c.args.moment
+    (terms_with c.args.service_key.now c.args.limits c.args.request.now.tenant)) (local_in c.args.request.now.tenant c.args.self.now) _ _ _ _ _
+    c.in_ok-held.ensures.held c.in_ok-held.ensures.configuration c.used.ensures c.place-place.ensures c.new-words.ensures c.decide.ensures.decides)
 
 pub returns-clause-room : goal.returns-clause-room
 unfolding local_in
 returns-clause-room c = items_have_room _ c.decide.result c.args.request.now _ _
-    (returned_at _ c.decide.result c.args.request.now (here_of c.args.self.now c.args.moment c.args.limits) (local_in c.args.request.now.tenant c.args.self.now) _ _ _
-    c.in_ok-held.ensures.held c.in_ok-held.ensures.configuration c.used.ensures c.decide.ensures.decides)
+    (returned_at _ c.decide.result c.args.request.now (here_of c.args.self.now c.args.moment
+    (terms_with c.args.service_key.now c.args.limits c.args.request.now.tenant)) (local_in c.args.request.now.tenant c.args.self.now) _ _ _ _ _
+    c.in_ok-held.ensures.held c.in_ok-held.ensures.configuration c.used.ensures c.place-place.ensures c.new-words.ensures c.decide.ensures.decides)
 
 pub returns-clause-cause : goal.returns-clause-cause
 unfolding local_in
 returns-clause-cause c = stops_for _ c.decide.result c.args.request.now _ _
-    (returned_at _ c.decide.result c.args.request.now (here_of c.args.self.now c.args.moment c.args.limits) (local_in c.args.request.now.tenant c.args.self.now) _ _ _
-    c.in_ok-held.ensures.held c.in_ok-held.ensures.configuration c.used.ensures c.decide.ensures.decides)
+    (returned_at _ c.decide.result c.args.request.now (here_of c.args.self.now c.args.moment
+    (terms_with c.args.service_key.now c.args.limits c.args.request.now.tenant)) (local_in c.args.request.now.tenant c.args.self.now) _ _ _ _ _
+    c.in_ok-held.ensures.held c.in_ok-held.ensures.configuration c.used.ensures c.place-place.ensures c.new-words.ensures c.decide.ensures.decides)
 
 pub returns-clause-local : goal.returns-clause-local
 unfolding local_in

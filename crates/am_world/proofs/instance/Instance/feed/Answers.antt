@@ -1,8 +1,8 @@
 use Rattle.std.proofs.Common.{◌∙◌, ◌++◌, ◌∷◌, [], ap, refl, sym}
 use Rattle.std.proofs.lemmas.Result.{IfErr-weaker, on_ok_weaker}
-use Rattle.am_limit.specs.Books.{limits_of}
 use Rattle.am_world.specs.declared.event.Output.TheVariants.{Reply}
 use Rattle.am_world.specs.Places.{local_in}
+use Rattle.am_world.specs.Reaction.{terms_of, terms_with}
 use Rattle.am_world.proofs.Deciding.{brings_ready, brings_refused, brings_waits}
 use Rattle.am_world.proofs.instance.Instance.feed.Goals as goal
 
@@ -29,7 +29,8 @@ pub returns-in-Request-clause-brings : goal.returns-in-Request-clause-brings
 unfolding local_in
 returns-in-Request-clause-brings c = on_ok_weaker c.answer.result (λ brings before here.
     rw (← c.in_ok-feed.ensures.verdict before here, c.in-Request.is)
-    (let b = brings (λ t. limits_of t c.args.limits.now) (sym c.of-limits.ensures) in
+    (let b = brings (λ t. terms_of c.args.service_key.now c.args.limits.now t)
+    (ap (λ limits. terms_with c.args.service_key.now limits c.in-Request.request.tenant) (sym c.of-limits.ensures)) in
     record { decide = b.decide; decided = b.decided; outputs = b.outputs; fits = b.fits; local = b.local })) c.answer.ensures.brings
 
 pub returns-in-Request-clause-cause : goal.returns-in-Request-clause-cause

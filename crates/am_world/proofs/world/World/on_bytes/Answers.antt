@@ -17,7 +17,7 @@ pub returns-in-Ok-clause-step : goal.returns-in-Ok-clause-step
 returns-in-Ok-clause-step c =
     let found = some_where _ c.in-Some.ensures.reads in
     inl (kept_bytes c.args.self.now _ c.in-Some.reader c.args.connection c.args.moment found.0 c.args.piece.now (grind (arith, nat_tests)) found.1
-    (rw (c.as_slice.ensures, c.effective-at.ensures) at (c.in-Ok.ensures.takes found.0 found.1)) c.feed.ensures.refused refl refl refl)
+    (rw (c.as_slice.ensures, c.effective-at.ensures) at (c.in-Ok.ensures.takes found.0 found.1)) c.feed.ensures.refused refl refl refl refl)
 
 pub returns-in-Err-clause-step : goal.returns-in-Err-clause-step
 returns-in-Err-clause-step c =
@@ -25,5 +25,5 @@ returns-in-Err-clause-step c =
     let others = elsewhere_then c.in-Some.reader _ _ _ c.feed.ensures.others c.stop.ensures.others in
     inr (faulted_at c.args.self.now _ _ c.in-Some.reader (rw (allowed, sym c.in-Some.ensures.reader) refl) c.in-Some.ensures.reads c.stop.ensures.down (rw c.stop.ensures.cause refl) others
     (incarnations_stay c.in-Some.reader _ _ (c.stop.ensures.incarnation ∙ c.feed.ensures.incarnation) others)
-    (c.stop.ensures.outputs ∙ c.in-Err.ensures.silent) c.stop.ensures.counted c.stop.ensures.clock c.stop.ensures.limits
+    (c.stop.ensures.outputs ∙ c.in-Err.ensures.silent) c.stop.ensures.counted c.stop.ensures.clock c.stop.ensures.limits c.stop.ensures.service_key
     (keep_then _ _ _ c.feed.ensures.refused (keep_same _ _ c.stop.ensures.refused)))

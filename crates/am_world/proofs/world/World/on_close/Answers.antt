@@ -10,4 +10,4 @@ pub returns-clause-step : goal.returns-clause-step
 returns-clause-step c =
     let found = some_where _ c.in-Some.ensures.reads in
     inl (kept_close c.args.self.now _ c.in-Some.reader c.args.connection found.0 found.1 c.close.ensures.reading
-    (record { clock = refl; limits = refl; roster = c.close.ensures.roster; local = c.close.ensures.local; refused = c.close.ensures.refused }) refl refl)
+    (record { clock = refl; limits = refl; service_key = refl; roster = c.close.ensures.roster; local = c.close.ensures.local; refused = c.close.ensures.refused }) refl refl)

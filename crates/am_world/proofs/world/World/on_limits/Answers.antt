@@ -5,9 +5,9 @@ use Rattle.am_world.proofs.Kept.{kept_limits}
 use Rattle.am_world.proofs.world.World.on_limits.Goals as goal
 
 pub returns-in-Ok : goal.returns-in-Ok
-returns-in-Ok c = inl (kept_limits c.args.self.now _ c.args.tenant.now c.args.limits c.in-Ok.ensures.set refl refl refl refl)
+returns-in-Ok c = inl (kept_limits c.args.self.now _ c.args.tenant.now c.args.limits c.in-Ok.ensures.set refl refl refl refl refl)
 
 pub returns-in-Err : goal.returns-in-Err
 returns-in-Err c = inr (faulted_limits c.args.self.now c.count_fault.new.self c.args.tenant.now c.args.limits c.count_fault.ensures.instances
     c.count_fault.ensures.outputs c.count_fault.ensures.counted c.count_fault.ensures.clock
-    (λ t. ap (limits_of t) c.count_fault.ensures.limits ∙ c.in-Err.ensures.err t))
+    (λ t. ap (limits_of t) c.count_fault.ensures.limits ∙ c.in-Err.ensures.err t) c.count_fault.ensures.service_key)

@@ -10,7 +10,7 @@ returns-then-not-is_up-clause-step c = inl (kept_not_up c.args.self.now c.args.c
 pub returns-in-Ok-clause-step : goal.returns-in-Ok-clause-step
 returns-in-Ok-clause-step c = inl (
     kept_open c.args.self.now _ c.args.connection c.args.instance (sym c.is_up.ensures.up ∙ c.if-not-is_up.false) c.in-Ok.ensures.reading
-    (record { clock = refl; limits = refl; roster = c.in-Ok.ensures.roster; local = c.in-Ok.ensures.local; refused = c.begin.ensures.refused }) refl refl)
+    (record { clock = refl; limits = refl; service_key = refl; roster = c.in-Ok.ensures.roster; local = c.in-Ok.ensures.local; refused = c.begin.ensures.refused }) refl refl)
 
 pub returns-in-Err-clause-step : goal.returns-in-Err-clause-step
 returns-in-Err-clause-step c =
@@ -18,5 +18,5 @@ returns-in-Err-clause-step c =
     inr (faulted_at c.args.self.now _ _ c.args.instance (rw up refl) (itself c.args.instance) c.stop.ensures.down (rw c.stop.ensures.cause refl)
     (elsewhere_then c.args.instance _ _ _ c.in-Err.ensures.others c.stop.ensures.others)
     (incarnation_all c.args.instance _ _ _ c.begin.ensures.roster c.stop.ensures.incarnation c.stop.ensures.others)
-    c.stop.ensures.outputs c.stop.ensures.counted c.stop.ensures.clock c.stop.ensures.limits
+    c.stop.ensures.outputs c.stop.ensures.counted c.stop.ensures.clock c.stop.ensures.limits c.stop.ensures.service_key
     (keep_same _ _ (λ i. c.stop.ensures.refused i ∙ c.begin.ensures.refused i)))

@@ -18,4 +18,4 @@ returns-clause-step c = inl (
       refused = c.retire.ensures.refused;
     } in
     kept_tick c.args.self.now _ c.args.moment (grind (arith, nat_tests)) now
-    (rw now at gone) refl refl refl)
+    (rw now at gone) refl refl refl refl)

@@ -8,7 +8,7 @@ returns c =
     let roster = c.in_ok-instances.ensures.roster c.args.setup.origin (sym c.start-first.ensures) in
     record {
       follows = follows_opening c.args.setup.origin _ roster c.in_ok-instances.ensures.unread;
-      stands = λ t. stands_opening c.args.setup.origin t _ zero (search rules) roster c.in_ok-instances.ensures.local;
+      stands = λ t. stands_opening c.args.setup.origin t _ zero (search rules) c.service_key.ensures roster c.in_ok-instances.ensures.local;
       outputs = search rules;
       faults = refl;
       refused = c.in_ok-instances.ensures.refused;

@@ -1,7 +1,0 @@
-use Rattle.std.proofs.Common.{◌≡◌, map, take}
-use Rattle.am_api.specs.Listed.{has_taken}
-use Rattle.am_api.specs.declared.receivers.RoutedAlert.{RoutedAlert}
-use Rattle.am_api.proofs.listing.flags_by.Given as goal
-
-abbrev pub invariant-loop-alert : goal.invariant-loop-alert
-invariant-loop-alert l = l.flags.items ≡ map (λ (r : RoutedAlert). has_taken l.taken r.receivers) (take l.alert-index l.alerts)

@@ -1,9 +1,0 @@
-use Rattle.am_api.proofs.QueryLemmas.{receiver_refused}
-use Rattle.am_api.proofs.query.receiver_judged.Goals as goal
-
-pub returns-in-Err-Refused-clause-read : goal.returns-in-Err-Refused-clause-read
-returns-in-Err-Refused-clause-read c =
-    rw c.in-Err-Refused.refusal-is
-    (receiver_refused (tt {0}) c.args.value.now c.args.cache.now c.check_pattern.new.cache c.in-Err-Refused.refusal
-    (rw c.in-Err-Refused.field-0-is at c.in-Err-Refused.ensures.failure)
-    (rw c.in-Err-Refused.field-0-is at c.in-Err-Refused.ensures.meaning))

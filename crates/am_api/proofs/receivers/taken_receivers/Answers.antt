@@ -1,7 +1,0 @@
-use Rattle.std.proofs.lemmas.Result.{err_from_is_err_and}
-use Rattle.am_api.proofs.receivers.taken_receivers.Goals as goal
-
-pub returns-in_err-is_taken-clause-failure : goal.returns-in_err-is_taken-clause-failure
-returns-in_err-is_taken-clause-failure c =
-    let p = err_from_is_err_and c.from_residual-in_err-is_taken.result c.from_residual-in_err-is_taken.ensures.1 in
-    λ stored. rw (p.1, p.2) (c.in_err-is_taken.ensures.failure stored)
