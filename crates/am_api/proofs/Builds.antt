@@ -1,5 +1,5 @@
 -- Patterns whose build was refused, and what that lets a call return.
-use Rattle.std.proofs.Common.{◌≡◌, ◌⊎◌, ℕ, List, All, Result, Ok, Err, sym, subst, inl, inr}
+use Rattle.std.proofs.Common.{◌≡◌, ℕ, List, All, Result, Ok, Err, sym, subst, inl, inr}
 use Rattle.rand_chacha.specs.ChaCha.{ChaCha}
 use Rattle.am_pattern.specs.Taking.{IsPattern}
 use Rattle.am_match.specs.Checking.{AreRefusedRightly}
@@ -13,7 +13,7 @@ use Rattle.am_config.specs.Configuration.{Configuration}
 use Rattle.am_item.specs.declared.item.Item.{Item}
 use Rattle.am_alert.specs.declared.maker.Maker.{Maker}
 use Rattle.am_current.specs.Current.{configuration_in}
-use Rattle.am_query.specs.Patterns.{Among, HasRefused}
+use Rattle.am_query.specs.Patterns.{Among}
 use Rattle.am_query.proofs.Builds.{never_both, refused_among}
 use Rattle.am_listing.proofs.Failures.{refused_pattern}
 use Rattle.am_api.specs.declared.decision.Decided.{Decided}

@@ -1,5 +1,5 @@
 -- Why a posted configuration is refused.
-use Rattle.std.proofs.Common.{◌≡◌, ◌⊎◌, ℕ, ◌≤◌, nat_lt, false, List, Result, Ok, Err, length, refl, ap, ◌∙◌, inl, inr, arith, subst, sym}
+use Rattle.std.proofs.Common.{◌≡◌, ◌⊎◌, ℕ, ◌≤◌, nat_lt, false, List, Result, Ok, Err, length, refl, ap, ◌∙◌, inl, inr, arith}
 use Rattle.std.proofs.lemmas.Bool.Decides.{nat_tests}
 use Rattle.am_pattern.specs.Cache.{Cache}
 use Rattle.am_match.specs.Checking.{AreRefusedRightly}

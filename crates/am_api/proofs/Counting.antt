@@ -1,18 +1,13 @@
 -- How posted label sets that aren't held are counted.
-use Rattle.std.proofs.Common.{◌≡◌, ℕ, suc, ◌+◌, ◌-◌, ◌<◌, ◌≤◌, ◌==◌, nat_lt, nat_cmp, List, [], ◌∷◌, ◌++◌, Bool, true, false, not, cond, ◌||◌, if◌then◌else◌, None, Some, filter, length, drop, get_or, refl, sym, ap, ◌∙◌, inl, inr, arith, append_assoc}
-use Rattle.std.specs.Cmp.{eq_by_cmp_equiv, nat_cmp_is}
-use Rattle.std.specs.List.{filter_map, list_any}
+use Rattle.std.proofs.Common.{◌≡◌, ℕ, ◌+◌, ◌-◌, ◌≤◌, nat_lt, List, [], ◌∷◌, ◌++◌, Bool, true, false, not, cond, ◌||◌, if◌then◌else◌, refl, sym, ap, ◌∙◌, arith, append_assoc}
+use Rattle.std.specs.Cmp.{eq_by_cmp_equiv}
 use Rattle.std.specs.Ordering.{eq_by_cmp, is_eq}
 use Rattle.std.specs.Set.{distinct_count, is_member}
-use Rattle.std.specs.declared.cmp.Ordering.TheVariants.{Less, Equal, Greater}
-use Rattle.std.proofs.Math.Seq.{drop-cons}
-use Rattle.std.proofs.lemmas.Bool.Decides.{eqb_tells, leb_tells, nat_tests}
-use Rattle.std.proofs.lemmas.List.Folds.{list_any-append}
+use Rattle.std.proofs.lemmas.Bool.Decides.{nat_tests}
 use Rattle.am_labels.specs.declared.Label.{Label}
 use Rattle.am_labels.specs.Labels.{labels_cmp, labels_total}
 use Rattle.am_item.specs.declared.item.Alert.{Alert}
 use Rattle.am_item.specs.declared.item.Item.{Item}
-use Rattle.am_config.specs.Configuration.{Configuration}
 use Rattle.am_api.specs.Fresh.{is_held, new_count, new_sets}
 
 -- ---- label sets

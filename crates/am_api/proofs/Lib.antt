@@ -10,3 +10,9 @@ mod Replies
 mod MergedCount
 -- how posted label sets are counted
 mod Counting
+-- which patterns are in use, and which a configuration has that is stored
+mod StoredLemmas
+-- the patterns of silences that are stored
+mod StoredSilences
+-- the patterns of the items of a decision
+mod StoredItems

@@ -3,13 +3,11 @@ use Rattle.std.specs.Prelude.{ℕ, ◌+◌, Bool, not, ◌&&◌, is_some, nat_lt
 use Rattle.std.specs.Option.{option_and_then}
 use Rattle.rand_chacha.specs.ChaCha.{ChaCha}
 use Rattle.am_text.specs.Outcome.{◌>>=◌}
-use Rattle.am_http.specs.Replies.{refusal}
 use Rattle.am_http.specs.declared.request.Method.{Method}
 use Rattle.am_http.specs.declared.request.Method.TheVariants.{Get, Post, Delete}
 use Rattle.am_http.specs.declared.request.Request.{Request}
 use Rattle.am_limit.specs.declared.limits.Limits.{Limits}
 use Rattle.am_match.specs.Matchers.{MatcherText}
-use Rattle.am_match.specs.declared.refusal.MatcherRefusal.{MatcherRefusal}
 use Rattle.am_item.specs.declared.item.Item.{Item}
 use Rattle.am_item.specs.declared.item.Thing.TheVariants as thing
 use Rattle.am_item.specs.declared.silence.Silence.{Silence}
@@ -20,7 +18,7 @@ use Rattle.am_silence.specs.Held.{SilenceValue, silence_at, unexpired}
 use Rattle.am_silence.specs.Posted as silences
 use Rattle.am_silence.specs.Refusals as silence_refusals
 use Rattle.am_silence.specs.declared.refusal.SilenceRefusal.{SilenceRefusal}
-use Rattle.am_silence.specs.declared.refusal.SilenceRefusal.TheVariants.{WithoutMatchers, TakesEmpty, EndsByStart, Unknown, Ended, BadForm, BadMatcher}
+use Rattle.am_silence.specs.declared.refusal.SilenceRefusal.TheVariants.{Unknown, BadMatcher}
 use Rattle.am_words.specs.Draws.{new_id, place_drawn}
 use Rattle.am_words.specs.Ids.{id_in}
 use Rattle.am_words.specs.Words.{words_in}

@@ -37,36 +37,35 @@ fn alert(alloc: Global, value: &str, moment: Moment) -> Result<Item, Fail> {
     })
 }
 
-// A book of two tenants: `a` has the alerts `x`, put twice, and `y`, `b` has `x`.
-fn two_tenants(alloc: Global, names: &[TenantName; 2]) -> Result<Book, Fail> {
+// A book of two tenants: the first has the alerts `x`, put twice, and `y`, the second has `x`.
+fn two_tenants(alloc: Global, first: &TenantName, second: &TenantName) -> Result<Book, Fail> {
     let mut book = Book::new(alloc);
-    for (tenant, value, moment) in [
-        (0, "x", 1_000),
-        (0, "y", 2_000),
-        (0, "x", 3_000),
-        (1, "x", 2_000),
-    ] {
+    for (value, moment) in [("x", 1_000), ("y", 2_000), ("x", 3_000)] {
         let moment = Moment::from_milliseconds(moment).ok_or("no moment")?;
-        book.put(alloc, &names[tenant], alert(alloc, value, moment)?)?;
+        book.put(alloc, first, alert(alloc, value, moment)?)?;
     }
+    let moment = Moment::from_milliseconds(2_000).ok_or("no moment")?;
+    book.put(alloc, second, alert(alloc, "x", moment)?)?;
     Ok(book)
 }
 
 #[test]
 fn items_retire(rt: HostRuntime) -> Result<(), Fail> {
     let alloc = rt.alloc();
-    let names = [TenantName::read(b"a")?, TenantName::read(b"b")?];
-    let mut book = two_tenants(alloc, &names)?;
-    // What is left of each tenant at moments.
-    for (moment, first, second) in [
+    let first = TenantName::read(b"a")?;
+    let second = TenantName::read(b"b")?;
+    let mut book = two_tenants(alloc, &first, &second)?;
+    // How many are left of each tenant at moments.
+    for (moment, of_first, of_second) in [
         (3_601_999, 2, 1),
         (3_602_000, 1, 0),
         (3_602_999, 1, 0),
         (3_603_000, 0, 0),
     ] {
-        book.retire(Moment::from_milliseconds(moment).ok_or("no moment")?);
-        assert_eq!(rt; book.held(&names[0]).count_alerts(), first);
-        assert_eq!(rt; book.held(&names[1]).count_alerts(), second);
+        let moment = Moment::from_milliseconds(moment).ok_or("no moment")?;
+        book.retire(moment);
+        assert_eq!(rt; book.held(&first).count_alerts(), of_first);
+        assert_eq!(rt; book.held(&second).count_alerts(), of_second);
     }
     Ok(())
 }

@@ -5,11 +5,12 @@ ghost use Rattle.std.specs.List.{range_with_len};
 ghost use Rattle.std.specs.Rc.{rc_slice_items};
 ghost use Rattle.am_inhibit.specs.Links.{AreAllPlaces, AreLinked, lists_of, sources_in};
 
+use crate::flags::has_set;
 use std::alloc::{AllocError, Global};
 use std::rc::RcSlice;
 
 /// Adds to each flagged target's lists that of the flagged sources of its class, where there are any. All targets of a
-/// class share one list.
+/// class share one list. Without a source or a target nothing is gone over.
 pub fn link(
     alloc: Global,
     classes: &[usize],
@@ -26,6 +27,9 @@ pub fn link(
     ensures places { (count : ℕ) → ((place : ℕ) → get_or sources.now place false ≡ true → place < count)
         → AreAllPlaces count (lists_of links.old.items) → OnOk result (AreAllPlaces count (lists_of links.new.items)) }
 {
+    if !has_set(sources) || !has_set(targets) {
+        return Ok(());
+    }
     let lists = shared(alloc, sources_by_class(alloc, classes, sources)?)?;
     for (place, class) in classes.iter().enumerate() {
         add_where(targets[place], &lists[*class], &mut links[place])?;
