@@ -68,6 +68,29 @@ fn statuses(rt: HostRuntime) {
     }
 }
 
+// Whether a try that fails is taken once, and the next one goes out when this long has passed and not before.
+fn goes_on(
+    alloc: Global,
+    attempts: &mut Attempts,
+    tenant: &TenantName,
+    tries: u8,
+    moment: u64,
+    wait: u64,
+) -> Result<bool, Fail> {
+    let due = at(moment + wait)?;
+    let outcome = attempts.outcome(tenant, 1, tries, at(moment)?, Some(500));
+    let again = attempts.outcome(tenant, 1, tries, at(moment)?, None);
+    let early = attempts.tick(alloc, tenant, 1, at(moment + wait - 1)?)?;
+    let next = attempts.tick(alloc, tenant, 1, due)?.ok_or("no try")?;
+    Ok(
+        matches!(outcome, Outcome::Again(then) if then == due)
+            && matches!(again, Outcome::NotOpen)
+            && early.is_none()
+            && next.tries == tries + 1
+            && next.bytes.as_slice() == REQUEST.as_bytes(),
+    )
+}
+
 #[test]
 fn five_tries(rt: HostRuntime) -> Result<(), Fail> {
     let alloc = rt.alloc();
@@ -75,21 +98,10 @@ fn five_tries(rt: HostRuntime) -> Result<(), Fail> {
     let mut attempts = Attempts::new(alloc);
     let first = attempts.start(alloc, &tenant, notice(alloc, "0{}")?)?;
     assert_eq!(rt; shown(alloc, &first)?.as_str(), "1 1 http://localhost:9/h");
-    assert!(rt; first.bytes.as_slice() == REQUEST.as_bytes());
-    let mut moment = 30;
-    for (tries, wait) in [(1, 10), (2, 20), (3, 40), (4, 80)] {
-        let outcome = attempts.outcome(&tenant, 1, tries, at(moment)?, Some(500));
-        assert!(rt; matches!(outcome, Outcome::Again(due) if due == at(moment + wait)?));
-        let again = attempts.outcome(&tenant, 1, tries, at(moment)?, None);
-        assert!(rt; matches!(again, Outcome::NotOpen));
-        moment = moment + wait;
-        assert!(rt; attempts.tick(alloc, &tenant, 1, at(moment - 1)?)?.is_none());
-        let next = attempts
-            .tick(alloc, &tenant, 1, at(moment)?)?
-            .ok_or("no try")?;
-        assert!(rt; next.tries == tries + 1 && next.bytes.as_slice() == REQUEST.as_bytes());
+    for (tries, moment, wait) in [(1, 30, 10), (2, 40, 20), (3, 60, 40), (4, 100, 80)] {
+        assert!(rt; goes_on(alloc, &mut attempts, &tenant, tries, moment, wait)?);
     }
-    let last = attempts.outcome(&tenant, 1, 5, at(moment)?, None);
+    let last = attempts.outcome(&tenant, 1, 5, at(180)?, None);
     assert!(rt; matches!(last, Outcome::GivenUp));
     assert!(rt; attempts.tick(alloc, &tenant, 1, at(9000)?)?.is_none());
     Ok(())

@@ -52,7 +52,8 @@ fn order(rt: HostRuntime) -> Result<(), Fail> {
     let alloc = rt.alloc();
     let mut queue = TimerQueue::new(alloc);
     let mut backwards = in_order(alloc)?;
-    while let Some(timer) = backwards.pop() {
+    backwards.reverse();
+    for timer in backwards {
         queue.set(alloc, timer)?;
     }
     queue.set(alloc, timer("a", 11, TimerKey::Retry(7))?)?;
