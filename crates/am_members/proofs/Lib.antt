@@ -6,4 +6,3 @@ pub mod Grouping
 pub mod Flushes
 pub mod Tenants
 pub mod Putting
-pub mod Listing

@@ -1,12 +1,12 @@
 -- Puts of different alerts, in any order.
-use Rattle.std.proofs.Common.{◌≡◌, ◌≢◌, ◌⊎◌, ℕ, Bool, true, false, not, cond, inl, inr, List, [], ◌∷◌, Option, Some, None, Ordering, refl, sym, ap, ◌∙◌, subst}
+use Rattle.std.proofs.Common.{◌≡◌, Bool, true, false, not, cond, inl, inr, List, [], ◌∷◌, Option, Some, None, Ordering, refl, sym, ap, ◌∙◌}
 use Rattle.std.specs.BTreeMap.{insert_entry}
 use Rattle.std.specs.BTreeSet.{insert_key}
 use Rattle.std.specs.Cmp.{IsEquivalence, eq_by_cmp_equiv}
-use Rattle.std.specs.List.{AllByRecursion, Contains, IsDistinct, filter}
+use Rattle.std.specs.List.{AllByRecursion, IsDistinct, filter}
 use Rattle.std.specs.List.Sorted.{IsPermutation, IsStrictlySortedBy}
 use Rattle.std.specs.Map.{keys_of, lookup}
-use Rattle.std.specs.Ordering.{eq_by_cmp, is_eq, match_ordering, ordering_reverse}
+use Rattle.std.specs.Ordering.{is_eq, match_ordering, ordering_reverse}
 use Rattle.std.specs.declared.cmp.Ordering.TheVariants.{Less, Equal, Greater}
 use Rattle.std.proofs.lemmas.Bool.{cases_Bool, false≢true}
 use Rattle.std.proofs.lemmas.List.Kept.{IsStrictlySortedBy-filter}
@@ -44,8 +44,8 @@ found_inserted q l v (e ∷ es) absent = by_order (labels_cmp l e.0) refl (found
     by_order Equal is more = some_none (absent_at Equal is)
     by_order Greater is more = elim (set_tells q e.0) [
       | inl y ↦
-        let apart : is_set q l ≡ false = ap (λ k. is_set k l) y.1 ∙ set-sym e.0 l ∙ ap is_eq is in
-        rw (y.0, apart) refl
+          let apart : is_set q l ≡ false = ap (λ k. is_set k l) y.1 ∙ set-sym e.0 l ∙ ap is_eq is in
+          rw (y.0, apart) refl
       | inr n ↦ rw n.0 (more (absent_at Greater is))
     ]
 
@@ -123,11 +123,11 @@ same_found (x ∷ xs) (y ∷ ys) s t h = by_order (labels_cmp x.0 y.0) refl (sam
         let heads : x ≡ y = ap (λ (k : List Label). let e : List Label × Known = (k, x.1) in e) key ∙ ap (λ (v : Known). let e : List Label × Known = (y.0, v) in e) value in
         ap (λ (e : List Label × Known). e ∷ xs) heads ∙ ap (λ (zs : Alerts). y ∷ zs) (more (λ q. elim (set_tells q x.0) [
           | inl here ↦
-            ap (λ k. lookup (is_set k) xs) here.1 ∙ none_found labels_cmp labels_total x.0 xs s.0
-            ∙ sym (ap (λ k. lookup (is_set k) ys) (here.1 ∙ key) ∙ none_found labels_cmp labels_total y.0 ys t.0)
+              ap (λ k. lookup (is_set k) xs) here.1 ∙ none_found labels_cmp labels_total x.0 xs s.0
+              ∙ sym (ap (λ k. lookup (is_set k) ys) (here.1 ∙ key) ∙ none_found labels_cmp labels_total y.0 ys t.0)
           | inr n ↦
-            let apart : is_set q y.0 ≡ false = ap (is_set q) (sym key) ∙ n.0 in
-            rw (n.0, apart) at (h q)
+              let apart : is_set q y.0 ≡ false = ap (is_set q) (sym key) ∙ n.0 in
+              rw (n.0, apart) at (h q)
         ]))
 
 -- ---- several puts
@@ -148,8 +148,8 @@ found_put_all q (p ∷ ps) ys apart =
     ∙ ap (first_of (lookup (is_set q) ps)) (found_put q p.0 p.1 ys)
     ∙ elim (set_tells q p.0) [
       | inl y ↦
-        let none : lookup (is_set q) ps ≡ None = ap (λ k. lookup (is_set k) ps) y.1 ∙ missing p.0 ps (IsDistinct-head is_set p.0 (keys_of ps) apart) in
-        rw (y.0, none) refl
+          let none : lookup (is_set q) ps ≡ None = ap (λ k. lookup (is_set k) ps) y.1 ∙ missing p.0 ps (IsDistinct-head is_set p.0 (keys_of ps) apart) in
+          rw (y.0, none) refl
       | inr n ↦ rw n.0 refl
     ]
 

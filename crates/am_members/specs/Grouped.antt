@@ -46,10 +46,6 @@ flush_of g flushes = lookup (is_group g) flushes
 abbrev pub lost : Group → (old new : List (List Label × Known)) → Bool
 lost g old new = not (is_bare (members g old)) && is_bare (members g new)
 
--- the groups that an index has members of
-abbrev pub named_in : List (Group × List (List Label × ℕ)) → List Group
-named_in lists = keys_of (filter (λ e. not (is_bare e.1)) lists)
-
 -- what is listed of a group, where the list may lack it
 abbrev pub listed : Option (List (List Label × ℕ)) → List (List Label × ℕ)
 listed None = []

@@ -67,17 +67,6 @@ impl Groups {
         self.tenants.get(tenant)?.members(group)
     }
 
-    /// The groups of a tenant that have members, in order of route and labels.
-    pub fn groups(&self, alloc: Global, tenant: &TenantName) -> Result<Vec<Group>, AllocError>
-        ensures rising { IfOk result (λ v. IsStrictlySortedBy group_cmp v.items) }
-        ensures each { IfOk result (λ v. (q : Name) → list_any (is_group q) v.items ≡ not (is_bare (members q (grouped_of tenant.now self.now).alerts))) }
-    {
-        match self.tenants.get(tenant) {
-            Some(index) => index.groups(alloc),
-            None => Ok(Vec::new(alloc)),
-        }
-    }
-
     /// The least moment since which a member of the group is held; `None` where it has none.
     pub fn least_since(&self, tenant: &TenantName, group: &Group) -> Option<Moment>
         ensures { result ≡ least_of (members group.now (grouped_of tenant.now self.now).alerts) }

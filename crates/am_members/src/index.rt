@@ -7,7 +7,7 @@ ghost use Rattle.std.specs.List.Sorted.{IsStrictlySortedBy};
 ghost use Rattle.std.specs.Map.{keys_of, lookup};
 ghost use Rattle.std.specs.Option.{is_some, option_copied};
 ghost use Rattle.am_labels.specs.Labels.{labels_cmp};
-ghost use Rattle.am_members.specs.Grouped.{AreGrouped, flush_of, held_at, listed, lost, members, named_in, nothing, put_in};
+ghost use Rattle.am_members.specs.Grouped.{AreGrouped, flush_of, held_at, listed, lost, members, nothing, put_in};
 ghost use Rattle.am_members.specs.Members.{is_bare, least_of};
 ghost use Rattle.am_members.specs.Names.{group_cmp, is_group, is_set, without};
 ghost use Rattle.am_members.specs.declared.group.Group.{Group as Name};
@@ -67,14 +67,6 @@ impl Index {
         ensures { listed (option_copied result) ≡ members group.now self.now.alerts }
     {
         self.groups.get(group)
-    }
-
-    /// The groups that have members, in order.
-    pub fn groups(&self, alloc: Global) -> Result<Vec<Group>, AllocError>
-        ensures rising { IfOk result (λ v. IsStrictlySortedBy group_cmp v.items) }
-        ensures each { IfOk result (λ v. (q : Name) → list_any (is_group q) v.items ≡ not (is_bare (members q self.now.alerts))) }
-    {
-        named_in(alloc, &self.groups)
     }
 
     /// The moment of a group's last flush.
@@ -246,18 +238,4 @@ fn sweep(groups: &BTreeMap<Group, Members>, flushes: &mut BTreeMap<Group, Moment
     ensures { flushes.new.entries ≡ filter (λ e. not (is_bare (held_at e.0 groups.now.entries))) flushes.old.entries }
 {
     flushes.retain(|group, _| !is_bare_in(groups, group));
-}
-
-// The groups that have members.
-fn named_in(alloc: Global, groups: &BTreeMap<Group, Members>) -> Result<Vec<Group>, AllocError>
-    ensures named { IfOk result (λ v. v.items ≡ named_in groups.now.entries) }
-    ensures ordered { IsStrictlySortedBy group_cmp (keys_of groups.now.entries) }
-{
-    let mut named = Vec::new(alloc);
-    for (group, members) in groups {
-        if !members.is_empty() {
-            named.push(group.copy()?)?;
-        }
-    }
-    Ok(named)
 }

@@ -58,7 +58,8 @@ fn put_alerts(
     text.end_array()
 }
 
-fn put_alert(
+/// Writes one of them.
+pub(crate) fn put_alert(
     alloc: Global,
     text: &mut JsonWriter,
     config: &Config,

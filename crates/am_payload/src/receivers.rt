@@ -31,7 +31,8 @@ fn put_receivers(text: &mut JsonWriter, config: &Config) -> Result<(), AllocErro
     text.end_array()
 }
 
-fn put_receiver(text: &mut JsonWriter, name: &Text) -> Result<(), AllocError>
+/// Writes a receiver.
+pub(crate) fn put_receiver(text: &mut JsonWriter, name: &Text) -> Result<(), AllocError>
     ensures { OnOk result (text.new ≡ text.old ++ data_tokens (receiver_data name.now)) }
 {
     text.begin_object()?;

@@ -8,6 +8,7 @@ ghost use Rattle.am_silence.specs.Silences.{details_of, state_of};
 ghost use Rattle.am_words.specs.Ids.{id_text};
 ghost use Rattle.am_payload.specs.Silences.{matcher_data, matchers_data, posted_data, posted_text, silence_data, silence_text, silences_data, silences_text, state_data, state_name, takes_equal};
 
+use crate::members::string_member;
 use am_item::{SilenceDetails, SilenceId};
 use am_json::JsonWriter;
 use am_match::{Matcher, Operator};
@@ -134,13 +135,6 @@ fn flag_member(text: &mut JsonWriter, name: &str, flag: bool) -> Result<(), Allo
 {
     text.key(name)?;
     text.boolean(flag)
-}
-
-fn string_member(text: &mut JsonWriter, name: &str, value: &str) -> Result<(), AllocError>
-    ensures { OnOk result (text.new ≡ text.old ++ member_tokens name.now (string value.now)) }
-{
-    text.key(name)?;
-    text.string(value)
 }
 
 // A member whose value is the text of an identifier.
