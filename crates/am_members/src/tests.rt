@@ -58,16 +58,9 @@ fn one_alert_after_the_other(rt: HostRuntime) -> Result<(), Fail> {
     groups.put(alloc, &b, &second, known(alloc, 5, &[0])?)?;
     assert_eq!(rt; least(&groups, &a, &zero), 10);
     assert_eq!(rt; least(&groups, &a, &one), 20);
-    groups.flush_at(&a, &zero, moment(30))?;
-    groups.flush_at(&a, &one, moment(30))?;
     assert!(rt; groups.remove(&a, &second).is_some());
     assert!(rt; groups.remove(&a, &second).is_none());
-    assert!(rt; groups.last_flush(&a, &one).is_none());
-    assert!(rt; groups.last_flush(&a, &zero) == Some(moment(30)));
-    groups.rebuild(alloc, &a, Vec::new(alloc))?;
-    assert!(rt; groups.last_flush(&a, &zero).is_some());
-    groups.forget_empty(&a);
-    assert!(rt; groups.last_flush(&a, &zero).is_none());
+    assert_eq!(rt; least(&groups, &a, &zero), 10);
     assert!(rt; groups.drop_tenant(&a).is_ok());
     assert_eq!(rt; least(&groups, &b, &zero), 5);
     Ok(())

@@ -8,28 +8,27 @@ use std::test::Fail;
 
 /// A query; how many matchers its filters have, its receiver, and which alerts are asked for: active ones, silenced ones,
 /// inhibited ones.
-type Read = (&'static str, usize, Option<&'static str>, [bool; 3]);
+type Read = (&'static str, usize, Option<&'static str>, bool, bool, bool);
 
 const READ: [Read; 5] = [
-    ("", 0, None, [true, true, true]),
-    (
-        "filter=a%3Db&filter=c%3Dd,e%3D",
-        3,
-        None,
-        [true, true, true],
-    ),
-    ("active=false&silenced=true", 0, None, [false, true, true]),
+    ("", 0, None, true, true, true),
+    ("filter=a%3Db&filter=c%3Dd,e%3D", 3, None, true, true, true),
+    ("active=false&silenced=true", 0, None, false, true, true),
     (
         "silenced=false&inhibited=false&inhibited=true",
         0,
         None,
-        [true, false, true],
+        true,
+        false,
+        true,
     ),
     (
         "inhibited=false&receiver=r&receiver=s+t&x=%FF&&=",
         0,
         Some("s t"),
-        [true, true, false],
+        true,
+        true,
+        false,
     ),
 ];
 
@@ -37,13 +36,13 @@ const READ: [Read; 5] = [
 fn queries_are_read(rt: HostRuntime) -> Result<(), Fail> {
     let alloc = rt.alloc();
     let mut cache = PatternCache::new(alloc, 1, [0; 16])?;
-    for (text, matchers, receiver, [active, silenced, inhibited]) in &READ {
+    for (text, matchers, receiver, active, silenced, inhibited) in READ {
         let query = read_query(alloc, text, &mut cache)?;
-        assert_eq!(rt; query.matchers.as_slice().len(), *matchers);
-        assert!(rt; query.receiver.as_ref().map(Text::as_str) == *receiver);
-        assert!(rt; query.active == *active);
-        assert!(rt; query.silenced == *silenced);
-        assert!(rt; query.inhibited == *inhibited);
+        assert_eq!(rt; query.matchers.as_slice().len(), matchers);
+        assert!(rt; query.receiver.as_ref().map(Text::as_str) == receiver);
+        assert!(rt; query.active == active);
+        assert!(rt; query.silenced == silenced);
+        assert!(rt; query.inhibited == inhibited);
     }
     Ok(())
 }
