@@ -6,6 +6,3 @@ mod notice;
 
 pub use grouping::{groups_by, groups_of};
 pub use notice::{Act, Notice, flush, recorded};
-
-#[cfg(test)]
-mod tests;
