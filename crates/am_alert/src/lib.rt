@@ -10,7 +10,7 @@ mod refusal;
 mod written;
 
 pub use held::{AlertBook, HeldAlert};
-pub use made::items_of_post;
+pub use made::{items_of_post, stamp_moment};
 pub use maker::Maker;
 pub use posted::read_posted;
 pub use refusal::PostedRefusal;

@@ -94,7 +94,9 @@ fn items_from(
     Ok(items)
 }
 
-fn stamp_moment(moment: Moment, seen: Option<Moment>) -> Moment
+/// The moment of a write's stamp: that of the event, or one millisecond past the stamp that was seen of its key, where that
+/// is later; the greatest moment at most.
+pub fn stamp_moment(moment: Moment, seen: Option<Moment>) -> Moment
     ensures { result ≡ stamp_moment moment seen }
 {
     match seen {

@@ -31,9 +31,11 @@ use Rattle.am_words.specs.Words.{words_in}
 use Rattle.rand_chacha.specs.ChaCha.{ChaCha}
 use Rattle.am_query.specs.declared.query.Query.{Query}
 use Rattle.am_query.specs.declared.refusal.QueryRefusal.{QueryRefusal}
-use Rattle.am_query.specs.Queries.{filters_in, query_in}
+use Rattle.am_query.specs.Queries.{filters_in, group_query_in, query_in}
+use Rattle.am_listing.specs.Written.{alerts_text}
+use Rattle.am_group_list.specs.Written.{groups_text}
 use Rattle.am_api.specs.Deciding.{AreCounted}
-use Rattle.am_api.specs.Decision.{accepted_or_refused, alerts_decided, configuration_decided, count_with, decided, decided_by, listed_or_refused, read_or_none, receivers_decided, stored_or_refused, text_at}
+use Rattle.am_api.specs.Decision.{accepted_or_refused, alerts_decided, configuration_decided, count_with, decided, decided_by, groups_decided, listed_or_refused, read_or_none, receivers_decided, stored_or_refused, text_at}
 use Rattle.am_api.specs.Replied.{Decision, stored}
 use Rattle.am_api.specs.Silences as silencing
 
@@ -77,15 +79,21 @@ counted_posted : (limit : ℕ) (held : List Item) (moment : ℕ) (maker : Maker)
 counted_posted limit held moment maker (Ok posted) = counted_within (nat_lt limit (count_with held moment maker posted)) held moment maker posted _ refl
 counted_posted limit held moment maker (Err reason) = tt
 
-counted_listed : (c : config.Configuration) (held : List Item) (moment used : ℕ) (outcome : Result Query QueryRefusal) → AreCounted used (listed_or_refused c held moment outcome).items
-counted_listed c held moment used (Ok query) = tt
-counted_listed c held moment used (Err reason) = tt
+counted_listed : (text : Query → List ℕ) (used : ℕ) (outcome : Result Query QueryRefusal) → AreCounted used (listed_or_refused text outcome).items
+counted_listed text used (Ok query) = tt
+counted_listed text used (Err reason) = tt
 
 counted_alerts : (c : config.Configuration) (request : Request) (method : Method) (held : List Item) (limits : Limits) (moment : ℕ) (maker : Maker) →
     AreCounted maker.used (alerts_decided c request method held limits moment maker).items
-counted_alerts c request Get held limits moment maker = counted_listed c held moment maker.used (query_in request.query)
+counted_alerts c request Get held limits moment maker = counted_listed (λ query. alerts_text c query moment held) maker.used (query_in request.query)
 counted_alerts c request Post held limits moment maker = counted_posted limits.alerts held moment maker (alerts.posted moment c.resolve_timeout request.body)
 counted_alerts c request Delete held limits moment maker = tt
+
+counted_groups : (c : config.Configuration) (request : Request) (method : Method) (held : List Item) (moment used : ℕ) →
+    AreCounted used (groups_decided c request method held moment).items
+counted_groups c request Get held moment used = counted_listed (λ query. groups_text c query moment held) used (group_query_in request.query)
+counted_groups c request Post held moment used = tt
+counted_groups c request Delete held moment used = tt
 
 counted_accepted : (held : List Item) (moment : ℕ) (maker : Maker) (outcome : Result config.Configuration ConfigRefusal) →
     AreCounted maker.used (accepted_or_refused held moment maker outcome).items
@@ -178,7 +186,7 @@ counted_one text Delete held moment maker = counted_deleted held moment maker (i
 counted_by : (c : config.Configuration) (request : Request) (endpoint : Endpoint) (held : List Item) (limits : Limits) (moment : ℕ) (maker : Maker) (words : ChaCha) →
     AreCounted maker.used (decided_by c request endpoint held limits moment maker words).items
 counted_by c request Alerts held limits moment maker words = counted_alerts c request request.method held limits moment maker
-counted_by c request AlertGroups held limits moment maker words = tt
+counted_by c request AlertGroups held limits moment maker words = counted_groups c request request.method held moment maker.used
 counted_by c request Silences held limits moment maker words = counted_silences request request.method held limits moment maker words
 counted_by c request (Silence text) held limits moment maker words = counted_one text request.method held moment maker
 counted_by c request Receivers held limits moment maker words = counted_receivers c request.method maker.used

@@ -4,7 +4,9 @@ use Rattle.std.specs.Prelude.{codes}
 use Rattle.am_item.specs.declared.fault.Fault.{Fault}
 use Rattle.am_item.specs.declared.fault.Fault.TheVariants.{CountsExhausted, OutOfMemory, PatternNotBuilt}
 use Rattle.am_item.specs.declared.item.Item.{Item}
-use Rattle.am_config.specs.Configuration.{Configuration}
+use Rattle.am_pattern.specs.Asking.{Asked, Grows}
+use Rattle.am_pattern.specs.Cache.{Cache}
+use Rattle.am_pattern.proofs.AskingLemmas.{grows-stays}
 use Rattle.am_api.specs.declared.decision.Decided.{Decided}
 use Rattle.am_match.specs.Matchers.{MatcherText}
 use Rattle.am_query.specs.declared.query.Query.{Query}
@@ -40,12 +42,12 @@ by_reason refused own stored reason decision (Err OutOfMemory) unbuilt decides =
 by_reason refused own stored reason decision (Err PatternNotBuilt) unbuilt decides = absurd decides
 
 -- a query that is refused
-pub query_refused : (refused own stored : List (List ℕ)) (reason : QueryRefusal) (c : Configuration) (held : List Item) (moment : ℕ) (outcome : Result Query QueryRefusal)
+pub query_refused : (refused own stored : List (List ℕ)) (reason : QueryRefusal) (text : Query → List ℕ) (outcome : Result Query QueryRefusal)
     (result : Result Decided Fault) → (outcome ≡ Err reason) ⊎ IsUnbuiltRefusal refused own reason →
-    Decides result (refused_with (status_of reason) (code_of reason)) → DecidesUnless refused own stored result (listed_or_refused c held moment outcome)
-query_refused refused own stored reason c held moment outcome result (inl is) decides = rw is (decides_unless refused own stored result _ decides)
-query_refused refused own stored reason c held moment outcome result (inr unbuilt) decides =
-    by_reason refused own stored reason (listed_or_refused c held moment outcome) result unbuilt decides
+    Decides result (refused_with (status_of reason) (code_of reason)) → DecidesUnless refused own stored result (listed_or_refused text outcome)
+query_refused refused own stored reason text outcome result (inl is) decides = rw is (decides_unless refused own stored result _ decides)
+query_refused refused own stored reason text outcome result (inr unbuilt) decides =
+    by_reason refused own stored reason (listed_or_refused text outcome) result unbuilt decides
 
 -- filters that are refused
 pub filters_refused : (refused own stored : List (List ℕ)) (reason : QueryRefusal) (held : List Item) (moment : ℕ) (outcome : Result (List MatcherText) QueryRefusal)
@@ -70,3 +72,8 @@ pub silence_refused : (refused own stored : List (List ℕ)) (reason : SilenceRe
 silence_refused refused own stored reason limit held moment maker words outcome result (inl is) decides = rw is (decides_unless refused own stored result _ decides)
 silence_refused refused own stored reason limit held moment maker words outcome result (inr unbuilt) decides =
     by_silence refused own stored reason (posted_or_refused limit held moment maker words outcome) result unbuilt decides
+
+-- a call that asks leaves a cache in which no refused build is forgotten
+pub asked_grows : {X E : Type 0} (result : Result X E) (old new : Cache) → Asked result old new → Grows old new
+asked_grows (Ok x) old new stays = grows-stays old new stays
+asked_grows (Err e) old new grows = grows

@@ -25,8 +25,10 @@ use Rattle.rand_chacha.specs.ChaCha.{ChaCha}
 use Rattle.am_query.specs.declared.query.Query.{Query}
 use Rattle.am_query.specs.declared.refusal.QueryRefusal.{QueryRefusal}
 use Rattle.am_query.specs.Patterns.{Among}
-use Rattle.am_query.specs.Queries.{query_in}
-use Rattle.am_api.specs.Decision.{accepted_or_refused, alerts_decided, configuration_decided, count_with, decided, decided_by, listed_or_refused, read_or_none, receivers_decided, stored_or_refused, text_at}
+use Rattle.am_query.specs.Queries.{group_query_in, query_in}
+use Rattle.am_listing.specs.Written.{alerts_text}
+use Rattle.am_group_list.specs.Written.{groups_text}
+use Rattle.am_api.specs.Decision.{accepted_or_refused, alerts_decided, configuration_decided, count_with, decided, decided_by, groups_decided, listed_or_refused, read_or_none, receivers_decided, stored_or_refused, text_at}
 use Rattle.am_api.specs.Patterns.{patterns_by, patterns_of_document, patterns_of_items, patterns_of_request}
 use Rattle.am_api.specs.Replied.{Decision, stored}
 use Rattle.am_api.proofs.StoredLemmas.{among_if, none_in, nowhere, posted_patterns}
@@ -50,16 +52,22 @@ none_posted : (limit : ℕ) (held : List Item) (moment : ℕ) (maker : Maker) (o
 none_posted limit held moment maker (Ok posted) ys = none_within (nat_lt limit (count_with held moment maker posted)) held moment maker posted _ ys refl
 none_posted limit held moment maker (Err reason) ys = none_in ys
 
-none_listed : (c : config.Configuration) (held : List Item) (moment : ℕ) (outcome : Result Query QueryRefusal) (ys : List (List ℕ)) →
-    Among (patterns_of_items (listed_or_refused c held moment outcome).items) ys
-none_listed c held moment (Ok query) ys = none_in ys
-none_listed c held moment (Err reason) ys = none_in ys
+none_listed : (text : Query → List ℕ) (outcome : Result Query QueryRefusal) (ys : List (List ℕ)) →
+    Among (patterns_of_items (listed_or_refused text outcome).items) ys
+none_listed text (Ok query) ys = none_in ys
+none_listed text (Err reason) ys = none_in ys
 
 none_alerts : (c : config.Configuration) (request : Request) (method : Method) (held : List Item) (limits : Limits) (moment : ℕ) (maker : Maker) (ys : List (List ℕ)) →
     Among (patterns_of_items (alerts_decided c request method held limits moment maker).items) ys
-none_alerts c request Get held limits moment maker ys = none_listed c held moment (query_in request.query) ys
+none_alerts c request Get held limits moment maker ys = none_listed (λ query. alerts_text c query moment held) (query_in request.query) ys
 none_alerts c request Post held limits moment maker ys = none_posted limits.alerts held moment maker (alerts.posted moment c.resolve_timeout request.body) ys
 none_alerts c request Delete held limits moment maker ys = none_in ys
+
+none_groups : (c : config.Configuration) (request : Request) (method : Method) (held : List Item) (moment : ℕ) (ys : List (List ℕ)) →
+    Among (patterns_of_items (groups_decided c request method held moment).items) ys
+none_groups c request Get held moment ys = none_listed (λ query. groups_text c query moment held) (group_query_in request.query) ys
+none_groups c request Post held moment ys = none_in ys
+none_groups c request Delete held moment ys = none_in ys
 
 none_receivers : (c : config.Configuration) (method : Method) (ys : List (List ℕ)) → Among (patterns_of_items (receivers_decided c method).items) ys
 none_receivers c Get ys = none_in ys
@@ -95,7 +103,8 @@ by_endpoint : (c : config.Configuration) (request : Request) (endpoint : Endpoin
     Among (patterns_of_items (decided_by c request endpoint held limits moment maker words).items) (patterns_by endpoint request ++ patterns_of_items held)
 by_endpoint c request Alerts held limits moment maker words =
     none_alerts c request request.method held limits moment maker (patterns_by Alerts request ++ patterns_of_items held)
-by_endpoint c request AlertGroups held limits moment maker words = none_in (patterns_of_items held)
+by_endpoint c request AlertGroups held limits moment maker words =
+    none_groups c request request.method held moment (patterns_by AlertGroups request ++ patterns_of_items held)
 by_endpoint c request Silences held limits moment maker words = silences_among request request.method held limits moment maker words
 by_endpoint c request (Silence text) held limits moment maker words = silence_among text request.method held moment maker
 by_endpoint c request Receivers held limits moment maker words = none_receivers c request.method (patterns_of_items held)

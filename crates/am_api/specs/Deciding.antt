@@ -6,7 +6,7 @@ use Rattle.am_item.specs.declared.item.Item.{Item}
 use Rattle.am_alert.specs.Made.{counts_fit}
 use Rattle.am_api.specs.declared.decision.Decided.{Decided}
 use Rattle.am_query.specs.Patterns.{HasRefused}
-use Rattle.am_listing.specs.Failing.{HasUnanswered}
+use Rattle.am_muting.specs.Failing.{HasUnanswered}
 use Rattle.am_api.specs.Replied.{Decision, refused}
 
 -- what a decision says, without where it lies in memory

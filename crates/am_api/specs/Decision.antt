@@ -28,6 +28,7 @@ use Rattle.am_query.specs.declared.query.Query.{Query}
 use Rattle.am_query.specs.declared.refusal.QueryRefusal.{QueryRefusal}
 use Rattle.am_query.specs.Queries as queries
 use Rattle.am_listing.specs.Written.{alerts_text}
+use Rattle.am_group_list.specs.Written.{groups_text}
 use Rattle.am_payload.specs.Written.{document_text, receivers_text}
 use Rattle.am_api.specs.Replied.{Decision, refused, replied, stored}
 use Rattle.am_api.specs.Silences.{silence_decided, silences_decided}
@@ -35,10 +36,10 @@ use Rattle.rand_chacha.specs.ChaCha.{ChaCha}
 
 -- ---- the alerts
 
--- the alerts that fire and that the query asks for are listed
-abbrev pub listed_or_refused : config.Configuration → List Item → ℕ → Result Query QueryRefusal → Decision
-listed_or_refused c held moment (Ok query) = replied 200 (alerts_text c query moment held)
-listed_or_refused c held moment (Err reason) = refused (queries.status_of reason) (queries.code_of reason)
+-- what a query asks for is listed, as this text
+abbrev pub listed_or_refused : (Query → List ℕ) → Result Query QueryRefusal → Decision
+listed_or_refused text (Ok query) = replied 200 (text query)
+listed_or_refused text (Err reason) = refused (queries.status_of reason) (queries.code_of reason)
 
 -- how many alerts are held once posted ones have come
 unfoldable pub count_with : List Item → ℕ → Maker → List Alert → ℕ
@@ -58,10 +59,18 @@ stored_or_refused limit held moment maker (Err reason) = refused 400 (alerts.cod
 -- GET lists those that fire, by its query; POST stores those of its body, where one without an end ends as the
 -- configuration says. (The front lets no other method through.)
 abbrev pub alerts_decided : config.Configuration → Request → Method → List Item → Limits → ℕ → Maker → Decision
-alerts_decided c request Get held limits moment maker = listed_or_refused c held moment (queries.query_in request.query)
+alerts_decided c request Get held limits moment maker =
+    listed_or_refused (λ query. alerts_text c query moment held) (queries.query_in request.query)
 alerts_decided c request Post held limits moment maker =
     stored_or_refused limits.alerts held moment maker (alerts.posted moment c.resolve_timeout request.body)
 alerts_decided c request Delete held limits moment maker = refused 405 (codes "H6")
+
+-- GET lists those that fire in their groups, by its query. (The front lets no other method through.)
+abbrev pub groups_decided : config.Configuration → Request → Method → List Item → ℕ → Decision
+groups_decided c request Get held moment =
+    listed_or_refused (λ query. groups_text c query moment held) (queries.group_query_in request.query)
+groups_decided c request Post held moment = refused 405 (codes "H6")
+groups_decided c request Delete held moment = refused 405 (codes "H6")
 
 -- ---- the receivers
 
@@ -136,11 +145,11 @@ configuration_decided request Delete held limits moment maker = configuration_st
 
 -- ---- all requests
 
--- by what the request speaks of, where this configuration is in use; the front lets no request of the others through
+-- by what the request speaks of, where this configuration is in use
 abbrev pub decided_by : config.Configuration → Request → Endpoint → List Item → Limits → ℕ → Maker → ChaCha → Decision
 decided_by c request Alerts held limits moment maker words =
     alerts_decided c request request.method held limits moment maker
-decided_by c request AlertGroups held limits moment maker words = refused 404 (codes "H5")
+decided_by c request AlertGroups held limits moment maker words = groups_decided c request request.method held moment
 decided_by c request Silences held limits moment maker words =
     silences_decided request request.method held limits moment maker words
 decided_by c request (Silence text) held limits moment maker words =

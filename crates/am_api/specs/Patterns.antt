@@ -12,7 +12,7 @@ use Rattle.am_http.specs.declared.request.Request.{Request}
 use Rattle.am_item.specs.declared.item.Item.{Item}
 use Rattle.am_item.specs.declared.item.Thing.{Thing}
 use Rattle.am_item.specs.declared.item.Thing.TheVariants as thing
-use Rattle.am_query.specs.Patterns.{patterns_of_filters, patterns_of_query}
+use Rattle.am_query.specs.Patterns.{patterns_of_filters, patterns_of_group_query, patterns_of_query}
 use Rattle.am_silence.specs.Posted.{patterns_in_body}
 
 -- those of a request to the alerts: a GET has them in its query
@@ -20,6 +20,12 @@ abbrev pub patterns_of_alerts : Method → Request → List (List ℕ)
 patterns_of_alerts Get request = patterns_of_query request.query
 patterns_of_alerts Post request = []
 patterns_of_alerts Delete request = []
+
+-- those of a request to the groups: a GET has them in its query
+abbrev pub patterns_of_groups : Method → Request → List (List ℕ)
+patterns_of_groups Get request = patterns_of_group_query request.query
+patterns_of_groups Post request = []
+patterns_of_groups Delete request = []
 
 -- those of a request to the configuration: a POST has them in its document
 abbrev pub patterns_of_document : Method → Request → List (List ℕ)
@@ -36,7 +42,7 @@ patterns_of_silences Delete request = []
 -- by what the request speaks of
 abbrev pub patterns_by : Endpoint → Request → List (List ℕ)
 patterns_by Alerts request = patterns_of_alerts request.method request
-patterns_by AlertGroups request = []
+patterns_by AlertGroups request = patterns_of_groups request.method request
 patterns_by Silences request = patterns_of_silences request.method request
 patterns_by (Silence text) request = []
 patterns_by Receivers request = []

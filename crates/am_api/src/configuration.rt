@@ -6,13 +6,12 @@ ghost use Rattle.am_draft.specs.Drafts.{posted};
 ghost use Rattle.am_config.specs.Matching.{patterns_of_draft};
 ghost use Rattle.am_item.specs.Best.{item_at};
 ghost use Rattle.am_item.specs.Key.{ConfigurationKey};
-ghost use Rattle.am_alert.specs.Made.{stamp_moment};
 ghost use Rattle.am_alert.specs.declared.maker.Maker.{Maker};
 ghost use Rattle.am_api.specs.Deciding.{Decides, DecidesUnless};
 ghost use Rattle.am_api.specs.Decision.{configuration_posted, configuration_stored, read_or_none, seen, status_of, text_at};
 
 use crate::decision::{self, Decided, refuse, reply};
-use am_alert::Maker;
+use am_alert::{Maker, stamp_moment};
 use am_config::{Config, ConfigRefusal};
 use am_item::{Fault, GREATEST_COUNT, Held, Item, Stamp, Thing};
 use am_limit::Limits;
@@ -107,16 +106,6 @@ fn seen(held: &Held) -> Option<Moment>
     ensures { result ≡ seen held.now }
 {
     held.configuration().map(|stored| stored.stamp.moment)
-}
-
-// The moment, or one past what was seen.
-fn stamp_moment(moment: Moment, seen: Option<Moment>) -> Moment
-    ensures { result ≡ stamp_moment moment seen }
-{
-    match seen {
-        None => moment,
-        Some(before) => moment.max(before.plus(1)),
-    }
 }
 
 // The status code of a configuration that is refused.

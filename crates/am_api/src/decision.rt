@@ -12,7 +12,7 @@ ghost use Rattle.am_api.specs.Patterns.{patterns_by, patterns_of_alerts, pattern
 ghost use Rattle.am_api.specs.Replied.{refused, replied, stored};
 
 use crate::configuration::{delete_configuration, post_configuration, read_configuration};
-use crate::listing::decide_list;
+use crate::listing::{decide_groups, decide_list};
 use crate::posting::post_alerts;
 use crate::silences::{decide_silence, decide_silences};
 use am_alert::Maker;
@@ -95,7 +95,7 @@ fn decide_by(
         Endpoint::Alerts => {
             decide_alerts(alloc, request, held, config, limits, moment, maker, cache)
         }
-        Endpoint::AlertGroups => refuse(alloc, 404, "H5"),
+        Endpoint::AlertGroups => decide_groups(alloc, request, held, config, moment, cache),
         Endpoint::Silences => {
             decide_silences(alloc, request, held, limits, moment, maker, words, cache)
         }

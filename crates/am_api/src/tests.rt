@@ -32,7 +32,7 @@ const DOCUMENT: &str =
 const AB: &str =
     r#"[{"annotations":{},"endsAt":"2025-06-15T15:07:40.000Z","fingerprint":"d2b371819297f98a","generatorURL":"","labels":{"a":"b"},"receivers":[{"name":"r1"},{"name":"r2"}],"startsAt":"2025-06-15T15:06:40.000Z","status":{"inhibitedBy":[],"silencedBy":[],"state":"active"},"updatedAt":"2025-06-15T15:06:40.000Z"}]"#;
 
-const STEPS: [Step; 45] = [
+const STEPS: [Step; 49] = [
     (Get, "configuration", "", "", 404, r#"{"code":"K1"}"#),
     (Get, "receivers", "", "", 200, r#"[{"name":"default"}]"#),
     // The limit comes before what the document says, and nothing is stored.
@@ -143,6 +143,11 @@ const STEPS: [Step; 45] = [
         400,
         r#"{"code":"M2"}"#,
     ),
+    // Groups: by their own receiver, and one for each route.
+    (Get, "groups", "", "", 200, GROUPS),
+    (Get, "groups", "receiver=r2&unprocessed=1", "", 200, GROUP),
+    (Get, "groups", "active=1", "", 400, r#"{"code":"P1"}"#),
+    (Post, "groups", "", "", 405, r#"{"code":"H6"}"#),
     // Silences: the limit of a body comes first, then its form; a refusal draws no words.
     (Get, "silences", "", "", 200, "[]"),
     (Post, "silences", "", DOCUMENT, 400, r#"{"code":"Li4"}"#),
@@ -204,6 +209,14 @@ const STEPS: [Step; 45] = [
 const AB2: &str =
     r#"[{"annotations":{},"endsAt":"2025-06-15T15:07:40.000Z","fingerprint":"d2b371819297f98a","generatorURL":"","labels":{"a":"b"},"receivers":[{"name":"r1"},{"name":"r2"}],"startsAt":"2025-06-15T15:06:40.000Z","status":{"inhibitedBy":[],"silencedBy":[],"state":"active"},"updatedAt":"2025-06-15T15:06:40.001Z"}]"#;
 
+/// Its groups.
+const GROUPS: &str =
+    r#"[{"alerts":[{"annotations":{},"endsAt":"2025-06-15T15:07:40.000Z","fingerprint":"d2b371819297f98a","generatorURL":"","labels":{"a":"b"},"receivers":[{"name":"r1"},{"name":"r2"}],"startsAt":"2025-06-15T15:06:40.000Z","status":{"inhibitedBy":[],"silencedBy":[],"state":"active"},"updatedAt":"2025-06-15T15:06:40.001Z"}],"labels":{},"receiver":{"name":"r1"}},{"alerts":[{"annotations":{},"endsAt":"2025-06-15T15:07:40.000Z","fingerprint":"d2b371819297f98a","generatorURL":"","labels":{"a":"b"},"receivers":[{"name":"r1"},{"name":"r2"}],"startsAt":"2025-06-15T15:06:40.000Z","status":{"inhibitedBy":[],"silencedBy":[],"state":"active"},"updatedAt":"2025-06-15T15:06:40.001Z"}],"labels":{},"receiver":{"name":"r1"}},{"alerts":[{"annotations":{},"endsAt":"2025-06-15T15:07:40.000Z","fingerprint":"d2b371819297f98a","generatorURL":"","labels":{"a":"b"},"receivers":[{"name":"r1"},{"name":"r2"}],"startsAt":"2025-06-15T15:06:40.000Z","status":{"inhibitedBy":[],"silencedBy":[],"state":"active"},"updatedAt":"2025-06-15T15:06:40.001Z"}],"labels":{},"receiver":{"name":"r2"}}]"#;
+
+/// The group of the last route.
+const GROUP: &str =
+    r#"[{"alerts":[{"annotations":{},"endsAt":"2025-06-15T15:07:40.000Z","fingerprint":"d2b371819297f98a","generatorURL":"","labels":{"a":"b"},"receivers":[{"name":"r1"},{"name":"r2"}],"startsAt":"2025-06-15T15:06:40.000Z","status":{"inhibitedBy":[],"silencedBy":[],"state":"active"},"updatedAt":"2025-06-15T15:06:40.001Z"}],"labels":{},"receiver":{"name":"r2"}}]"#;
+
 /// The same alert, silenced.
 const AB3: &str =
     r#"[{"annotations":{},"endsAt":"2025-06-15T15:07:40.000Z","fingerprint":"d2b371819297f98a","generatorURL":"","labels":{"a":"b"},"receivers":[{"name":"r1"},{"name":"r2"}],"startsAt":"2025-06-15T15:06:40.000Z","status":{"inhibitedBy":[],"silencedBy":["72a852c9-b135-441b-abe4-89369b874535"],"state":"suppressed"},"updatedAt":"2025-06-15T15:06:40.001Z"}]"#;
@@ -224,6 +237,7 @@ fn request(alloc: Global, step: &Step) -> Result<Request, Fail> {
         method: step.0,
         endpoint: match step.1 {
             "alerts" => Endpoint::Alerts,
+            "groups" => Endpoint::AlertGroups,
             "receivers" => Endpoint::Receivers,
             "silences" => Endpoint::Silences,
             "configuration" => Endpoint::Configuration,

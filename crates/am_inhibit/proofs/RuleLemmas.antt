@@ -20,8 +20,8 @@ use Rattle.am_config.specs.Configured.{HasPattern}
 use Rattle.am_config.specs.declared.parts.Rule.{Rule}
 use Rattle.am_inhibit.specs.Alike.{are_alike}
 use Rattle.am_inhibit.specs.Inhibits.{AreInhibitors, inhibits, inhibits_by, rule_matchers}
-use Rattle.am_inhibit.specs.Links.{AreAllPlaces, ArePlaces, is_among}
-use Rattle.am_inhibit.specs.Sides.{AreLinkedByNames}
+use Rattle.am_inhibit.specs.Links.{AreAllPlaces, AreLinked, ArePlaces, is_among}
+use Rattle.am_inhibit.specs.Sides.{AreLinkedBySides}
 
 -- ---- flags
 
@@ -75,6 +75,41 @@ below_second flags one other count long is below place on =
     let within = set_within flags place on in
     below place (both_set (get_or one place false) (get_or other place false) (sym (is place (omega (arith, within, long))) ∙ on)).1
 
+-- of an old flag; whether the target takes the target and the source side, whether the source takes the target side,
+-- whether it takes its own and fires, and whether both are alike: what comes in the two steps of the code
+two_steps : (old t s tp f alike : Bool) →
+    ((old || ((t && not s) && (f && alike))) || ((t && s) && ((f && not tp) && alike))) ≡ (old || (t && (f && (alike && not (s && tp)))))
+two_steps true t s tp f alike = refl
+two_steps false false s tp f alike = refl
+two_steps false true true tp false alike = refl
+two_steps false true true true true true = refl
+two_steps false true true true true false = refl
+two_steps false true true false true true = refl
+two_steps false true true false true false = refl
+two_steps false true false tp false alike = refl
+two_steps false true false tp true true = refl
+two_steps false true false tp true false = refl
+
+-- the sources come first to those that take the target alone, then those that take the source alone to the others
+pub sides_linked : (names : List (List ℕ)) (sets : List (List Label)) (sources targets fires firing target_alone source_alone both_sides : List Bool)
+    (old between new : List (List (List ℕ))) →
+    ((k : ℕ) → k < length sets → get_or firing k false ≡ (get_or sources k false && get_or fires k false)) →
+    ((k : ℕ) → k < length sets → get_or target_alone k false ≡ (get_or targets k false && not (get_or sources k false))) →
+    ((k : ℕ) → k < length sets → get_or source_alone k false ≡ (get_or firing k false && not (get_or targets k false))) →
+    ((k : ℕ) → k < length sets → get_or both_sides k false ≡ (get_or targets k false && get_or sources k false)) →
+    AreLinked names sets firing target_alone old between → AreLinked names sets source_alone both_sides between new →
+    AreLinkedBySides names sets sources targets fires old new
+sides_linked names sets sources targets fires firing target_alone source_alone both_sides old between new is_firing is_target is_source is_both one other k place below within =
+    let alike = are_alike names (get_or sets place []) (get_or sets k []) in
+    let held = is_among (get_or old k []) place in
+    other k place below within
+    ∙ ap (λ b. b || (get_or both_sides k false && (get_or source_alone place false && alike))) (one k place below within)
+    ∙ ap (λ b. (held || (b && (get_or firing place false && alike))) || (get_or both_sides k false && (get_or source_alone place false && alike))) (is_target k below)
+    ∙ ap (λ b. (held || ((get_or targets k false && not (get_or sources k false)) && (get_or firing place false && alike))) || (b && (get_or source_alone place false && alike))) (is_both k below)
+    ∙ ap (λ b. (held || ((get_or targets k false && not (get_or sources k false)) && (get_or firing place false && alike))) || ((get_or targets k false && get_or sources k false) && (b && alike))) (is_source place within)
+    ∙ two_steps held (get_or targets k false) (get_or sources k false) (get_or targets place false) (get_or firing place false) alike
+    ∙ ap (λ b. held || (get_or targets k false && (b && (alike && not (get_or sources k false && get_or targets place false))))) (is_firing place within)
+
 -- ---- rules
 
 module _ {A : Type 0} (view : A → List Label) (sets : List A) (fires : List Bool) where
@@ -90,7 +125,7 @@ module _ {A : Type 0} (view : A → List Label) (sets : List A) (fires : List Bo
   pub rule_more : (rules : List Rule) (i : ℕ) (rule : Rule) → i < length rules → rule ≡ get_or rules i rule → (sources targets : List Bool) →
       sources ≡ map (λ x. all_take rule.source (view x)) sets → targets ≡ map (λ x. all_take rule.target (view x)) sets →
       (old new : List (List (List ℕ))) → AreInhibitors (take i rules) (map view sets) fires old →
-      AreLinkedByNames rule.equal (map view sets) sources targets fires old new → AreInhibitors (take (i + 1) rules) (map view sets) fires new
+      AreLinkedBySides rule.equal (map view sets) sources targets fires old new → AreInhibitors (take (i + 1) rules) (map view sets) fires new
   rule_more rules i rule fits at sources targets is_source is_target old new before linked k place below within =
       let long = length-map sets view in
       let source = get_or (map view sets) place [] in

@@ -1,5 +1,5 @@
 -- Label sets that are alike: they have equal values of some labels.
-use Rattle.std.specs.Prelude.{◌≡◌, ◌==◌, ℕ, ◌<◌, [], List, Bool, true, false, get_or, length, map}
+use Rattle.std.specs.Prelude.{ℕ, List, Bool, map}
 use Rattle.std.specs.Cmp.{IsTotalOrder}
 use Rattle.std.specs.Cmp.Lexicographic.{lists_total, nat_list_cmp_total, slice_cmp}
 use Rattle.std.specs.List.{list_all}
@@ -23,9 +23,3 @@ keys_cmp one other = slice_cmp (slice_cmp nat_cmp) one other
 
 pub keys_total : IsTotalOrder keys_cmp
 keys_total = lists_total nat_list_cmp_total
-
--- of the label sets that are flagged, those with one class are those that are alike
-abbrev pub AreClasses : List (List ℕ) → List (List Label) → List Bool → List ℕ → Type 0
-AreClasses names sets flags classes =
-    (i j : ℕ) → i < length sets → j < length sets → get_or flags i false ≡ true → get_or flags j false ≡ true →
-    (get_or classes i 0 == get_or classes j 0) ≡ are_alike names (get_or sets i []) (get_or sets j [])

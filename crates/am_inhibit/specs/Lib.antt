@@ -1,5 +1,7 @@
 -- label sets that are alike
 pub mod Alike
+-- their classes
+pub mod Classes
 -- lists of places that alerts share
 pub mod Links
 -- which alerts inhibit which

@@ -6,6 +6,8 @@ use Rattle.std.specs.List.Sorted.{IsStrictlySortedBy}
 use Rattle.std.specs.Ordering.{nat_cmp}
 use Rattle.std.specs.Rc.{rc_slice_items}
 use Rattle.std.specs.declared.rc.RcSlice.{RcSlice}
+use Rattle.am_labels.specs.declared.Label.{Label}
+use Rattle.am_inhibit.specs.Alike.{are_alike}
 
 -- the place stands in the list
 abbrev pub has_place : ℕ → List ℕ → Bool
@@ -33,15 +35,10 @@ lists_of links = map (λ (lists : Vec (RcSlice ℕ Global)). map rc_slice_items 
 abbrev pub AreAllPlaces : ℕ → List (List (List ℕ)) → Type 0
 AreAllPlaces count each = All (λ (lists : List (List ℕ)). All (ArePlaces count) lists) each
 
--- the sources of a class: their places
-abbrev pub sources_in : List ℕ → List Bool → ℕ → List ℕ
-sources_in classes sources class =
-    filter (λ place. get_or sources place false && get_or classes place 0 == class) (range_with_len 0 (length classes))
-
--- to each target's lists came the sources of its class
-abbrev pub AreLinked : List ℕ → List Bool → List Bool → List (List (List ℕ)) → List (List (List ℕ)) → Type 0
-AreLinked classes sources targets old new =
-    (k place : ℕ) → k < length classes → place < length classes →
+-- to each target's lists came the sources that are like it
+abbrev pub AreLinked : List (List ℕ) → List (List Label) → List Bool → List Bool → List (List (List ℕ)) → List (List (List ℕ)) → Type 0
+AreLinked names sets sources targets old new =
+    (k place : ℕ) → k < length sets → place < length sets →
     is_among (get_or new k []) place
     ≡ (is_among (get_or old k []) place
-    || (get_or targets k false && (get_or sources place false && get_or classes place 0 == get_or classes k 0)))
+    || (get_or targets k false && (get_or sources place false && are_alike names (get_or sets place []) (get_or sets k []))))

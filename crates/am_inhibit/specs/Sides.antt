@@ -1,21 +1,12 @@
 -- What comes of the flags that tell which label sets a rule's two sides take.
-use Rattle.std.specs.Prelude.{◌≡◌, ◌==◌, ◌&&◌, ◌||◌, ℕ, ◌<◌, [], false, List, Bool, get_or, length, not}
+use Rattle.std.specs.Prelude.{◌≡◌, ◌&&◌, ◌||◌, ℕ, ◌<◌, [], false, List, Bool, get_or, length, not}
 use Rattle.am_labels.specs.declared.Label.{Label}
 use Rattle.am_inhibit.specs.Alike.{are_alike}
 use Rattle.am_inhibit.specs.Links.{is_among}
 
--- to the lists of each target came those that fire in its class, but not one that takes both sides to one that does
-abbrev pub AreLinkedBySides : List ℕ → List Bool → List Bool → List Bool → List (List (List ℕ)) → List (List (List ℕ)) → Type 0
-AreLinkedBySides classes sources targets firing old new =
-    (k place : ℕ) → k < length classes → place < length classes →
-    is_among (get_or new k []) place
-    ≡ (is_among (get_or old k []) place
-    || (get_or targets k false && (get_or firing place false
-    && (get_or classes place 0 == get_or classes k 0 && not (get_or sources k false && get_or targets place false)))))
-
 -- to the lists of each target came the sources that fire and are like it, but not one that takes both sides to one that does
-abbrev pub AreLinkedByNames : List (List ℕ) → List (List Label) → List Bool → List Bool → List Bool → List (List (List ℕ)) → List (List (List ℕ)) → Type 0
-AreLinkedByNames names sets sources targets fires old new =
+abbrev pub AreLinkedBySides : List (List ℕ) → List (List Label) → List Bool → List Bool → List Bool → List (List (List ℕ)) → List (List (List ℕ)) → Type 0
+AreLinkedBySides names sets sources targets fires old new =
     (k place : ℕ) → k < length sets → place < length sets →
     is_among (get_or new k []) place
     ≡ (is_among (get_or old k []) place

@@ -1,6 +1,6 @@
 //! Flags of label sets, combined.
 
-ghost use Rattle.std.specs.Prelude.{◌≡◌, ◌&&◌, ◌||◌, ◌+◌, ◌++◌, ℕ, ◌<◌, false, true, IfOk, get_or, length, not, replicate};
+ghost use Rattle.std.specs.Prelude.{◌≡◌, ◌&&◌, ◌+◌, ◌++◌, ℕ, ◌<◌, false, true, IfOk, get_or, length, not, replicate};
 ghost use Rattle.std.specs.List.{list_any};
 
 use std::alloc::{AllocError, Global};
@@ -29,20 +29,6 @@ pub fn without(alloc: Global, one: &[bool], other: &[bool]) -> Result<Vec<bool>,
     let mut flags = Vec::with_capacity(alloc, one.len())?;
     for (place, flag) in one.iter().enumerate() {
         flags.push(*flag && !other[place])?;
-    }
-    Ok(flags)
-}
-
-/// The flags that are set in one of them or in both.
-pub fn either(alloc: Global, one: &[bool], other: &[bool]) -> Result<Vec<bool>, AllocError>
-    requires each { length one.now ≡ length other.now }
-    ensures each { IfOk result (λ v. length v.items ≡ length one.now) }
-    ensures flags { IfOk result (λ v. (k : ℕ) → k < length one.now
-        → get_or v.items k false ≡ (get_or one.now k false || get_or other.now k false)) }
-{
-    let mut flags = Vec::with_capacity(alloc, one.len())?;
-    for (place, flag) in one.iter().enumerate() {
-        flags.push(*flag || other[place])?;
     }
     Ok(flags)
 }

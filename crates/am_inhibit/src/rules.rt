@@ -7,10 +7,9 @@ ghost use Rattle.am_match.specs.Matchers.{patterns_of};
 ghost use Rattle.am_match.specs.Meaning.{all_take};
 ghost use Rattle.am_inhibit.specs.Inhibits.{AreInhibitors, rule_matchers};
 ghost use Rattle.am_inhibit.specs.Links.{AreAllPlaces, lists_of};
-ghost use Rattle.am_inhibit.specs.Sides.{AreLinkedByNames, AreLinkedBySides};
+ghost use Rattle.am_inhibit.specs.Sides.{AreLinkedBySides};
 
-use crate::classes::classes_of;
-use crate::flags::{both, either, has_set, without};
+use crate::flags::{both, without};
 use crate::links::link;
 use am_config::Rule;
 use am_labels::LabelSet;
@@ -94,7 +93,8 @@ fn sides_of(
     Ok(Sides { sources, targets })
 }
 
-// Adds what inhibits by a rule with these names and these label sets on its sides.
+// Adds what inhibits by a rule with these names and these label sets on its sides: to the targets that take the target
+// alone come all sources that are like them, to those that take both sides the sources that take the source alone.
 fn link_rule(
     alloc: Global,
     names: &[Text],
@@ -108,44 +108,16 @@ fn link_rule(
     requires fires { length fires.now ≡ length sets.now }
     requires links { length links.now.items ≡ length sets.now }
     ensures links { OnOk result (length links.new.items ≡ length sets.now) }
-    ensures linked { OnOk result (AreLinkedByNames names.now (map (λ set. set.now) sets.now) sides.now.sources.items sides.now.targets.items fires.now
+    ensures linked { OnOk result (AreLinkedBySides names.now (map (λ set. set.now) sets.now) sides.now.sources.items sides.now.targets.items fires.now
         (lists_of links.old.items) (lists_of links.new.items)) }
     ensures places { (count : ℕ) → ((place : ℕ) → get_or fires.now place false ≡ true → place < count)
         → AreAllPlaces count (lists_of links.old.items) → OnOk result (AreAllPlaces count (lists_of links.new.items)) }
 {
     let firing = both(alloc, &sides.sources, fires)?;
-    if !has_set(&firing) || !has_set(&sides.targets) {
-        return Ok(());
-    }
-    let asked = either(alloc, &firing, &sides.targets)?;
-    let classes = classes_of(alloc, names, sets, &asked)?;
-    link_sides(alloc, &classes, sides, &firing, links)
-}
-
-// Adds to the targets that take the target alone all sources of their class, to those that take both sides the sources
-// that take the source alone.
-fn link_sides(
-    alloc: Global,
-    classes: &[usize],
-    sides: &Sides,
-    firing: &[bool],
-    links: &mut Vec<Vec<RcSlice<usize>>>,
-) -> Result<(), AllocError>
-    requires within { All (λ class. class < length classes.now) classes.now }
-    requires sources { length sides.now.sources.items ≡ length classes.now }
-    requires targets { length sides.now.targets.items ≡ length classes.now }
-    requires firing { length firing.now ≡ length classes.now }
-    requires links { length links.now.items ≡ length classes.now }
-    ensures links { OnOk result (length links.new.items ≡ length classes.now) }
-    ensures linked { OnOk result (AreLinkedBySides classes.now sides.now.sources.items sides.now.targets.items firing.now
-        (lists_of links.old.items) (lists_of links.new.items)) }
-    ensures places { (count : ℕ) → ((place : ℕ) → get_or firing.now place false ≡ true → place < count)
-        → AreAllPlaces count (lists_of links.old.items) → OnOk result (AreAllPlaces count (lists_of links.new.items)) }
-{
     let target_alone = without(alloc, &sides.targets, &sides.sources)?;
-    link(alloc, classes, firing, &target_alone, links)?;
-    let source_alone = without(alloc, firing, &sides.targets)?;
+    link(alloc, names, sets, &firing, &target_alone, links)?;
+    let source_alone = without(alloc, &firing, &sides.targets)?;
     let both_sides = both(alloc, &sides.targets, &sides.sources)?;
-    link(alloc, classes, &source_alone, &both_sides, links)?;
+    link(alloc, names, sets, &source_alone, &both_sides, links)?;
     Ok(())
 }

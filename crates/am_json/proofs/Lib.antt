@@ -1,3 +1,3 @@
 pub mod Chain
 pub mod Json
-mod Rising
+pub mod Rising

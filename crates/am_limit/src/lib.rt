@@ -2,11 +2,13 @@
 #![tactic(auto)]
 
 mod allowance;
+mod allowances;
 mod book;
 pub mod laws;
 mod limits;
 
 pub use allowance::Allowance;
+pub use allowances::Allowances;
 pub use book::LimitBook;
 pub use limits::Limits;
 

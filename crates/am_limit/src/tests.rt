@@ -1,4 +1,4 @@
-use crate::{Allowance, LimitBook, Limits};
+use crate::{Allowance, Allowances, LimitBook, Limits};
 use am_tenant::TenantName;
 use am_text::Moment;
 use std::test::Fail;
@@ -55,5 +55,17 @@ fn each_tenant_has_limits(rt: HostRuntime) -> Result<(), Fail> {
         assert_eq!(rt; book.of(&first), limits);
     }
     assert_eq!(rt; book.of(&second), Limits::default());
+    Ok(())
+}
+
+#[test]
+fn each_tenant_has_an_allowance(rt: HostRuntime) -> Result<(), Fail> {
+    let first = TenantName::read(b"a")?;
+    let second = TenantName::read(b"b")?;
+    let moment = Moment::from_milliseconds(60_000).ok_or("no moment")?;
+    let mut allowances = Allowances::new(rt.alloc());
+    assert!(rt; allowances.take(rt.alloc(), &first, 1, moment)?);
+    assert!(rt; !allowances.take(rt.alloc(), &first, 1, moment)?);
+    assert!(rt; allowances.take(rt.alloc(), &second, 1, moment)?);
     Ok(())
 }

@@ -1,8 +1,9 @@
 -- Alerts that are chosen by flags, and alerts with the places of their receivers.
-use Rattle.std.proofs.Common.{◌≡◌, ℕ, zero, suc, Bor, List, [], ◌∷◌, Bool, false, ◌||◌, Option, None, Some, filter, map, zip, refl, sym, ap, ◌∙◌, inl, inr}
+use Rattle.std.proofs.Common.{◌≡◌, ℕ, zero, suc, Bor, List, [], ◌∷◌, All, Bool, false, ◌||◌, Option, None, Some, filter, map, zip, refl, sym, ap, ◌∙◌, inl, inr}
 use Rattle.std.specs.Prelude.{option_map, slice_get, unwrap_or}
 use Rattle.std.specs.List.{cons_option, list_any}
 use Rattle.std.proofs.lemmas.Bool.{cases_Bool}
+use Rattle.std.proofs.lemmas.List.Elements.{All-nil, All-cons, All-head, All-tail}
 use Rattle.std.proofs.lemmas.Simd.{map-map}
 use Rattle.am_labels.specs.declared.Label.{Label}
 use Rattle.am_pattern.specs.Taking.{takes}
@@ -11,12 +12,12 @@ use Rattle.am_config.specs.declared.parts.Receiver.{Receiver}
 use Rattle.am_route.specs.Routes.{routes_at}
 use Rattle.am_item.specs.declared.item.Alert.{Alert}
 use Rattle.am_item.specs.declared.stamp.Stamped.{Stamped}
+use Rattle.am_muting.specs.Muting.{Muting}
 use Rattle.am_payload.specs.Receivers.{names_at, names_of}
 use Rattle.am_listing.specs.declared.muting.MutedAlert.{MutedAlert}
 use Rattle.am_listing.specs.declared.receivers.RoutedAlert.{RoutedAlert}
-use Rattle.am_listing.specs.Listed.{has_taken, made_routed, muted, routed, with_receivers}
-use Rattle.am_listing.specs.Muting.{Muting}
-use Rattle.am_listing.specs.Receivers.{is_asked, receivers_at, receivers_of}
+use Rattle.am_listing.specs.Listed.{has_taken, made_routed, muted, routed, with_places, with_routes}
+use Rattle.am_listing.specs.Receivers.{is_asked, receivers_of}
 
 -- those whose own flag is set
 pub chosen_by : {X : Type 0} (test : X → Bool) (xs : List X) → map (λ pair. pair.0) (filter (λ pair. pair.1) (zip xs (map test xs))) ≡ filter test xs
@@ -42,26 +43,35 @@ by_sets : {Y : Type 0} (f : List Label → Y) (alerts : List MutedAlert) (sets :
 by_sets f alerts sets same =
     sym (map-map f (λ (set' : Bor (List Label)). set'.now) sets) ∙ ap (map f) same ∙ map-map f (λ (m : MutedAlert). m.alert.labels.now) alerts
 
--- an alert with places for its receivers
-abbrev placed : (MutedAlert → List ℕ) → MutedAlert → Stamped Alert × (List ℕ × Muting)
-placed f m = ((muted m).0, (f m, (muted m).1))
+-- an alert with routes, and places for its receivers
+abbrev placed : (MutedAlert → List ℕ × List ℕ) → MutedAlert → Stamped Alert × (List ℕ × (List ℕ × Muting))
+placed f m = ((muted m).0, ((f m).0, ((f m).1, (muted m).1)))
 
-joined : (f : MutedAlert → List ℕ) (alerts : List MutedAlert) → map routed (map made_routed (zip alerts (map f alerts))) ≡ map (placed f) alerts
+joined : (f : MutedAlert → List ℕ × List ℕ) (alerts : List MutedAlert) → map routed (map made_routed (zip alerts (map f alerts))) ≡ map (placed f) alerts
 joined f [] = refl
 joined f (m ∷ alerts) = ap (λ rest. placed f m ∷ rest) (joined f alerts)
 
--- those with the receivers of their routes
-pub routed_are : (c : Configuration) (alerts : List MutedAlert) (found : List RoutedAlert) (sets : List (Bor (List Label))) (routes places : List (List ℕ)) →
+-- those with their routes and the receivers of these
+pub routed_are : (c : Configuration) (alerts : List MutedAlert) (found : List RoutedAlert) (sets : List (Bor (List Label))) (routes : List (List ℕ)) (pairs : List (List ℕ × List ℕ)) →
     map (λ (set' : Bor (List Label)). set'.now) sets ≡ map (λ (m : MutedAlert). m.alert.labels.now) alerts →
-    routes ≡ map (λ (set' : Bor (List Label)). routes_at set'.now c.routes) sets → places ≡ map (receivers_at c) routes →
-    found ≡ map made_routed (zip alerts places) → map routed found ≡ map (with_receivers c) (map muted alerts)
+    routes ≡ map (λ (set' : Bor (List Label)). routes_at set'.now c.routes) sets → pairs ≡ map (with_places c) routes →
+    found ≡ map made_routed (zip alerts pairs) → map routed found ≡ map (with_routes c) (map muted alerts)
 unfolding receivers_of
-routed_are c alerts found sets routes places same route place made =
-    let own : MutedAlert → List ℕ = λ m. receivers_of c m.alert.labels.now in
-    let each : places ≡ map own alerts =
-    place ∙ ap (map (receivers_at c)) (route ∙ by_sets (λ labels. routes_at labels c.routes) alerts sets same)
-    ∙ map-map (receivers_at c) (λ (m : MutedAlert). routes_at m.alert.labels.now c.routes) alerts in
-    ap (map routed) (made ∙ ap (λ ps. map made_routed (zip alerts ps)) each) ∙ joined own alerts ∙ sym (map-map (with_receivers c) muted alerts)
+routed_are c alerts found sets routes pairs same route pair made =
+    let own : MutedAlert → List ℕ × List ℕ = λ m. with_places c (routes_at m.alert.labels.now c.routes) in
+    let each : pairs ≡ map own alerts =
+    pair ∙ ap (map (with_places c)) (route ∙ by_sets (λ labels. routes_at labels c.routes) alerts sets same)
+    ∙ map-map (with_places c) (λ (m : MutedAlert). routes_at m.alert.labels.now c.routes) alerts in
+    ap (map routed) (made ∙ ap (λ ps. map made_routed (zip alerts ps)) each) ∙ joined own alerts ∙ sym (map-map (with_routes c) muted alerts)
+
+-- what holds of all routes holds of those of the alerts
+pub routes_all : (P : List ℕ → Type 0) (c : Configuration) (alerts : List MutedAlert) (routes : List (List ℕ)) → All P routes →
+    All (λ (r : RoutedAlert). P r.routes) (map made_routed (zip alerts (map (with_places c) routes)))
+routes_all P c [] routes all = All-nil (λ (r : RoutedAlert). P r.routes)
+routes_all P c (m ∷ alerts) [] all = All-nil (λ (r : RoutedAlert). P r.routes)
+routes_all P c (m ∷ alerts) (route ∷ routes) all =
+    All-cons (λ (r : RoutedAlert). P r.routes) (made_routed (m, with_places c route)) (map made_routed (zip alerts (map (with_places c) routes)))
+    (All-head P route routes all) (routes_all P c alerts routes (All-tail P route routes all))
 
 -- ---- the receiver that is asked for
 

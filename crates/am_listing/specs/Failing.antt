@@ -1,31 +1,18 @@
 -- Patterns that give no answer, so that no alert is listed.
-use Rattle.std.specs.Prelude.{◌≡◌, ℕ, true, List, ◌++◌}
-use Rattle.std.specs.List.{Contains}
+use Rattle.std.specs.Prelude.{ℕ, List, ◌++◌}
 use Rattle.am_item.specs.declared.item.Item.{Item}
-use Rattle.am_pattern.specs.Refused.{has_text}
-use Rattle.am_pattern.specs.Taking.{IsPattern}
 use Rattle.am_match.specs.Matchers.{patterns_of}
 use Rattle.am_config.specs.Configuration.{Configuration}
 use Rattle.am_route.specs.Asked.{route_matchers}
-use Rattle.am_inhibit.specs.Inhibits.{rule_matchers}
-use Rattle.am_silence.specs.Held.{active_among, matchers_in}
+use Rattle.am_muting.specs.Failing.{HasUnanswered, patterns_muting}
 use Rattle.am_query.specs.Patterns.{HasRefused}
 use Rattle.am_listing.specs.declared.refusal.Unanswered.{Unanswered}
 use Rattle.am_listing.specs.declared.refusal.Unanswered.TheVariants.{Asked, Stored}
-
--- one of these texts gives no answer: where it is a pattern, it stands among those that were refused a build
-abbrev pub HasUnanswered : List (List ℕ) → List (List ℕ) → Type 0
-HasUnanswered refused texts =
-    (text : List ℕ) × (Contains texts text × (IsPattern text → has_text refused text ≡ true))
 
 -- whose pattern gave no answer
 abbrev pub IsUnanswered : List (List ℕ) → List (List ℕ) → List (List ℕ) → Unanswered → Type 0
 IsUnanswered refused own stored Asked = HasRefused refused own
 IsUnanswered refused own stored Stored = HasUnanswered refused stored
-
--- the patterns that mute alerts: those of a configuration's inhibit rules, and those of the silences that are active
-abbrev pub patterns_muting : Configuration → ℕ → List Item → List (List ℕ)
-patterns_muting c moment held = patterns_of (rule_matchers c.rules) ++ patterns_of (matchers_in (active_among moment held))
 
 -- the patterns that are in use at a moment: those of a configuration's routes, and those that mute
 abbrev pub patterns_in_use : Configuration → ℕ → List Item → List (List ℕ)

@@ -1,7 +1,5 @@
 -- the receivers of alerts
 pub mod Receivers
--- what mutes alerts, and which alerts a query lets through for it
-pub mod Muting
 -- which alerts a query shows
 pub mod Shown
 -- the JSON of the list

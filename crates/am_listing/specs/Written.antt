@@ -7,10 +7,10 @@ use Rattle.am_item.specs.declared.item.Alert.{Alert}
 use Rattle.am_item.specs.declared.item.Item.{Item}
 use Rattle.am_item.specs.declared.stamp.Stamped.{Stamped}
 use Rattle.am_config.specs.Configuration.{Configuration}
+use Rattle.am_muting.specs.Muting.{Muting, muting_of}
 use Rattle.am_payload.specs.Receivers.{names_at}
 use Rattle.am_payload.specs.Written.{alert_data}
 use Rattle.am_query.specs.declared.query.Query.{Query}
-use Rattle.am_listing.specs.Muting.{Muting, muting_of}
 use Rattle.am_listing.specs.Receivers.{receivers_of}
 use Rattle.am_listing.specs.Shown.{shown}
 

@@ -3,7 +3,7 @@
 ghost use Rattle.std.specs.Prelude.{ℕ, List, All};
 ghost use Rattle.am_pattern.specs.Taking.{IsPattern};
 ghost use Rattle.am_query.specs.Patterns.{HasRefused};
-ghost use Rattle.am_listing.specs.Failing.{HasUnanswered};
+ghost use Rattle.am_muting.specs.Failing.{HasUnanswered};
 
 /// Of texts that are all patterns one gives no answer just where one was refused a build.
 pub fn unanswered_patterns_are_refused()

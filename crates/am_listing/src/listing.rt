@@ -1,31 +1,31 @@
 //! The alerts that a query shows.
 
-ghost use Rattle.std.specs.Prelude.{◌≡◌, ℕ, List, All, IfErr, IfOk, filter, map, zip};
+ghost use Rattle.std.specs.Prelude.{◌≡◌, ◌<◌, ℕ, List, All, IfErr, IfOk, filter, length, map, zip};
 ghost use Rattle.std.specs.Option.{ForSome, option_to_list};
 ghost use Rattle.am_text.specs.Outcome.{ForRefused};
 ghost use Rattle.am_pattern.specs.Asking.{Asked};
 ghost use Rattle.am_pattern.specs.Taking.{IsPattern};
 ghost use Rattle.am_match.specs.Matchers.{patterns_of};
 ghost use Rattle.am_match.specs.Meaning.{all_take};
-ghost use Rattle.am_alert.specs.Held.{firing};
-ghost use Rattle.am_alert.specs.declared.held.HeldAlert.{HeldAlert};
 ghost use Rattle.am_payload.specs.Receivers.{names_at};
 ghost use Rattle.am_listing.specs.declared.receivers.RoutedAlert.{RoutedAlert};
 ghost use Rattle.am_query.specs.Patterns.{patterns_asked};
-ghost use Rattle.am_listing.specs.Failing.{IsUnanswered, patterns_in_use, patterns_muting};
+ghost use Rattle.am_muting.specs.Failing.{patterns_muting};
+ghost use Rattle.am_listing.specs.Failing.{IsUnanswered, patterns_in_use};
 ghost use Rattle.am_listing.specs.Listed.{has_taken, is_taken, muted, routed, with_all, with_muting};
 ghost use Rattle.am_listing.specs.Receivers.{is_asked};
-ghost use Rattle.am_listing.specs.Shown.{is_passed, shown};
+ghost use Rattle.am_listing.specs.Shown.{passed, shown};
 ghost use Rattle.am_listing.specs.Written.{alerts_text};
 
 use crate::muting::{MutedAlert, chosen_alerts, mutes_of};
 use crate::receivers::{RoutedAlert, read_alerts, routed_alerts, taken_receivers};
 use crate::refusal::Unanswered;
-use am_alert::{AlertBook, HeldAlert};
+use am_alert::AlertBook;
 use am_config::Config;
 use am_item::Held;
 use am_labels::LabelSet;
 use am_match::{Matcher, taken_by_all};
+use am_muting::label_sets;
 use am_pattern::PatternCache;
 use am_payload::alerts_json;
 use am_query::Query;
@@ -82,12 +82,36 @@ fn shown_alerts<'a>(
         (IsUnanswered cache.new.refused (patterns_asked query.now) (patterns_in_use config.now moment held.now))) }
 {
     let passed = passed_alerts(alloc, query, held, config, moment, cache)?;
-    let routed = routed_alerts(alloc, config, passed, cache)?;
-    asked_alerts(alloc, &query.receiver, config, routed, cache)
+    asked_alerts(alloc, &query.receiver, config, passed, cache)
 }
 
-// The alerts that fire, that the query lets through and that its matchers take, with what mutes them.
-fn passed_alerts<'a>(
+/// The alerts that fire at a moment, that the query lets through and that its matchers take, in the order of label sets,
+/// each with its routes, its receivers and what mutes it. Whether a receiver is asked for says nothing here.
+///
+/// # Errors
+/// Those of [`list_alerts`].
+pub fn passed_alerts<'a>(
+    alloc: Global,
+    query: &Query,
+    held: &'a Held,
+    config: &Config,
+    moment: Moment,
+    cache: &mut PatternCache,
+) -> Result<Vec<RoutedAlert<'a>>, Failure<Unanswered>>
+    requires matchers { All IsPattern (patterns_of query.now.matchers) }
+    ensures passed { IfOk result (λ v. map routed v.items
+        ≡ map (with_all config.now moment held.now) (passed config.now query.now moment held.now)) }
+    ensures routes { IfOk result (λ v. All (λ (r : RoutedAlert). All (λ id. id < length config.now.routes) r.routes) v.items) }
+    ensures asked { Asked result cache.old cache.new }
+    ensures failure { IfErr result (λ failure. ForRefused failure
+        (IsUnanswered cache.new.refused (patterns_of query.now.matchers) (patterns_in_use config.now moment held.now))) }
+{
+    let muted = muted_alerts(alloc, query, held, config, moment, cache)?;
+    routed_alerts(alloc, config, muted, cache)
+}
+
+// The same with what mutes them alone.
+fn muted_alerts<'a>(
     alloc: Global,
     query: &Query,
     held: &'a Held,
@@ -97,8 +121,7 @@ fn passed_alerts<'a>(
 ) -> Result<Vec<MutedAlert<'a>>, Failure<Unanswered>>
     requires matchers { All IsPattern (patterns_of query.now.matchers) }
     ensures passed { IfOk result (λ v. map muted v.items
-        ≡ map (with_muting config.now moment held.now)
-        (filter (λ alert. is_passed config.now query.now moment held.now alert) (firing moment held.now))) }
+        ≡ map (with_muting config.now moment held.now) (passed config.now query.now moment held.now)) }
     ensures asked { Asked result cache.old cache.new }
     ensures failure { IfErr result (λ failure. ForRefused failure
         (IsUnanswered cache.new.refused (patterns_of query.now.matchers) (patterns_muting config.now moment held.now))) }
@@ -129,17 +152,6 @@ fn flags_of(
         Err(Failure::Refused(_)) => Err(Failure::Refused(Unanswered::Asked)),
         Err(Failure::OutOfMemory) => Err(Failure::OutOfMemory),
     }
-}
-
-// The label sets of alerts, in their order.
-fn label_sets<'a>(alloc: Global, alerts: &[HeldAlert<'a>]) -> Result<Vec<&'a LabelSet>, AllocError>
-    ensures { IfOk result (λ v. map (λ set. set.now) v.items ≡ map (λ (a : HeldAlert). a.labels.now) alerts.now) }
-{
-    let mut sets = Vec::with_capacity(alloc, alerts.len())?;
-    for alert in alerts {
-        sets.push(alert.labels)?;
-    }
-    Ok(sets)
 }
 
 // The things whose flag is set, in their order.

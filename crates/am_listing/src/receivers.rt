@@ -1,6 +1,7 @@
 //! The receivers of alerts.
 
-ghost use Rattle.std.specs.Prelude.{◌≡◌, ◌∷◌, [], ℕ, List, IfErr, IfOk, map, zip};
+ghost use Rattle.std.specs.Prelude.{◌≡◌, ◌∷◌, ◌<◌, [], ℕ, List, All, IfErr, IfOk, length, map, zip};
+ghost use Rattle.std.specs.Option.{ForSome, option_to_list};
 ghost use Rattle.am_text.specs.Outcome.{ForRefused};
 ghost use Rattle.am_pattern.specs.Asking.{Asked};
 ghost use Rattle.am_pattern.specs.Taking.{IsPattern, takes};
@@ -10,8 +11,9 @@ ghost use Rattle.am_payload.specs.Receivers.{names_of};
 ghost use Rattle.am_route.specs.Asked.{route_matchers};
 ghost use Rattle.am_route.specs.Routes.{routes_at};
 ghost use Rattle.am_listing.specs.declared.muting.MutedAlert.{MutedAlert};
-ghost use Rattle.am_listing.specs.Listed.{made_routed, muted, read_alert, routed, with_receivers};
-ghost use Rattle.am_listing.specs.Receivers.{receiver_at, receivers_at};
+ghost use Rattle.am_listing.specs.declared.receivers.RoutedAlert.{RoutedAlert};
+ghost use Rattle.am_listing.specs.Listed.{made_routed, muted, read_alert, routed, with_places, with_routes};
+ghost use Rattle.am_listing.specs.Receivers.{is_asked, receiver_at, receivers_at};
 
 use crate::muting::MutedAlert;
 use crate::refusal::Unanswered;
@@ -24,30 +26,32 @@ use am_text::{Failure, Listed, Text};
 use std::alloc::{AllocError, Global};
 use std::collections::BTreeSet;
 
-/// An alert with what mutes it, and the places of its receivers in the configuration, each once, in the order of its
-/// routes.
+/// An alert with what mutes it, its routes, and the places of its receivers in the configuration, each once, in the order
+/// of its routes.
 #[derive(Drop)]
 pub struct RoutedAlert<'a> {
     pub alert: MutedAlert<'a>,
+    pub routes: Listed<RouteId>,
     pub receivers: Listed<usize>,
 }
 
-/// The alerts with their receivers.
+/// The alerts with their routes and receivers.
 pub(crate) fn routed_alerts<'a>(
     alloc: Global,
     config: &Config,
     alerts: Vec<MutedAlert<'a>>,
     cache: &mut PatternCache,
 ) -> Result<Vec<RoutedAlert<'a>>, Failure<Unanswered>>
-    ensures routed { IfOk result (λ v. map routed v.items ≡ map (with_receivers config.now) (map muted alerts.entry.items)) }
+    ensures routed { IfOk result (λ v. map routed v.items ≡ map (with_routes config.now) (map muted alerts.entry.items)) }
+    ensures routes { IfOk result (λ v. All (λ (r : RoutedAlert). All (λ id. id < length config.now.routes) r.routes) v.items) }
     ensures asked { Asked result cache.old cache.new }
     ensures failure { (own : List (List ℕ)) → IfErr result (λ failure. ForRefused failure
         (IsUnanswered cache.new.refused own (patterns_of (route_matchers config.now.routes)))) }
 {
     let sets = label_sets(alloc, &alerts)?;
     let routes = routes_of_sets(alloc, config, &sets, cache)?;
-    let places = places_of_each(alloc, config, &routes)?;
-    let routed = with_places(alloc, alerts, places)?;
+    let pairs = with_places(alloc, config, routes)?;
+    let routed = with_routes(alloc, alerts, pairs)?;
     Ok(routed)
 }
 
@@ -70,6 +74,7 @@ fn routes_of_sets(
     cache: &mut PatternCache,
 ) -> Result<Vec<Listed<RouteId>>, Failure<Unanswered>>
     ensures routes { IfOk result (λ v. v.items ≡ map (λ set. routes_at set.now config.now.routes) sets.now) }
+    ensures places { IfOk result (λ v. All (λ found. All (λ id. id < length config.now.routes) found) v.items) }
     ensures asked { Asked result cache.old cache.new }
     ensures failure { (own : List (List ℕ)) → IfErr result (λ failure. ForRefused failure
         (IsUnanswered cache.new.refused own (patterns_of (route_matchers config.now.routes)))) }
@@ -81,19 +86,31 @@ fn routes_of_sets(
     }
 }
 
-// The alerts, each with the places at its own place in the list.
-fn with_places<'a>(
+// The alerts, each with the routes and the places at its own place in the list.
+fn with_routes<'a>(
     alloc: Global,
     alerts: Vec<MutedAlert<'a>>,
-    places: Vec<Listed<usize>>,
+    pairs: Vec<(Listed<RouteId>, Listed<usize>)>,
 ) -> Result<Vec<RoutedAlert<'a>>, AllocError>
-    ensures { IfOk result (λ v. v.items ≡ map made_routed (zip alerts.entry.items places.items)) }
+    ensures { IfOk result (λ v. v.items ≡ map made_routed (zip alerts.entry.items pairs.items)) }
 {
     let mut routed = Vec::with_capacity(alloc, alerts.len())?;
-    for (alert, receivers) in zipped(alloc, alerts, places)? {
-        routed.push(RoutedAlert { alert, receivers })?;
+    for (alert, pair) in zipped(alloc, alerts, pairs)? {
+        routed.push(made_routed(alert, pair))?;
     }
     Ok(routed)
+}
+
+// An alert with its routes and the places of their receivers.
+fn made_routed<'a>(alert: MutedAlert<'a>, pair: (Listed<RouteId>, Listed<usize>)) -> RoutedAlert<'a>
+    ensures { result ≡ made_routed (alert.entry, pair) }
+{
+    let (routes, receivers) = pair;
+    RoutedAlert {
+        alert,
+        routes,
+        receivers,
+    }
 }
 
 // The things of one list, each with that of the other at its place.
@@ -108,7 +125,7 @@ fn zipped<T: Drop, U: Drop>(
 }
 
 /// The alerts as they are written.
-pub(crate) fn read_alerts<'a>(
+pub fn read_alerts<'a>(
     alloc: Global,
     alerts: Vec<RoutedAlert<'a>>,
 ) -> Result<Vec<ReadAlert<'a>>, AllocError>
@@ -116,7 +133,11 @@ pub(crate) fn read_alerts<'a>(
 {
     let mut read = Vec::with_capacity(alloc, alerts.len())?;
     for routed in alerts {
-        let RoutedAlert { alert, receivers } = routed;
+        let RoutedAlert {
+            alert,
+            receivers,
+            ..
+        } = routed;
         let MutedAlert {
             alert,
             silenced_by,
@@ -132,19 +153,20 @@ pub(crate) fn read_alerts<'a>(
     Ok(read)
 }
 
-// The places of the receivers of routes, list by list.
-fn places_of_each(
+// The routes, list by list, with the places of their receivers.
+fn with_places(
     alloc: Global,
     config: &Config,
-    routes: &[Listed<RouteId>],
-) -> Result<Vec<Listed<usize>>, AllocError>
-    ensures { IfOk result (λ v. v.items ≡ map (receivers_at config.now) routes.now) }
+    routes: Vec<Listed<RouteId>>,
+) -> Result<Vec<(Listed<RouteId>, Listed<usize>)>, AllocError>
+    ensures { IfOk result (λ v. v.items ≡ map (with_places config.now) routes.items) }
 {
-    let mut places = Vec::with_capacity(alloc, routes.len())?;
+    let mut pairs = Vec::with_capacity(alloc, routes.len())?;
     for numbers in routes {
-        places.push(receivers_at(alloc, config, numbers.as_slice())?)?;
+        let receivers = receivers_at(alloc, config, numbers.as_slice())?;
+        pairs.push((numbers, receivers))?;
     }
-    Ok(places)
+    Ok(pairs)
 }
 
 // The places of the receivers of routes, each once, in the order of the routes.
@@ -174,6 +196,28 @@ fn receiver_at(config: &Config, route: RouteId) -> Option<usize>
     match config.routes().get(route.number()) {
         None => None,
         Some(node) => Some(node.item.settings.receiver),
+    }
+}
+
+/// Whether the receiver of this name is asked for: any is, where there is no pattern, else one whose name it takes.
+///
+/// # Errors
+/// `Asked` where the pattern gave no answer, or out of memory.
+pub fn is_asked(
+    alloc: Global,
+    receiver: &Option<Text>,
+    name: &Text,
+    cache: &mut PatternCache,
+) -> Result<bool, Failure<Unanswered>>
+    requires pattern { ForSome receiver.now IsPattern }
+    ensures asked_for { IfOk result (λ asked. asked ≡ is_asked receiver.now (name.now ∷ [])) }
+    ensures asked { Asked result cache.old cache.new }
+    ensures failure { (stored : List (List ℕ)) → IfErr result (λ failure. ForRefused failure
+        (IsUnanswered cache.new.refused (option_to_list receiver.now) stored)) }
+{
+    match receiver {
+        None => Ok(true),
+        Some(pattern) => is_taken(alloc, pattern.as_str(), name, cache),
     }
 }
 

@@ -5,25 +5,72 @@ use Rattle.std.specs.List.{filter, list_any}
 use Rattle.std.specs.List.Sorted.{IsStrictlySortedBy}
 use Rattle.std.specs.Map.{keys_of, lookup}
 use Rattle.std.specs.Option.{is_some}
-use Rattle.std.specs.Ordering.{match_ordering}
+use Rattle.std.specs.Ordering.{is_eq, match_ordering}
 use Rattle.std.specs.declared.cmp.Ordering.TheVariants.{Less, Equal, Greater}
 use Rattle.std.proofs.lemmas.Bool.{cases_Bool, false≢true}
+use Rattle.std.proofs.lemmas.List.Elements.{filter_agree}
 use Rattle.std.proofs.lemmas.List.Folds.{list_any_more}
 use Rattle.std.proofs.lemmas.Map.Entries.{lookup-filter-keys}
 use Rattle.am_labels.specs.declared.Label.{Label}
 use Rattle.am_labels.specs.Labels.{labels_cmp}
 use Rattle.am_members.specs.declared.group.Group.{Group}
 use Rattle.am_members.specs.declared.known.Known.{Known}
-use Rattle.am_members.specs.Grouped.{AreGrouped, flush_of, held_at, in_group, lost, members, put_in}
+use Rattle.am_members.specs.Grouped.{AreGrouped, Grouped, flush_of, flushed_at, held_at, in_group, kept_after, living, lost, members, put_in}
 use Rattle.am_members.specs.Members.{is_bare}
-use Rattle.am_members.specs.Names.{is_group, is_set, without}
+use Rattle.am_members.specs.Names.{group_cmp, is_group, is_set, without}
 use Rattle.am_members.proofs.Grouping.{Alerts, members_put, member_elsewhere, members-without, not_bare}
-use Rattle.am_members.proofs.Orders.{group_tells, group-sym}
+use Rattle.am_members.proofs.Orders.{group_tells, groups_exact, group-refl, group-sym}
 use Rattle.am_members.proofs.Tables.{all_left}
 
 -- groups without members have no flush
 abbrev pub AreSwept : Alerts → List (Group × ℕ) → Type 0
 AreSwept ys flushes = (q : Group) → is_bare (members q ys) ≡ true → flush_of q flushes ≡ None
+
+-- ---- the flush of one group
+
+-- among flushes of which some were taken out
+flush_among : (q : Group) (p : Group → Bool) (es : List (Group × ℕ)) → flush_of q (filter (λ e. not (p e.0)) es) ≡ cond (p q) None (flush_of q es)
+flush_among q p es = lookup-filter-keys (is_group q) (λ g. not (p g)) (not (p q)) (λ k same. ap (λ g. not (p g)) (sym (same_group k same))) es ∙ turned (p q)
+  where
+    same_group : (k : Group) → is_group q k ≡ true → q ≡ k
+    same_group k h = elim (group_tells q k) [ inl same ↦ same.1 | inr n ↦ absurd (false≢true (sym n.0 ∙ h)) ]
+
+    turned : (b : Bool) → cond (not b) (flush_of q es) None ≡ cond b None (flush_of q es)
+    turned true = refl
+    turned false = refl
+
+-- as an alert goes
+pub flush_kept : (q : Group) (l : List Label) (x : Grouped) → flush_of q (kept_after l x) ≡ cond (lost q x.alerts (without l x.alerts)) None (flush_of q x.flushes)
+flush_kept q l x = flush_among q (λ g. lost g x.alerts (without l x.alerts)) x.flushes
+
+-- among those of groups that have members
+pub flush_living : (q : Group) (x : Grouped) → flush_of q (living x) ≡ cond (is_bare (members q x.alerts)) None (flush_of q x.flushes)
+flush_living q x = flush_among q (λ g. is_bare (members g x.alerts)) x.flushes
+
+-- after a flush
+flush_put : (q g : Group) (moment : ℕ) (es : List (Group × ℕ)) → flush_of q (insert_entry group_cmp es g moment) ≡ cond (is_group q g) (Some moment) (flush_of q es)
+flush_put q g moment [] = refl
+flush_put q g moment (e ∷ es) = by_order (group_cmp g e.0) refl (flush_put q g moment es)
+  where
+    again : (b : Bool) (o : Option ℕ) → cond b (Some moment) o ≡ cond b (Some moment) (cond b (Some e.1) o)
+    again true o = refl
+    again false o = refl
+
+    by_order : (o : Ordering) → group_cmp g e.0 ≡ o → flush_of q (insert_entry group_cmp es g moment) ≡ cond (is_group q g) (Some moment) (flush_of q es)
+        → flush_of q (match_ordering o ((g, moment) ∷ e ∷ es) ((e.0, moment) ∷ es) (e ∷ insert_entry group_cmp es g moment)) ≡ cond (is_group q g) (Some moment) (flush_of q (e ∷ es))
+    by_order Less is more = refl
+    by_order Equal is more = again (is_group q e.0) (flush_of q es) ∙ ap (λ h. cond (is_group q h) (Some moment) (flush_of q (e ∷ es))) (sym (groups_exact g e.0 is))
+    by_order Greater is more = elim (group_tells q g) [
+      | inl same ↦
+          let apart : is_group q e.0 ≡ false = ap (λ h. is_group h e.0) same.1 ∙ ap is_eq is in
+          rw (apart, more, same.0) refl
+      | inr n ↦ rw (more, n.0) refl
+    ]
+
+pub flush_flushed : (q g : Group) (moment : ℕ) (x : Grouped) → flush_of q (flushed_at g moment x) ≡ cond (is_group q g) (Some moment) (flush_of q x.flushes)
+flush_flushed q g moment x = flush_put q g moment x.flushes
+
+-- ---- what is swept stays so
 
 -- of the groups that an alert was in, those that have no members now were lost
 pub lost_by : (q : Group) (l : List Label) (k : Known) (ys : Alerts) → IsStrictlySortedBy labels_cmp (keys_of ys) → lookup (is_set l) ys ≡ Some k
@@ -48,12 +95,22 @@ none_lost q ys = not_both (is_bare (members q ys))
     not_both false = refl
 
 -- the flushes of lost groups went, so that groups without members still have none
-pub swept_after : (ys zs : Alerts) (old new : List (Group × ℕ)) → AreSwept ys old → ((q : Group) → flush_of q new ≡ cond (lost q ys zs) None (flush_of q old)) → AreSwept zs new
-swept_after ys zs old new swept changed q bare = changed q ∙ rw bare (by_case (is_bare (members q ys)) refl)
+pub swept_after : (x : Grouped) (l : List Label) (zs : Alerts) (new : List (Group × ℕ)) → AreSwept x.alerts x.flushes → zs ≡ without l x.alerts → new ≡ kept_after l x → AreSwept zs new
+swept_after x l zs new swept left kept q bare = ap (flush_of q) kept ∙ flush_kept q l x ∙ rw now_bare (by_case (is_bare (members q x.alerts)) refl)
   where
-    by_case : (b : Bool) → is_bare (members q ys) ≡ b → cond (not b && true) None (flush_of q old) ≡ None
+    now_bare : is_bare (members q (without l x.alerts)) ≡ true
+    now_bare = ap (λ ys. is_bare (members q ys)) (sym left) ∙ bare
+
+    by_case : (b : Bool) → is_bare (members q x.alerts) ≡ b → cond (not b && true) None (flush_of q x.flushes) ≡ None
     by_case true was = swept q was
     by_case false was = refl
+
+-- a flush of a group that has members
+pub swept_flush : (x : Grouped) (new : List (Group × ℕ)) (g : Group) (moment : ℕ) → AreSwept x.alerts x.flushes → is_bare (members g x.alerts) ≡ false → new ≡ flushed_at g moment x → AreSwept x.alerts new
+swept_flush x new g moment swept within flushed q bare = elim (group_tells q g) [
+  | inl same ↦ absurd (false≢true (sym within ∙ ap (λ h. is_bare (members h x.alerts)) (sym same.1) ∙ bare))
+  | inr n ↦ ap (flush_of q) flushed ∙ flush_flushed q g moment x ∙ rw n.0 (swept q bare)
+]
 
 -- an alert that comes leaves no group without members that had some
 pub swept_put : (ys : Alerts) (l : List Label) (v : Known) (flushes : List (Group × ℕ)) → IsStrictlySortedBy labels_cmp (keys_of ys) → lookup (is_set l) ys ≡ None → AreSwept ys flushes → AreSwept (put_in l v ys) flushes
@@ -80,81 +137,101 @@ swept_put ys l v flushes up absent swept q bare = swept q (by_case (in_group q v
 
 -- ---- the flushes of lost groups, one by one
 
--- forgotten where either of two groups is this one, and it has no members
-next_lost : (a b c : Bool) (x y z : Option ℕ) → y ≡ cond (a && c) None x → z ≡ cond (b && c) None y → z ≡ cond ((a || b) && c) None x
-next_lost true true true x y z first then = then
-next_lost true false true x y z first then = then ∙ first
-next_lost false true true x y z first then = then
-next_lost false false true x y z first then = then ∙ first
-next_lost true true false x y z first then = then ∙ first
-next_lost true false false x y z first then = then ∙ first
-next_lost false true false x y z first then = then ∙ first
-next_lost false false false x y z first then = then ∙ first
+-- what passes two tests, one after the other
+pub kept_twice : {A : Type 0} (p r both : A → Bool) → ((x : A) → both x ≡ (p x || r x)) → (xs : List A) → filter (λ x. not (r x)) (filter (λ x. not (p x)) xs) ≡ filter (λ x. not (both x)) xs
+kept_twice p r both is [] = refl
+kept_twice p r both is (x ∷ xs) = elim (cases_Bool (p x)) [
+  | inl y ↦ rw (is x, y) (kept_twice p r both is xs)
+  | inr n ↦ elim (cases_Bool (r x)) [
+    | inl y ↦ rw (is x, n, y) (kept_twice p r both is xs)
+    | inr m ↦ rw (is x, n, m) (ap (λ rest. x ∷ rest) (kept_twice p r both is xs))
+  ]
+]
 
-pub lost_next : (q : Group) (gs : List Group) (i : ℕ) (d : Group) (c : Bool) (x y z : Option ℕ) → i < length gs
-    → y ≡ cond (list_any (is_group q) (take i gs) && c) None x → z ≡ cond (is_group q (get_or gs i d) && c) None y → z ≡ cond (list_any (is_group q) (take (i + 1) gs) && c) None x
-lost_next q gs i d c x y z within first then =
-    next_lost (list_any (is_group q) (take i gs)) (is_group q (get_or gs i d)) c x y z first then
-    ∙ ap (λ b. cond (b && c) None x) (sym (list_any_more (is_group q) gs i d within))
+-- where nothing fails a test, all is kept
+pub all_kept : {A : Type 0} (p : A → Bool) → ((x : A) → p x ≡ false) → (xs : List A) → xs ≡ filter (λ x. not (p x)) xs
+all_kept p none [] = refl
+all_kept p none (x ∷ xs) = rw (none x) (ap (λ rest. x ∷ rest) (all_kept p none xs))
+
+-- the flushes after those of the next group were forgotten, if it has no members
+pub lost_next : (gs : List Group) (i : ℕ) (d : Group) (bare : Group → Bool) (old was now : List (Group × ℕ)) → i < length gs
+    → was ≡ filter (λ e. not (list_any (is_group e.0) (take i gs) && bare e.0)) old
+    → now ≡ filter (λ e. not (is_group e.0 (get_or gs i d) && bare e.0)) was
+    → now ≡ filter (λ e. not (list_any (is_group e.0) (take (i + 1) gs) && bare e.0)) old
+lost_next gs i d bare old was now within first then =
+    then
+    ∙ ap (filter (λ e. not (is_group e.0 (get_or gs i d) && bare e.0))) first
+    ∙ kept_twice (λ e. list_any (is_group e.0) (take i gs) && bare e.0) (λ e. is_group e.0 (get_or gs i d) && bare e.0) (λ e. list_any (is_group e.0) (take (i + 1) gs) && bare e.0) (λ e. ap (λ b. b && bare e.0) (list_any_more (is_group e.0) gs i d within) ∙ either (list_any (is_group e.0) (take i gs)) (is_group e.0 (get_or gs i d)) (bare e.0)) old
+  where
+    either : (a b c : Bool) → ((a || b) && c) ≡ (a && c || b && c)
+    either true true true = refl
+    either true true false = refl
+    either true false true = refl
+    either true false false = refl
+    either false true true = refl
+    either false true false = refl
+    either false false true = refl
+    either false false false = refl
 
 -- a group without members was forgotten
-pub one_lost : (q g : Group) (bare : Group → Bool) (y z : Option ℕ) → bare g ≡ true → z ≡ cond (is_group g q) None y → z ≡ cond (is_group q g && bare q) None y
-one_lost q g bare y z is forgot = elim (group_tells q g) [
-  | inl same ↦ forgot ∙ rw (group-sym g q, same.0, ap bare same.1 ∙ is) refl
-  | inr n ↦ forgot ∙ rw (group-sym g q, n.0) refl
-]
+pub one_lost : (g : Group) (bare : Group → Bool) (was now : List (Group × ℕ)) → bare g ≡ true → now ≡ filter (λ e. not (is_group g e.0)) was → now ≡ filter (λ e. not (is_group e.0 g && bare e.0)) was
+one_lost g bare was now is forgot = forgot ∙ filter_agree (λ e. not (is_group g e.0)) (λ e. not (is_group e.0 g && bare e.0)) (λ e. ap not (alike e.0)) was
+  where
+    alike : (q : Group) → is_group g q ≡ (is_group q g && bare q)
+    alike q = elim (group_tells q g) [
+      | inl same ↦ rw (group-sym g q, same.0, ap bare same.1 ∙ is) refl
+      | inr n ↦ rw (group-sym g q, n.0) refl
+    ]
 
 -- one with members wasn't
-pub one_kept : (q g : Group) (bare : Group → Bool) (y : Option ℕ) → bare g ≡ false → y ≡ cond (is_group q g && bare q) None y
-one_kept q g bare y is = elim (group_tells q g) [
-  | inl same ↦ rw (same.0, ap bare same.1 ∙ is) refl
-  | inr n ↦ rw n.0 refl
-]
+pub one_kept : (g : Group) (bare : Group → Bool) (was : List (Group × ℕ)) → bare g ≡ false → was ≡ filter (λ e. not (is_group e.0 g && bare e.0)) was
+one_kept g bare was is = all_kept (λ e. is_group e.0 g && bare e.0) (λ e. neither e.0) was
+  where
+    neither : (q : Group) → (is_group q g && bare q) ≡ false
+    neither q = elim (group_tells q g) [
+      | inl same ↦ rw (same.0, ap bare same.1 ∙ is) refl
+      | inr n ↦ rw n.0 refl
+    ]
 
 -- so the flushes of all lost groups were
-pub all_lost : (ys zs : Alerts) (lists : List (Group × List (List Label × ℕ))) (old new : List (Group × ℕ)) (l : List Label) (k : Known) (gs : List Group)
-    → AreGrouped zs lists → zs ≡ without l ys → IsStrictlySortedBy labels_cmp (keys_of ys) → lookup (is_set l) ys ≡ Some k → gs ≡ k.groups
-    → ((q : Group) → flush_of q new ≡ cond (list_any (is_group q) gs && is_bare (held_at q lists)) None (flush_of q old))
-    → (q : Group) → flush_of q new ≡ cond (lost q ys zs) None (flush_of q old)
-all_lost ys zs lists old new l k gs are left up there own forgot q =
-    forgot q ∙ ap (λ b. cond b None (flush_of q old)) (rw (own, are.held q, left) (lost_by q l k ys up there))
+pub all_lost : (x : Grouped) (zs : Alerts) (lists : List (Group × List (List Label × ℕ))) (new : List (Group × ℕ)) (l : List Label) (k : Known) (gs : List Group)
+    → AreGrouped zs lists → zs ≡ without l x.alerts → IsStrictlySortedBy labels_cmp (keys_of x.alerts) → lookup (is_set l) x.alerts ≡ Some k → gs ≡ k.groups
+    → new ≡ filter (λ e. not (list_any (is_group e.0) gs && is_bare (held_at e.0 lists))) x.flushes
+    → new ≡ kept_after l x
+all_lost x zs lists new l k gs are left up there own forgot =
+    forgot
+    ∙ filter_agree (λ e. not (list_any (is_group e.0) gs && is_bare (held_at e.0 lists))) (λ e. not (lost e.0 x.alerts (without l x.alerts)))
+    (λ e. ap not (rw (own, are.held e.0, left) (lost_by e.0 l k x.alerts up there))) x.flushes
 
--- ---- a flush, and a sweep
+-- where no alert goes, all flushes stay
+pub all_stay : (x : Grouped) (l : List Label) → without l x.alerts ≡ x.alerts → x.flushes ≡ kept_after l x
+all_stay x l same = rw same (all_kept (λ e. lost e.0 x.alerts x.alerts) (λ e. none_lost e.0 x.alerts) x.flushes)
 
--- a flush of a group that has members
-pub swept_flush : (ys : Alerts) (old new : List (Group × ℕ)) (g : Group) (moment : ℕ) → AreSwept ys old → is_bare (members g ys) ≡ false
-    → ((q : Group) → flush_of q new ≡ cond (is_group g q) (Some moment) (flush_of q old)) → AreSwept ys new
-swept_flush ys old new g moment swept within changed q bare = elim (group_tells g q) [
-  | inl same ↦ absurd (false≢true (sym within ∙ ap (λ h. is_bare (members h ys)) same.1 ∙ bare))
-  | inr n ↦ changed q ∙ rw n.0 (swept q bare)
-]
+-- ---- a sweep
 
 -- flushes of groups without members were taken out
-pub sweep : (ys : Alerts) (lists : List (Group × List (List Label × ℕ))) (old new : List (Group × ℕ)) → AreGrouped ys lists → new ≡ filter (λ e. not (is_bare (held_at e.0 lists))) old
-    → (q : Group) → flush_of q new ≡ cond (is_bare (members q ys)) None (flush_of q old)
-sweep ys lists old new are filtered q =
-    ap (flush_of q) filtered
-    ∙ lookup-filter-keys (is_group q) (λ g. not (is_bare (held_at g lists))) (not (is_bare (held_at q lists))) (λ k same. ap (λ g. not (is_bare (held_at g lists))) (sym (same_group k same))) old
-    ∙ rw (are.held q) (turned (is_bare (members q ys)))
-  where
-    same_group : (k : Group) → is_group q k ≡ true → q ≡ k
-    same_group k h = elim (group_tells q k) [ inl same ↦ same.1 | inr n ↦ absurd (false≢true (sym n.0 ∙ h)) ]
-
-    turned : (b : Bool) → cond (not b) (flush_of q old) None ≡ cond b None (flush_of q old)
-    turned true = refl
-    turned false = refl
+pub sweep : (x : Grouped) (lists : List (Group × List (List Label × ℕ))) (new : List (Group × ℕ)) → AreGrouped x.alerts lists → new ≡ filter (λ e. not (is_bare (held_at e.0 lists))) x.flushes → new ≡ living x
+sweep x lists new are filtered =
+    filtered ∙ filter_agree (λ e. not (is_bare (held_at e.0 lists))) (λ e. not (is_bare (members e.0 x.alerts))) (λ e. ap (λ ms. not (is_bare ms)) (are.held e.0)) x.flushes
 
 -- where all was swept, nothing is left to sweep
-pub nothing_to_sweep : (ys : Alerts) (flushes : List (Group × ℕ)) → AreSwept ys flushes → (q : Group) → flush_of q flushes ≡ cond (is_bare (members q ys)) None (flush_of q flushes)
-nothing_to_sweep ys flushes swept q = by_case (is_bare (members q ys)) refl
+pub nothing_to_sweep : (ys : Alerts) (flushes : List (Group × ℕ)) → AreSwept ys flushes → flushes ≡ filter (λ e. not (is_bare (members e.0 ys))) flushes
+nothing_to_sweep ys [] swept = refl
+nothing_to_sweep ys (e ∷ es) swept = elim (cases_Bool (is_bare (members e.0 ys))) [
+  | inl bare ↦ some_none (ap (λ b. cond b (Some e.1) (flush_of e.0 es)) (sym (group-refl e.0)) ∙ swept e.0 bare)
+  | inr n ↦ rw n (ap (λ rest. e ∷ rest) (nothing_to_sweep ys es (λ q bare. behind (is_group q e.0) (flush_of q es) (swept q bare))))
+]
   where
-    by_case : (b : Bool) → is_bare (members q ys) ≡ b → flush_of q flushes ≡ cond b None (flush_of q flushes)
-    by_case true bare = swept q bare
-    by_case false there = refl
+    some_none : {A : Type 0} → Some e.1 ≡ None → A
+    some_none h = absurd (cc)
+
+    behind : (b : Bool) (o : Option ℕ) → cond b (Some e.1) o ≡ None → o ≡ None
+    behind true o h = some_none h
+    behind false o h = h
 
 -- and then nothing is left to sweep
-pub swept_now : (ys : Alerts) (lists : List (Group × List (List Label × ℕ))) (old new : List (Group × ℕ)) → AreGrouped ys lists → new ≡ filter (λ e. not (is_bare (held_at e.0 lists))) old → AreSwept ys new
-swept_now ys lists old new are filtered q bare = sweep ys lists old new are filtered q ∙ rw bare refl
+pub swept_now : (x : Grouped) (lists : List (Group × List (List Label × ℕ))) (new : List (Group × ℕ)) → AreGrouped x.alerts lists → new ≡ filter (λ e. not (is_bare (held_at e.0 lists))) x.flushes → AreSwept x.alerts new
+swept_now x lists new are filtered q bare = ap (flush_of q) (sweep x lists new are filtered) ∙ flush_living q x ∙ rw bare refl
 
 -- an alert that took no other's place
 pub swept_new : (ys zs : Alerts) (l : List Label) (v : Known) (flushes : List (Group × ℕ)) (unswept replaced : Bool) → IsStrictlySortedBy labels_cmp (keys_of ys) → replaced ≡ is_some (lookup (is_set l) ys) → zs ≡ put_in l v ys

@@ -85,10 +85,12 @@ keys-without l (e ∷ es) = elim (cases_Bool (is_set l e.0)) [
   | inr n ↦ rw n (ap (λ ks. e.0 ∷ ks) (keys-without l es))
 ]
 
-rising_put : (l : List Label) (v : Known) (ys : Alerts) → IsStrictlySortedBy labels_cmp (keys_of ys) → IsStrictlySortedBy labels_cmp (keys_of (put_in l v ys))
+pub rising_without : (l : List Label) (ys : Alerts) → IsStrictlySortedBy labels_cmp (keys_of ys) → IsStrictlySortedBy labels_cmp (keys_of (without l ys))
+rising_without l ys up = rw (keys-without l ys) (IsStrictlySortedBy-filter labels_cmp (λ k. not (is_set l k)) (keys_of ys) up)
+
+pub rising_put : (l : List Label) (v : Known) (ys : Alerts) → IsStrictlySortedBy labels_cmp (keys_of ys) → IsStrictlySortedBy labels_cmp (keys_of (put_in l v ys))
 rising_put l v ys up =
-    let left : IsStrictlySortedBy labels_cmp (keys_of (without l ys)) = rw (keys-without l ys) (IsStrictlySortedBy-filter labels_cmp (λ k. not (is_set l k)) (keys_of ys) up) in
-    rw (keys-insert_entry l v (without l ys)) (sorted_inserted labels_cmp labels_total labels_exact (keys_of (without l ys)) l left)
+    rw (keys-insert_entry l v (without l ys)) (sorted_inserted labels_cmp labels_total labels_exact (keys_of (without l ys)) l (rising_without l ys up))
 
 rising_put_all : (ps ys : Alerts) → IsStrictlySortedBy labels_cmp (keys_of ys) → IsStrictlySortedBy labels_cmp (keys_of (put_all ps ys))
 rising_put_all [] ys up = up

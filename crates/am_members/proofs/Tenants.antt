@@ -1,5 +1,5 @@
 -- What is grouped of every tenant, as that of one changes.
-use Rattle.std.proofs.Common.{◌≡◌, ℕ, Bool, true, false, ◌&&◌, cond, inl, inr, List, [], ◌∷◌, Some, None, Result, Ok, Err, OnErr, refl, sym, ap, ◌∙◌}
+use Rattle.std.proofs.Common.{◌≡◌, ℕ, Bool, true, false, cond, inl, inr, List, [], ◌∷◌, Some, None, Result, Ok, Err, OnErr, refl, sym, ap, ◌∙◌}
 use Rattle.std.specs.BTreeMap as tree
 use Rattle.std.specs.Cmp.Lexicographic.{slice_cmp}
 use Rattle.std.specs.Map.{lookup, remove_entry}
@@ -8,7 +8,7 @@ use Rattle.std.specs.Ordering.{nat_cmp}
 use Rattle.std.proofs.lemmas.Bool.{cases_Bool}
 use Rattle.am_share.specs.Pairs.{Drops, things_of}
 use Rattle.am_tenant.specs.Names.{same}
-use Rattle.am_tenant.proofs.Same.{eq_from_same, is_eq-name_cmp}
+use Rattle.am_tenant.proofs.Same.{eq_from_same, is_eq-name_cmp, same-refl}
 use Rattle.am_tenant.proofs.Tables.{lookup-by_name, lookup-updates}
 use Rattle.am_members.specs.Grouped.{Grouped, grouped_of, nothing}
 
@@ -44,6 +44,10 @@ module _ (m n : tree.BTreeMap (List ℕ) Grouped) (tenant : List ℕ) where
       by_case : (b : Bool) → unwrap_or (cond b (Some now) (lookup (λ s. same t s) m.entries)) nothing ≡ cond b now (unwrap_or (lookup (λ s. same t s) m.entries) nothing)
       by_case true = refl
       by_case false = refl
+
+  -- what is grouped of it then
+  pub grouped_own : (now x : Grouped) → tree.Updates (slice_cmp nat_cmp) m n tenant (Some now) → now ≡ x → grouped_of tenant n.entries ≡ x
+  grouped_own now x written is = grouped_changed now written tenant ∙ rw (same-refl tenant) is
 
   -- after a tenant went
   pub grouped_gone : tree.Updates (slice_cmp nat_cmp) m n tenant None → (t : List ℕ) → grouped_of t n.entries ≡ cond (same t tenant) nothing (grouped_of t m.entries)
@@ -126,8 +130,3 @@ pair_dropped m n tenant written left t = by_case (same t tenant) refl
     by_case : (b : Bool) → same t tenant ≡ b → things_of t n.entries ≡ cond b [] (things_of t m.entries)
     by_case true own = none_of t n.entries (lookup-updates m n tenant None written t ∙ ap (λ b. cond b None (lookup (λ s. same t s) m.entries)) own)
     by_case false other = ap (things_of t) left ∙ others_of t tenant m.entries other
-
--- two tests, one after the other
-pub both : {A : Type 0} (a b : Bool) (x y : A) → cond a (cond b x y) y ≡ cond (a && b) x y
-both true b x y = refl
-both false b x y = refl

@@ -1,6 +1,6 @@
 -- The groups of the alerts of a tenant, and of all tenants.
 use Rattle.std.specs.Prelude.{◌≡◌, ℕ, Bool, false, true, not, ◌&&◌, List, [], ◌∷◌, map, filter, Option, Some, None}
-use Rattle.std.specs.BTreeMap.{insert_entry}
+use Rattle.std.specs.BTreeMap.{BTreeMap, insert_entry}
 use Rattle.std.specs.List.{list_any}
 use Rattle.std.specs.List.Sorted.{IsStrictlySortedBy}
 use Rattle.std.specs.Map.{keys_of, lookup}
@@ -11,7 +11,7 @@ use Rattle.am_labels.specs.Labels.{labels_cmp}
 use Rattle.am_members.specs.declared.group.Group.{Group}
 use Rattle.am_members.specs.declared.known.Known.{Known}
 use Rattle.am_members.specs.Members.{is_bare}
-use Rattle.am_members.specs.Names.{is_group, without}
+use Rattle.am_members.specs.Names.{group_cmp, is_group, without}
 
 -- what is grouped of a tenant: its alerts by label set, and by group the moment of the last flush
 pub record Grouped : Type 0 where
@@ -46,10 +46,27 @@ flush_of g flushes = lookup (is_group g) flushes
 abbrev pub lost : Group → (old new : List (List Label × Known)) → Bool
 lost g old new = not (is_bare (members g old)) && is_bare (members g new)
 
+-- the flushes, with a group's at this moment in the place of any that it had
+abbrev pub flushed_at : Group → ℕ → Grouped → List (Group × ℕ)
+flushed_at g moment x = insert_entry group_cmp x.flushes g moment
+
+-- the flushes that stay as an alert goes: not those of groups that lose their last member by it
+abbrev pub kept_after : List Label → Grouped → List (Group × ℕ)
+kept_after l x = filter (λ e. not (lost e.0 x.alerts (without l x.alerts))) x.flushes
+
+-- the flushes of groups that have members
+abbrev pub living : Grouped → List (Group × ℕ)
+living x = filter (λ e. not (is_bare (members e.0 x.alerts))) x.flushes
+
 -- what is listed of a group, where the list may lack it
 abbrev pub listed : Option (List (List Label × ℕ)) → List (List Label × ℕ)
 listed None = []
 listed (Some ms) = ms
+
+-- the alerts in a map, where there is one
+abbrev pub in_map : Option (BTreeMap (List Label) Known) → List (List Label × Known)
+in_map None = []
+in_map (Some alerts) = alerts.entries
 
 -- the members that an index has of a group
 abbrev pub held_at : Group → List (Group × List (List Label × ℕ)) → List (List Label × ℕ)

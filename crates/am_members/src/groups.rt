@@ -1,17 +1,15 @@
 //! The groups of all tenants.
 
-ghost use Rattle.std.specs.Prelude.{◌≡◌, ◌&&◌, ℕ, List, IfOk, false, not, None, OnErr, OnOk, Some, if◌then◌else◌};
-ghost use Rattle.std.specs.List.{list_any};
+ghost use Rattle.std.specs.Prelude.{◌≡◌, ◌⊎◌, ℕ, List, IfOk, false, OnErr, OnOk, if◌then◌else◌};
 ghost use Rattle.std.specs.List.Sorted.{IsStrictlySortedBy};
 ghost use Rattle.std.specs.Map.{keys_of, lookup};
-ghost use Rattle.std.specs.Option.{option_and_then, option_copied};
+ghost use Rattle.std.specs.Option.{option_copied};
 ghost use Rattle.am_tenant.specs.Names.{same};
 ghost use Rattle.am_share.specs.Pairs.{Drops};
 ghost use Rattle.am_labels.specs.Labels.{labels_cmp};
-ghost use Rattle.am_members.specs.Grouped.{Grouped, flush_of, grouped_of, listed, lost, members, nothing, put_in};
+ghost use Rattle.am_members.specs.Grouped.{Grouped, flush_of, flushed_at, grouped_of, in_map, kept_after, listed, living, members, nothing, put_in};
 ghost use Rattle.am_members.specs.Members.{is_bare, least_of};
-ghost use Rattle.am_members.specs.Names.{group_cmp, is_group, is_set, without};
-ghost use Rattle.am_members.specs.declared.group.Group.{Group as Name};
+ghost use Rattle.am_members.specs.Names.{is_set, without};
 
 use crate::group::Group;
 use crate::index::Index;
@@ -60,6 +58,14 @@ impl Groups {
         self.tenants.get(tenant)?.known(labels)
     }
 
+    /// All alerts of a tenant by label set; `None` where it may have none.
+    pub fn alerts(&self, tenant: &TenantName) -> Option<&BTreeMap<LabelSet, Known>>
+        ensures { in_map (option_copied result) ≡ (grouped_of tenant.now self.now).alerts }
+    {
+        let index = self.tenants.get(tenant)?;
+        Some(index.alerts())
+    }
+
     /// The members of a group, which are the alerts that are in it; `None` where it has none.
     pub fn members(&self, tenant: &TenantName, group: &Group) -> Option<&Members>
         ensures { listed (option_copied result) ≡ members group.now (grouped_of tenant.now self.now).alerts }
@@ -84,7 +90,7 @@ impl Groups {
     /// Puts an alert in the place of any of the tenant that has its labels. Flushes stay, also those of groups that have
     /// no member now: [`Groups::forget_empty`] forgets them.
     ///
-    /// After an error, which is out of memory, there may be nothing left of the tenant.
+    /// An error, which is out of memory, leaves all that was grouped of the tenant, or nothing.
     pub fn put(
         &mut self,
         alloc: Global,
@@ -94,6 +100,7 @@ impl Groups {
     ) -> Result<(), AllocError>
         ensures alerts { OnOk result ((t : List ℕ) → (grouped_of t self.new).alerts ≡ (if same t tenant.now then put_in labels.now known (grouped_of t self.old).alerts else (grouped_of t self.old).alerts)) }
         ensures flushes { OnOk result ((t : List ℕ) → (grouped_of t self.new).flushes ≡ (grouped_of t self.old).flushes) }
+        ensures err { OnErr result ((grouped_of tenant.now self.new ≡ grouped_of tenant.now self.old) ⊎ (grouped_of tenant.now self.new ≡ nothing)) }
         ensures others { OnErr result ((t : List ℕ) → same t tenant.now ≡ false → grouped_of t self.new ≡ grouped_of t self.old) }
     {
         let index = self.tenants.entry(*tenant)?.or_insert(Index::new(alloc));
@@ -106,7 +113,7 @@ impl Groups {
     pub fn remove(&mut self, tenant: &TenantName, labels: &LabelSet) -> Option<Known>
         ensures known { result ≡ lookup (is_set labels.now) (grouped_of tenant.now self.old).alerts }
         ensures alerts { (t : List ℕ) → (grouped_of t self.new).alerts ≡ (if same t tenant.now then without labels.now (grouped_of t self.old).alerts else (grouped_of t self.old).alerts) }
-        ensures flushes { (t : List ℕ) (q : Name) → flush_of q (grouped_of t self.new).flushes ≡ (if same t tenant.now && lost q (grouped_of t self.old).alerts (without labels.now (grouped_of t self.old).alerts) then None else flush_of q (grouped_of t self.old).flushes) }
+        ensures flushes { (t : List ℕ) → (grouped_of t self.new).flushes ≡ (if same t tenant.now then kept_after labels.now (grouped_of t self.old) else (grouped_of t self.old).flushes) }
     {
         remove_of(&mut self.tenants, tenant, labels)
     }
@@ -121,15 +128,15 @@ impl Groups {
         moment: Moment,
     ) -> Result<(), AllocError>
         requires { is_bare (members group.now (grouped_of tenant.now self.old).alerts) ≡ false }
-        ensures flushes { OnOk result ((t : List ℕ) (q : Name) → flush_of q (grouped_of t self.new).flushes ≡ (if same t tenant.now && is_group q group.now then Some moment else flush_of q (grouped_of t self.old).flushes)) }
+        ensures flushes { OnOk result ((t : List ℕ) → (grouped_of t self.new).flushes ≡ (if same t tenant.now then flushed_at group.now moment (grouped_of t self.old) else (grouped_of t self.old).flushes)) }
         ensures alerts { (t : List ℕ) → (grouped_of t self.new).alerts ≡ (grouped_of t self.old).alerts }
         ensures err { OnErr result ((t : List ℕ) → (grouped_of t self.new).flushes ≡ (grouped_of t self.old).flushes) }
     {
         flush_of_tenant(&mut self.tenants, tenant, group, moment)
     }
 
-    /// Puts these alerts, in the order of their labels, in the place of all that the tenant has. Flushes stay, also those
-    /// of groups that have no member now: [`Groups::forget_empty`] forgets them.
+    /// Puts these alerts, in the order of their labels, in the place of all that the tenant has, and answers those that
+    /// were there. Flushes stay, also those of groups that have no member now: [`Groups::forget_empty`] forgets them.
     ///
     /// An error, which is out of memory, leaves all as it was.
     pub fn rebuild(
@@ -137,8 +144,9 @@ impl Groups {
         alloc: Global,
         tenant: &TenantName,
         list: Vec<(LabelSet, Known)>,
-    ) -> Result<(), AllocError>
+    ) -> Result<BTreeMap<LabelSet, Known>, AllocError>
         requires { IsStrictlySortedBy labels_cmp (keys_of list.items) }
+        ensures before { IfOk result (λ before. before.entries ≡ (grouped_of tenant.now self.old).alerts) }
         ensures alerts { OnOk result ((t : List ℕ) → (grouped_of t self.new).alerts ≡ (if same t tenant.now then list.items else (grouped_of t self.old).alerts)) }
         ensures flushes { (t : List ℕ) → (grouped_of t self.new).flushes ≡ (grouped_of t self.old).flushes }
         ensures err { OnErr result ((t : List ℕ) → (grouped_of t self.new).alerts ≡ (grouped_of t self.old).alerts) }
@@ -150,7 +158,7 @@ impl Groups {
     /// Forgets the flushes of a tenant's groups that have no members. It takes no memory, and goes over the flushes only
     /// where a group can have lost its members otherwise than by [`Groups::remove`].
     pub fn forget_empty(&mut self, tenant: &TenantName)
-        ensures flushes { (t : List ℕ) (q : Name) → flush_of q (grouped_of t self.new).flushes ≡ (if same t tenant.now && is_bare (members q (grouped_of t self.old).alerts) then None else flush_of q (grouped_of t self.old).flushes) }
+        ensures flushes { (t : List ℕ) → (grouped_of t self.new).flushes ≡ (if same t tenant.now then living (grouped_of t self.old) else (grouped_of t self.old).flushes) }
         ensures alerts { (t : List ℕ) → (grouped_of t self.new).alerts ≡ (grouped_of t self.old).alerts }
     {
         sweep_of(&mut self.tenants, tenant);
@@ -186,7 +194,7 @@ fn remove_of(
 ) -> Option<Known>
     ensures known { result ≡ lookup (is_set labels.now) (grouped_of tenant.now tenants.old.entries).alerts }
     ensures alerts { (t : List ℕ) → (grouped_of t tenants.new.entries).alerts ≡ (if same t tenant.now then without labels.now (grouped_of t tenants.old.entries).alerts else (grouped_of t tenants.old.entries).alerts) }
-    ensures flushes { (t : List ℕ) (q : Name) → flush_of q (grouped_of t tenants.new.entries).flushes ≡ (if same t tenant.now && lost q (grouped_of t tenants.old.entries).alerts (without labels.now (grouped_of t tenants.old.entries).alerts) then None else flush_of q (grouped_of t tenants.old.entries).flushes) }
+    ensures flushes { (t : List ℕ) → (grouped_of t tenants.new.entries).flushes ≡ (if same t tenant.now then kept_after labels.now (grouped_of t tenants.old.entries) else (grouped_of t tenants.old.entries).flushes) }
 {
     match tenants.get_mut(tenant) {
         Some(index) => index.remove(labels),
@@ -201,7 +209,7 @@ fn flush_of_tenant(
     moment: Moment,
 ) -> Result<(), AllocError>
     requires { is_bare (members group.now (grouped_of tenant.now tenants.old.entries).alerts) ≡ false }
-    ensures flushes { OnOk result ((t : List ℕ) (q : Name) → flush_of q (grouped_of t tenants.new.entries).flushes ≡ (if same t tenant.now && is_group q group.now then Some moment else flush_of q (grouped_of t tenants.old.entries).flushes)) }
+    ensures flushes { OnOk result ((t : List ℕ) → (grouped_of t tenants.new.entries).flushes ≡ (if same t tenant.now then flushed_at group.now moment (grouped_of t tenants.old.entries) else (grouped_of t tenants.old.entries).flushes)) }
     ensures alerts { (t : List ℕ) → (grouped_of t tenants.new.entries).alerts ≡ (grouped_of t tenants.old.entries).alerts }
     ensures err { OnErr result ((t : List ℕ) → (grouped_of t tenants.new.entries).flushes ≡ (grouped_of t tenants.old.entries).flushes) }
 {
@@ -212,7 +220,7 @@ fn flush_of_tenant(
 }
 
 fn sweep_of(tenants: &mut BTreeMap<TenantName, Index>, tenant: &TenantName)
-    ensures flushes { (t : List ℕ) (q : Name) → flush_of q (grouped_of t tenants.new.entries).flushes ≡ (if same t tenant.now && is_bare (members q (grouped_of t tenants.old.entries).alerts) then None else flush_of q (grouped_of t tenants.old.entries).flushes) }
+    ensures flushes { (t : List ℕ) → (grouped_of t tenants.new.entries).flushes ≡ (if same t tenant.now then living (grouped_of t tenants.old.entries) else (grouped_of t tenants.old.entries).flushes) }
     ensures alerts { (t : List ℕ) → (grouped_of t tenants.new.entries).alerts ≡ (grouped_of t tenants.old.entries).alerts }
 {
     if let Some(index) = tenants.get_mut(tenant) {

@@ -1,16 +1,15 @@
 //! The groups of one tenant.
 
-ghost use Rattle.std.specs.Prelude.{◌≡◌, ◌&&◌, not, filter, [], false, IfOk, OnErr, OnOk, None, Some, if◌then◌else◌};
+ghost use Rattle.std.specs.Prelude.{◌≡◌, ◌&&◌, not, filter, [], IfOk, OnErr, OnOk, None, false};
 ghost use Rattle.std.specs.BTreeMap.{insert_entry};
 ghost use Rattle.std.specs.List.{list_any};
 ghost use Rattle.std.specs.List.Sorted.{IsStrictlySortedBy};
 ghost use Rattle.std.specs.Map.{keys_of, lookup};
 ghost use Rattle.std.specs.Option.{is_some, option_copied};
 ghost use Rattle.am_labels.specs.Labels.{labels_cmp};
-ghost use Rattle.am_members.specs.Grouped.{AreGrouped, flush_of, held_at, listed, lost, members, nothing, put_in};
-ghost use Rattle.am_members.specs.Members.{is_bare, least_of};
-ghost use Rattle.am_members.specs.Names.{group_cmp, is_group, is_set, without};
-ghost use Rattle.am_members.specs.declared.group.Group.{Group as Name};
+ghost use Rattle.am_members.specs.Grouped.{AreGrouped, flush_of, flushed_at, held_at, kept_after, listed, living, members, nothing, put_in};
+ghost use Rattle.am_members.specs.Members.{is_bare};
+ghost use Rattle.am_members.specs.Names.{is_group, is_set, without};
 
 use crate::change::{is_bare_in, join_all, leave_all};
 use crate::group::Group;
@@ -21,6 +20,7 @@ use am_text::Moment;
 use std::alloc::{AllocError, Global};
 use std::collections::BTreeMap;
 use std::marker::Model;
+use std::mem;
 
 /// The alerts of a tenant, the members of their groups, and the last flush of each group.
 #[derive(Drop)]
@@ -62,6 +62,13 @@ impl Index {
         self.alerts.get(labels)
     }
 
+    /// All alerts.
+    pub fn alerts(&self) -> &BTreeMap<LabelSet, Known>
+        ensures { result.now.entries ≡ self.now.alerts }
+    {
+        &self.alerts
+    }
+
     /// The members of a group.
     pub fn members(&self, group: &Group) -> Option<&Members>
         ensures { listed (option_copied result) ≡ members group.now self.now.alerts }
@@ -80,6 +87,7 @@ impl Index {
     pub fn put(&mut self, alloc: Global, labels: &LabelSet, known: Known) -> Result<(), AllocError>
         ensures alerts { OnOk result (self.new.alerts ≡ put_in labels.now known self.old.alerts) }
         ensures flushes { OnOk result (self.new.flushes ≡ self.old.flushes) }
+        ensures err { OnErr result (self.new ≡ nothing) }
     {
         match replace(alloc, &mut self.alerts, &mut self.groups, labels, known) {
             Ok(replaced) => {
@@ -99,7 +107,7 @@ impl Index {
     pub fn remove(&mut self, labels: &LabelSet) -> Option<Known>
         ensures known { result ≡ lookup (is_set labels.now) self.old.alerts }
         ensures alerts { self.new.alerts ≡ without labels.now self.old.alerts }
-        ensures flushes { (q : Name) → flush_of q self.new.flushes ≡ (if lost q self.old.alerts self.new.alerts then None else flush_of q self.old.flushes) }
+        ensures flushes { self.new.flushes ≡ kept_after labels.now self.old }
     {
         let known = forget(&mut self.alerts, &mut self.groups, labels)?;
         forget_lost(&self.groups, known.groups.as_slice(), &mut self.flushes);
@@ -109,7 +117,7 @@ impl Index {
     /// The last flush of a group, which has members, is that at this moment.
     pub fn flush_at(&mut self, group: &Group, moment: Moment) -> Result<(), AllocError>
         requires { is_bare (members group.now self.old.alerts) ≡ false }
-        ensures flushes { OnOk result ((q : Name) → flush_of q self.new.flushes ≡ (if is_group q group.now then Some moment else flush_of q self.old.flushes)) }
+        ensures flushes { OnOk result (self.new.flushes ≡ flushed_at group.now moment self.old) }
         ensures alerts { self.new.alerts ≡ self.old.alerts }
         ensures err { OnErr result (self.new.flushes ≡ self.old.flushes) }
     {
@@ -118,9 +126,15 @@ impl Index {
         Ok(())
     }
 
-    /// Puts these alerts, in the order of their labels, in the place of all. The flushes stay.
-    pub fn rebuild(&mut self, alloc: Global, list: Vec<(LabelSet, Known)>) -> Result<(), AllocError>
+    /// Puts these alerts, in the order of their labels, in the place of all, and answers those that were there. The
+    /// flushes stay.
+    pub fn rebuild(
+        &mut self,
+        alloc: Global,
+        list: Vec<(LabelSet, Known)>,
+    ) -> Result<BTreeMap<LabelSet, Known>, AllocError>
         requires { IsStrictlySortedBy labels_cmp (keys_of list.items) }
+        ensures before { IfOk result (λ before. before.entries ≡ self.old.alerts) }
         ensures alerts { OnOk result (self.new.alerts ≡ list.items) }
         ensures flushes { self.new.flushes ≡ self.old.flushes }
         ensures err { OnErr result (self.new.alerts ≡ self.old.alerts) }
@@ -128,15 +142,15 @@ impl Index {
         let mut alerts = BTreeMap::new(alloc);
         let mut groups = BTreeMap::new(alloc);
         hold_all(alloc, &mut alerts, &mut groups, list)?;
-        self.alerts = alerts;
+        let before = mem::replace(&mut self.alerts, alerts);
         self.groups = groups;
         self.unswept = true;
-        Ok(())
+        Ok(before)
     }
 
     /// Forgets the flushes of groups without members.
     pub fn forget_empty(&mut self)
-        ensures flushes { (q : Name) → flush_of q self.new.flushes ≡ (if is_bare (members q self.old.alerts) then None else flush_of q self.old.flushes) }
+        ensures flushes { self.new.flushes ≡ living self.old }
         ensures alerts { self.new.alerts ≡ self.old.alerts }
     {
         if self.unswept {
@@ -224,7 +238,7 @@ fn forget_lost(
     left: &[Group],
     flushes: &mut BTreeMap<Group, Moment>,
 )
-    ensures { (q : Name) → flush_of q flushes.new.entries ≡ (if list_any (is_group q) left.now && is_bare (held_at q groups.now.entries) then None else flush_of q flushes.old.entries) }
+    ensures { flushes.new.entries ≡ filter (λ e. not (list_any (is_group e.0) left.now && is_bare (held_at e.0 groups.now.entries))) flushes.old.entries }
 {
     for group in left {
         if is_bare_in(groups, group) {

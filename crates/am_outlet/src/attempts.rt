@@ -1,11 +1,11 @@
 //! The attempts of all tenants.
-ghost use Rattle.std.specs.Prelude.{◌≡◌, ◌⊎◌, ◌+◌, ◌^◌, ◌≤◌, ◌↔◌, ℕ, List, [], true, false, IfOk, IsErrOf, OnErr, OnOk, if◌then◌else◌, ⊤};
+ghost use Rattle.std.specs.Prelude.{◌≡◌, ◌⊎◌, ◌+◌, ◌^◌, ◌≤◌, ◌↔◌, ℕ, List, [], true, false, IfNone, IfOk, IfSome, IsErrOf, OnErr, OnOk, if◌then◌else◌, ⊤};
 ghost use Rattle.std.specs.BTreeMap.{IsOrdered};
 ghost use Rattle.std.specs.Cmp.Lexicographic.{slice_cmp};
 ghost use Rattle.std.specs.Ordering.{nat_cmp};
 ghost use Rattle.am_tenant.specs.Names.{same};
-ghost use Rattle.am_share.specs.Pairs.{LeavesOthers};
-ghost use Rattle.am_outlet.specs.Attempts.{after_outcome, after_tick, cleared, next_of, no_attempts, number_with, outcome_of, sending_of, started, without};
+ghost use Rattle.am_share.specs.Pairs.{Drops, LeavesOthers};
+ghost use Rattle.am_outlet.specs.Attempts.{after_outcome, after_tick, cleared, next_of, no_attempts, number_with, outcome_of, sending_of, started, without, without_key, without_number};
 ghost use Rattle.am_outlet.specs.Desks.{IsSameOrWithout, desk_of, desks_in};
 
 use crate::attempt::{Notice, Sending};
@@ -75,6 +75,9 @@ impl Attempts {
     /// Closes the attempt of this key, if the tenant has one open, and gives its number. It takes no memory.
     pub fn drop_key(&mut self, tenant: &TenantName, key: &EntryKey) -> Option<u64>
         ensures number { result ≡ number_with key.now (desk_of tenant.now self.old).open_ones }
+        // No other attempt has the key.
+        ensures one { IfSome result (λ number. without_key key.now (desk_of tenant.now self.old).open_ones ≡ without_number number (desk_of tenant.now self.old).open_ones) }
+        ensures none { IfNone result (without_key key.now (desk_of tenant.now self.old).open_ones ≡ (desk_of tenant.now self.old).open_ones) }
         ensures each { (t : List ℕ) → desk_of t self.new ≡ (if same t tenant.now then without key.now (desk_of t self.old) else desk_of t self.old) }
         ensures others { LeavesOthers tenant.now self.old.attempts self.new.attempts }
     {
@@ -129,6 +132,14 @@ impl Attempts {
         let sending = desk.tick(alloc, number, now)?;
         Ok(sending)
     }
+
+    /// Closes all attempts of a tenant. The numbers that they have used stay used. It takes no memory.
+    pub fn clear(&mut self, tenant: &TenantName)
+        ensures each { (t : List ℕ) → desk_of t self.new ≡ (if same t tenant.now then cleared (desk_of t self.old) else desk_of t self.old) }
+        ensures dropped { Drops tenant.now self.old.attempts self.new.attempts }
+    {
+        clear_desk(&mut self.desks, tenant);
+    }
 }
 
 impl Shared for Attempts {
@@ -140,15 +151,14 @@ impl Shared for Attempts {
 
     ghost stands = { λ _. ⊤ };
 
-    // The numbers that the tenant's attempts have used stay used.
     fn drop_tenant(&mut self, tenant: &TenantName) -> Result<(), Failure<ShareRefusal>> {
-        clear(&mut self.desks, tenant);
+        self.clear(tenant);
         Ok(())
     }
 }
 
 // Clears a tenant's desk, if it has one.
-fn clear(desks: &mut BTreeMap<TenantName, Desk>, tenant: &TenantName)
+fn clear_desk(desks: &mut BTreeMap<TenantName, Desk>, tenant: &TenantName)
     ensures each { (t : List ℕ) → desk_of t (desks_in desks.new) ≡ (if same t tenant.now then cleared (desk_of t (desks_in desks.old)) else desk_of t (desks_in desks.old)) }
     ensures ordered { IsOrdered (slice_cmp nat_cmp) desks.new }
 {

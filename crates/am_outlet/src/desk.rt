@@ -107,6 +107,8 @@ impl Desk {
     // Closes the attempt of this key, if there is one, and gives its number.
     pub fn drop_key(&mut self, key: &EntryKey) -> Option<u64>
         ensures number { result ≡ number_with key.now self.old.open_ones }
+        ensures one { IfSome result (λ number. without_key key.now self.old.open_ones ≡ without_number number self.old.open_ones) }
+        ensures none { IfNone result (without_key key.now self.old.open_ones ≡ self.old.open_ones) }
         ensures desk { self.new ≡ without key.now self.old }
     {
         let number = self.number_of(key)?;

@@ -29,8 +29,8 @@ use Rattle.am_query.specs.declared.query.Query.{Query}
 use Rattle.am_query.specs.declared.refusal.QueryRefusal.{QueryRefusal}
 use Rattle.am_query.specs.declared.refusal.QueryRefusal.TheVariants.{BadFlag, BadMatcher}
 use Rattle.am_query.specs.Unbuilt.{FailsUnless, GivesUnless, IsUnbuiltRefusal}
-use Rattle.am_query.specs.Patterns.{Among, IsAsked, patterns_as, patterns_asked, patterns_of_parameters, patterns_of_query}
-use Rattle.am_query.specs.Queries.{asks_for, judged, kind_of, last_value, matchers_in, parameters_in, query_in, query_of}
+use Rattle.am_query.specs.Patterns.{Among, IsAsked, patterns_as, patterns_asked, patterns_of_parameters}
+use Rattle.am_query.specs.Queries.{asks_for, judged, kind_of, last_value, matchers_in, query_of}
 use Rattle.am_query.proofs.Builds.{contains_here, refused_among, rightly_or_refused}
 
 -- ---- a filter or a receiver that is refused
@@ -276,16 +276,12 @@ read_by ps q e =
     one_pattern None all = λ text e. absurd (cc)
     one_pattern (Some first) all = λ text e. let same : first ≡ text = cc in rw (← same) (All-head IsPattern first [] all)
 
-pub query_patterns : (text : List ℕ) (q : Query) → query_in text ≡ Ok q → IsAsked q (patterns_of_query text)
-unfolding query_in patterns_of_query
-query_patterns text q e = read_by (parameters_in text) q e
-
--- of what was returned for it
-pub asked_of : (refused : List (List ℕ)) (text : List ℕ) (result : Result Query (Failure QueryRefusal)) →
-    GivesUnless (IsUnbuiltRefusal refused (patterns_of_query text)) (λ (q : Query). q) result (query_in text) →
-    IfOk result (λ q. IsAsked q (patterns_of_query text))
-asked_of refused text (Ok q) is = query_patterns text q is
-asked_of refused text (Err failure) is = tt
+-- of what was returned for its parameters
+pub asked_of : (refused : List (List ℕ)) (ps : List Parameter) (result : Result Query (Failure QueryRefusal)) →
+    GivesUnless (IsUnbuiltRefusal refused (patterns_of_parameters ps)) (λ (q : Query). q) result (query_of ps) →
+    IfOk result (λ q. IsAsked q (patterns_of_parameters ps))
+asked_of refused ps (Ok q) is = read_by ps q is
+asked_of refused ps (Err failure) is = tt
 
 -- ---- in the loop over the parameters
 

@@ -11,7 +11,7 @@ use Rattle.am_query.specs.declared.query.Kind.{Kind}
 use Rattle.am_query.specs.declared.query.Kind.TheVariants.{Filter, Receiver, Flag, Unknown}
 use Rattle.am_query.specs.declared.query.Parameter.{Parameter}
 use Rattle.am_query.specs.declared.query.Query.{Query}
-use Rattle.am_query.specs.Queries.{filters_among, kind_of, parameters_in}
+use Rattle.am_query.specs.Queries.{filters_among, kind_of, parameters_in, processed_among}
 
 -- one of these texts is a pattern, and stands among those that were refused a build
 abbrev pub HasRefused : List (List ℕ) → List (List ℕ) → Type 0
@@ -33,6 +33,10 @@ patterns_of_parameters parameters =
 -- those of a query
 unfoldable pub patterns_of_query : List ℕ → List (List ℕ)
 patterns_of_query query = patterns_of_parameters (parameters_in query)
+
+-- those of a query of the alerts in their groups
+unfoldable pub patterns_of_group_query : List ℕ → List (List ℕ)
+patterns_of_group_query query = patterns_of_parameters (processed_among (parameters_in query))
 
 -- those of its filters alone
 unfoldable pub patterns_of_filters : List ℕ → List (List ℕ)

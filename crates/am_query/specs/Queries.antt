@@ -1,5 +1,5 @@
 -- What a query asks: its parameters, in their order, and what they say together.
-use Rattle.std.specs.Prelude.{ℕ, Bool, true, ◌||◌, List, [], ◌∷◌, ◌++◌, codes, filter, map, find, reverse, Option, option_map, Result, Ok, Err, if◌then◌else◌}
+use Rattle.std.specs.Prelude.{ℕ, Bool, true, not, ◌||◌, List, [], ◌∷◌, ◌++◌, codes, filter, map, find, reverse, Option, option_map, Result, Ok, Err, if◌then◌else◌}
 use Rattle.std.specs.Option.{option_map_or}
 use Rattle.std.specs.Str.{bytes_eq}
 use Rattle.std.specs.Str.Lossy.{utf8_lossy}
@@ -90,6 +90,16 @@ query_of parameters = matchers_in parameters >>= λ matchers. Ok (record {
 -- what a query asks of the alerts
 unfoldable pub query_in : List ℕ → Result Query QueryRefusal
 query_in query = query_of (parameters_in query)
+
+-- ---- the alerts in their groups
+
+-- parameters but `unprocessed`: of groups it is an unknown one, which says nothing
+abbrev pub processed_among : List Parameter → List Parameter
+processed_among parameters = filter (λ (p : Parameter). not (bytes_eq p.name (codes "unprocessed"))) parameters
+
+-- what a query asks of the alerts in their groups
+unfoldable pub group_query_in : List ℕ → Result Query QueryRefusal
+group_query_in query = query_of (processed_among (parameters_in query))
 
 -- ---- the silences
 

@@ -4,7 +4,7 @@
 mod query;
 mod refusal;
 
-pub use query::{Query, read_filters, read_query};
+pub use query::{Query, read_filters, read_group_query, read_query};
 pub use refusal::QueryRefusal;
 
 #[cfg(test)]

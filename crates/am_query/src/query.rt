@@ -5,8 +5,8 @@ ghost use Rattle.std.specs.Option.{option_copied};
 ghost use Rattle.am_text.specs.Outcome.{Gives};
 ghost use Rattle.am_pattern.specs.Asking.{Asked};
 ghost use Rattle.am_query.specs.Unbuilt.{GivesUnless, IsUnbuiltRefusal};
-ghost use Rattle.am_query.specs.Patterns.{IsAsked, patterns_as, patterns_of_filters, patterns_of_parameters, patterns_of_query};
-ghost use Rattle.am_query.specs.Queries.{asks_for, filters_among, filters_in, flag_judged, judged, kind_of, last_value, matchers_in, parameters_in, query_in, query_of};
+ghost use Rattle.am_query.specs.Patterns.{IsAsked, patterns_as, patterns_of_filters, patterns_of_group_query, patterns_of_parameters, patterns_of_query};
+ghost use Rattle.am_query.specs.Queries.{asks_for, filters_among, filters_in, flag_judged, group_query_in, judged, kind_of, last_value, matchers_in, parameters_in, processed_among, query_in, query_of};
 
 use crate::refusal::QueryRefusal;
 use am_match::{Matcher, MatcherRefusal, check_pattern, read_matchers};
@@ -54,6 +54,7 @@ pub struct Query {
 ///
 /// # Errors
 /// The first parameter that is refused, in the query's order.
+#[tactic(auto, unfolding(crate::specs::Queries::query_in, crate::specs::Patterns::patterns_of_query))]
 pub fn read_query(
     alloc: Global,
     query: &str,
@@ -65,19 +66,41 @@ pub fn read_query(
     // What alerts are asked by are patterns, and those of the query.
     ensures patterns { IfOk result (λ q. IsAsked q (patterns_of_query query.now)) }
 {
-    query_in(alloc, query, cache)
+    let parameters = parameters_in(alloc, query)?;
+    query_of(alloc, parameters, cache)
 }
 
-#[tactic(auto, unfolding(crate::specs::Queries::query_in, crate::specs::Patterns::patterns_of_query))]
-fn query_in(
+/// What a query asks of the alerts in their groups: that of [`read_query`], but that `unprocessed` says nothing.
+///
+/// # Errors
+/// The first parameter that is refused, in the query's order.
+#[tactic(auto, unfolding(crate::specs::Queries::group_query_in, crate::specs::Patterns::patterns_of_group_query))]
+pub fn read_group_query(
     alloc: Global,
     query: &str,
     cache: &mut PatternCache,
 ) -> Result<Query, Failure<QueryRefusal>>
-    ensures read { GivesUnless (IsUnbuiltRefusal cache.new.refused (patterns_of_query query.now)) (λ q. q) result (query_in query.now) }
+    ensures read { GivesUnless (IsUnbuiltRefusal cache.new.refused (patterns_of_group_query query.now)) (λ q. q) result (group_query_in query.now) }
+    ensures asked { Asked result cache.old cache.new }
+
+    // What alerts are asked by are patterns, and those of the query.
+    ensures patterns { IfOk result (λ q. IsAsked q (patterns_of_group_query query.now)) }
+{
+    let mut parameters = parameters_in(alloc, query)?;
+    drop_unprocessed(&mut parameters);
+    query_of(alloc, parameters, cache)
+}
+
+// What parameters say together.
+fn query_of(
+    alloc: Global,
+    parameters: Vec<Parameter>,
+    cache: &mut PatternCache,
+) -> Result<Query, Failure<QueryRefusal>>
+    ensures read { GivesUnless (IsUnbuiltRefusal cache.new.refused (patterns_of_parameters parameters.items)) (λ q. q) result
+        (query_of parameters.items) }
     ensures asked { Asked result cache.old cache.new }
 {
-    let parameters = parameters_in(alloc, query)?;
     let matchers = matchers_in(alloc, &parameters, cache)?;
     let receiver = last_value(alloc, &parameters, "receiver")?;
     Ok(Query {
@@ -87,6 +110,13 @@ fn query_in(
         silenced: asks_for(&parameters, "silenced"),
         inhibited: asks_for(&parameters, "inhibited"),
     })
+}
+
+// Drops the flags of processing among parameters.
+fn drop_unprocessed(parameters: &mut Vec<Parameter>)
+    ensures { parameters.new.items ≡ processed_among parameters.old.items }
+{
+    parameters.retain(|parameter| parameter.name.as_str() != "unprocessed");
 }
 
 /// The matchers of all filters of a query of the silences. No other parameter is judged.

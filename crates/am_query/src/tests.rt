@@ -82,3 +82,14 @@ fn silences_are_asked_by_filters_alone(rt: HostRuntime) -> Result<(), Fail> {
     assert_eq!(rt; wanted.len(), 1);
     Ok(())
 }
+
+#[test]
+fn of_groups_unprocessed_says_nothing(rt: HostRuntime) -> Result<(), Fail> {
+    let alloc = rt.alloc();
+    let mut cache = PatternCache::new(alloc, 1, [0; 16])?;
+    let query = read_group_query(alloc, "unprocessed=1&active=false", &mut cache)?;
+    assert!(rt; !query.active);
+    let refused = read_group_query(alloc, "unprocessed=1&active=2", &mut cache);
+    assert!(rt; matches!(refused, Err(Failure::Refused(QueryRefusal::BadFlag))));
+    Ok(())
+}

@@ -28,7 +28,8 @@ same_by NotMatch NotEqual n m v w = refl
 same_by NotMatch Match n m v w = refl
 same_by NotMatch NotMatch n m v w = refl
 
-same_one : (a b : MatcherText) → (eq-value).it a b ≡ same_matcher a b
+-- two are equal
+pub same_one : (a b : MatcherText) → (eq-value).it a b ≡ same_matcher a b
 same_one a b = same_by a.operator b.operator a.name b.name a.value b.value
 
 pub same_all : (xs ys : List MatcherText) → pointwise (eq-value).it xs ys ≡ same_matchers xs ys

@@ -7,3 +7,4 @@ pub mod MapLemmas
 pub mod EqualLemmas
 pub mod PostedLemmas
 pub mod DecidingLemmas
+pub mod HavingLemmas

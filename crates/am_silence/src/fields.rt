@@ -15,7 +15,7 @@ use serde_json::Value;
 use std::alloc::Global;
 
 /// The most matchers of a silence.
-const MOST_MATCHERS: usize = 64;
+pub(crate) const MOST_MATCHERS: usize = 64;
 
 #[tactic(auto, unfolding(crate::specs::Written::written_of))]
 pub(crate) fn written_of(alloc: Global, value: &Value) -> Result<Written, Failure<JsonRefusal>>

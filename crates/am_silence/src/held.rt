@@ -1,10 +1,14 @@
 //! The silences that are held, borrowed.
 
-ghost use Rattle.std.specs.Prelude.{◌≡◌, ◌+◌, not, IfOk, count_by, filter, map};
-ghost use Rattle.am_silence.specs.Having.{has_matcher, has_matchers};
+ghost use Rattle.std.specs.Prelude.{◌≡◌, ◌+◌, not, IfOk, List, count_by, filter, map};
+ghost use Rattle.std.specs.List.{list_any};
+ghost use Rattle.am_match.specs.Matchers.{MatcherText};
+ghost use Rattle.am_silence.specs.Changing.{same_matcher};
+ghost use Rattle.am_silence.specs.Having.{has_borrowed, has_matcher, has_matchers};
 ghost use Rattle.am_silence.specs.Held.{all_held, held_silence};
 ghost use Rattle.am_silence.specs.Silences.{details_of, is_active, is_expired, state_of};
 
+use crate::fields::MOST_MATCHERS;
 use crate::state::SilenceState;
 use am_item::{SilenceDetails, SilenceId, Stamped};
 use am_match::Matcher;
@@ -69,6 +73,18 @@ pub(crate) fn having<'a>(
     ensures { IfOk result (λ v. map held_silence v.items
         ≡ filter (λ s. has_matchers s.details.matchers wanted.now) (all_held silences.now.entries)) }
 {
+    let apart = told_apart(alloc, wanted)?;
+    having_each(alloc, silences, &apart)
+}
+
+fn having_each<'a>(
+    alloc: Global,
+    silences: &'a BTreeMap<SilenceId, Stamped<SilenceDetails>>,
+    wanted: &[&Matcher],
+) -> Result<Vec<HeldSilence<'a>>, AllocError>
+    ensures { IfOk result (λ v. map held_silence v.items
+        ≡ filter (λ s. has_borrowed s.details.matchers wanted.now) (all_held silences.now.entries)) }
+{
     let mut found = Vec::new(alloc);
     for (id, held) in silences {
         if has_matchers(held.value.matchers.as_slice(), wanted) {
@@ -78,9 +94,39 @@ pub(crate) fn having<'a>(
     Ok(found)
 }
 
+// The wanted matchers without repetitions, since every silence is compared with each of them. More than a silence can have
+// are never all found, so none behind those is told apart.
+#[tactic(auto, unfolding(crate::specs::Having::has_borrowed))]
+fn told_apart<'a>(alloc: Global, wanted: &'a [Matcher]) -> Result<Vec<&'a Matcher>, AllocError>
+    ensures { IfOk result (λ v. (matchers : List MatcherText)
+        → has_borrowed matchers v.items ≡ has_matchers matchers wanted.now) }
+{
+    let mut apart = Vec::new(alloc);
+    for matcher in wanted {
+        if apart.len() > MOST_MATCHERS || !is_among(&apart, matcher) {
+            apart.push(matcher)?;
+        }
+    }
+    Ok(apart)
+}
+
+// Whether one of these is equal to the matcher.
+fn is_among(matchers: &[&Matcher], matcher: &Matcher) -> bool
+    ensures { result ≡ list_any (λ m. same_matcher m.now matcher.now) matchers.now }
+{
+    matchers.iter().any(|one| are_same(one, matcher))
+}
+
+fn are_same(one: &Matcher, other: &Matcher) -> bool
+    ensures { result ≡ same_matcher one.now other.now }
+{
+    *one == *other
+}
+
 // Whether each of the wanted matchers is equal to one of these.
-fn has_matchers(matchers: &[Matcher], wanted: &[Matcher]) -> bool
-    ensures { result ≡ has_matchers matchers.now wanted.now }
+#[tactic(auto, unfolding(crate::specs::Having::has_borrowed))]
+fn has_matchers(matchers: &[Matcher], wanted: &[&Matcher]) -> bool
+    ensures { result ≡ has_borrowed matchers.now wanted.now }
 {
     wanted.iter().all(|matcher| has_matcher(matchers, matcher))
 }

@@ -15,6 +15,9 @@ pub mod Founding
 pub mod Rising
 pub mod Tested
 pub mod Checks
+pub mod Given
+pub mod Ordered
+pub mod Passing
 pub mod Bests
 pub mod Named
 pub mod InOrder

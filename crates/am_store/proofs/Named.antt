@@ -1,7 +1,7 @@
 -- Which tenants the rows of a store have.
 use Rattle.std.proofs.Common.{◌≡◌, inl, inr, ℕ, ◌+◌, ◌<◌, Bool, true, false, ◌||◌, List, [], ◌∷◌, ◌++◌, append_assoc, get_or, length, map, take, refl, sym, ap, ap₂, subst, ◌∙◌}
 use Rattle.std.specs.Cmp.Lexicographic.{slice_cmp}
-use Rattle.std.specs.List.{AllByRecursion, dedup, dedup_from, filter, flat_map, list_any}
+use Rattle.std.specs.List.{All, AllByRecursion, dedup, dedup_from, filter, flat_map, list_any}
 use Rattle.std.specs.List.Sorted.{IsPermutation}
 use Rattle.std.specs.Ordering.{is_eq, nat_cmp, ordering_then}
 use Rattle.std.specs.Str.{bytes_eq}
@@ -9,8 +9,9 @@ use Rattle.std.specs.declared.cmp.Ordering.{Ordering}
 use Rattle.std.specs.declared.cmp.Ordering.TheVariants.{Less, Equal, Greater}
 use Rattle.std.proofs.lemmas.Bool.{cases_Bool, cond-false, cond-true}
 use Rattle.std.proofs.lemmas.List.{map-append, take_more}
+use Rattle.std.proofs.lemmas.List.Elements.{All-from_recursion, recursion_from_All}
 use Rattle.std.proofs.lemmas.List.Folds.{list_any-append}
-use Rattle.std.proofs.lemmas.List.Sorted.{list_any-IsPermutation}
+use Rattle.std.proofs.lemmas.List.Sorted.{All-permutation, list_any-IsPermutation}
 use Rattle.std.proofs.lemmas.Map.Text.{is_eq-slice_cmp}
 use Rattle.sqlite_sql.specs.Group.{members}
 use Rattle.sqlite_value.specs.Keys.{collated_cmp}
@@ -28,8 +29,8 @@ use Rattle.sqlite.specs.declared.types.Value.TheVariants.{Null}
 use Rattle.sqlite.proofs.Callers.{reads_as}
 use Rattle.am_tenant.specs.Names.{same}
 use Rattle.am_tenant.proofs.Same.{eq_from_same}
-use Rattle.am_store.specs.Reading.{NameTenants}
-use Rattle.am_store.specs.Rows.{IsStore, config_in, pairs_in, silence_in}
+use Rattle.am_store.specs.Reading.{IsNamed, NameTenants}
+use Rattle.am_store.specs.Rows.{IsConfig, IsSilenceRow, IsStore, config_in, pairs_in, silence_in}
 use Rattle.am_store.specs.Tables.{store_schema}
 use Rattle.am_store.specs.Texts.{select_config_tenants, select_silence_tenants}
 use Rattle.am_store.specs.Where.{columns1, hit}
@@ -160,6 +161,56 @@ module _ (old new : State) (store : IsStore old.now) (rows : List Row) where
         shown_unchanged old new select_silence_tenants [] (at_store old new store select_silence_tenants select_silence_tenants_plain) rows shown,
         distinct_shown (overlay old.now.trees []) rows (read.answer Null),
       )
+
+-- ---- rows that name tenants
+
+all_behind : {X : Type 0} (P : X → Type 0) (xs ys : List X) → AllByRecursion P (xs ++ ys) → AllByRecursion P ys
+all_behind P [] ys all = all
+all_behind P (x ∷ xs) ys all = all_behind P xs ys all.1
+
+all_heads : {X : Type 0} (P : X → Type 0) (groups : List (X × List X)) → AllByRecursion P (flat_map members groups) → AllByRecursion P (map (λ g. g.0) groups)
+all_heads P [] all = tt
+all_heads P (g ∷ gs) all = (all.0, all_heads P gs (all_behind P g.1 (flat_map members gs) all.1))
+
+all_mapped : {X Y : Type 0} (P : X → Type 0) (Q : Y → Type 0) (f : X → Y) → ((x : X) → P x → Q (f x)) → (xs : List X) → AllByRecursion P xs → AllByRecursion Q (map f xs)
+all_mapped P Q f h [] all = tt
+all_mapped P Q f h (x ∷ xs) all = (h x all.0, all_mapped P Q f h xs all.1)
+
+config_named : (row : Row) → IsConfig row → IsNamed (eval_all columns1 ([] ∷ row ∷ []))
+config_named row is = record { tenant = is.tenant; tenant_is = ap (λ r. column r 1) is.is; named = is.named }
+
+silence_named : (row : Row) → IsSilenceRow row → IsNamed (eval_all columns1 ([] ∷ row ∷ []))
+silence_named row is = record { tenant = is.tenant; tenant_is = ap (λ r. column r 1) is.is; named = is.named }
+
+distinct_named : (db : Trees) (rows : List Row) → IsAnswer distinct_tenants db [] rows → AllByRecursion IsSilenceRow (db 3) → All IsNamed rows
+distinct_named db rows a silences =
+    let IsHead : Output → Type 0 = λ o. IsNamed o.1 in
+    let groups = a.distinct.0 in
+    let shown : Row → Output = λ r. output (over 3 [] columns1 []) ([] ∷ r ∷ []) in
+    let staged : map (output distinct_tenants) a.staged ≡ map shown (db 3) =
+    ap (map (output (over 3 [] columns1 []))) a.grouped ∙ matched 3 [] columns1 [] [] (db 3) ∙ ap (map shown) (all_pass (db 3)) in
+    let first : AllByRecursion IsHead (map (output distinct_tenants) a.staged) =
+    subst (AllByRecursion IsHead) (sym staged) (all_mapped IsSilenceRow IsHead shown silence_named (db 3) silences) in
+    let grouped : AllByRecursion IsHead (flat_map members groups) =
+    recursion_from_All IsHead _ (All-permutation IsHead _ _ a.distinct.1.same (All-from_recursion IsHead _ first)) in
+    let kept : AllByRecursion IsHead a.kept = subst (AllByRecursion IsHead) (sym a.distinct.2) (all_heads IsHead groups grouped) in
+    let ordered : AllByRecursion IsHead a.ordered =
+    recursion_from_All IsHead _ (All-permutation IsHead _ _ a.same (All-from_recursion IsHead _ kept)) in
+    subst (All IsNamed) (sym a.shown) (All-from_recursion IsNamed _ (all_mapped IsHead IsNamed (λ (o : Output). o.1) (λ o named. named) a.ordered ordered))
+
+module _ (old new : State) (store : IsStore old.now) (rows : List Row) where
+  pub configs_all_named : Shown select_config_tenants [] old new rows → All IsNamed rows
+  configs_all_named shown =
+      let seen : Row → Row = λ r. eval_all columns1 ([] ∷ r ∷ []) in
+      let perm : IsPermutation (map seen (old.now.trees 1)) rows =
+      subst (λ xs. IsPermutation (map seen xs) rows) (all_pass (old.now.trees 1))
+      (reads 1 [] columns1 [] [] select_config_tenants _ old new rows store.schema select_config_tenants_is select_config_tenants_plain select_config_tenants_unlisted refl shown) in
+      All-permutation IsNamed _ rows perm (All-from_recursion IsNamed _ (all_mapped IsConfig IsNamed seen config_named (old.now.trees 1) store.configs))
+
+  pub silences_all_named : Shown select_silence_tenants [] old new rows → All IsNamed rows
+  silences_all_named shown =
+      let read = reads_as select_silence_tenants [] old new store_schema store.schema _ select_silence_tenants_is select_silence_tenants_plain select_silence_tenants_unlisted rows shown in
+      distinct_named (overlay old.now.trees []) rows (read.answer Null) store.silences
 
 -- the names of both tables are those of all pairs
 pub both_named : (old mid : Database) → mid ≡ old → (cs ss : List Row)

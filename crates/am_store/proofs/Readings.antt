@@ -79,3 +79,13 @@ silence_reads row t item is whose what = record {
   tenant_is = ap (λ (p : Pair). p.0) (silence_says row is) ∙ whose;
   item_is = what ∙ ap (λ (p : Pair). Some p.1) (sym (silence_says row is));
 }
+
+-- the stamp of a row of silences
+pub silence_stamped : (row : Row) (is : IsSilenceRow row) → HasStamp row 9 is.stamp
+silence_stamped row is = record {
+  moment = ap (λ r. column r 9) is.is;
+  instance = ap (λ r. column r 10) is.is;
+  incarnation = ap (λ r. column r 11) is.is;
+  count = ap (λ r. column r 12) is.is;
+  stamp = is.stamped;
+}

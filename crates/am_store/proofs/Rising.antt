@@ -5,7 +5,7 @@ use Rattle.std.specs.Ordering.{int_cmp}
 use Rattle.std.proofs.lemmas.Bool.{cases_lt}
 use Rattle.std.proofs.lemmas.List.{get_or_default}
 use Rattle.std.proofs.lemmas.Cmp.{on_total}
-use Rattle.std.proofs.lemmas.Map.Keys.{sorted_from_all_adjacent}
+use Rattle.std.proofs.lemmas.Map.Keys.{Less-from_sorted, sorted_from_all_adjacent}
 use Rattle.sqlite_value.proofs.OrderLemmas.{value_cmp-Int, value_cmp_total}
 use Rattle.sqlite_value.specs.Order.{value_cmp}
 use Rattle.sqlite.specs.declared.types.Value.TheVariants.{Int}
@@ -36,3 +36,10 @@ rise_more rows at m n d f first before one two within below = record {
 
 pub rise_all : (rows : List Row) (end : ℕ) → length rows ≤ end → RiseTo rows end → AreRising rows
 rise_all rows end whole rising = sorted_from_all_adjacent (on_total rowid value_cmp_total) rows [] (λ k low. rising.rise k [] (omega (arith, low, whole)))
+
+-- of rows whose rowids rise one has a greater rowid than the one before it
+pub rises_at : (rows : List Row) (at : ℕ) (m n : ℤ) (d f : Row) → 1 ≤ at → at < length rows → AreRising rows → rowid (get_or rows (at - 1) d) ≡ Int m → rowid (get_or rows at f) ≡ Int n → Less ≡ int_cmp m n
+rises_at rows at m n d f first within rising one two =
+    let up = Less-from_sorted (λ a b. value_cmp (rowid a) (rowid b)) rows (at - 1) at d rising (omega (arith, first)) within in
+    let here : rowid (get_or rows at d) ≡ Int n = ap rowid (get_or_default rows at d f within) ∙ two in
+    sym (rw (one, here) at up) ∙ value_cmp-Int m n

@@ -1,16 +1,29 @@
 -- How rows are read.
-use Rattle.std.specs.Prelude.{◌≡◌, ◌||◌, ◌+◌, ℕ, pos, Bool, not, List, Some}
+use Rattle.std.specs.Prelude.{◌≡◌, ◌||◌, ◌+◌, ℕ, pos, Bool, not, List, Some, Result, IfErr, IsTrue}
 use Rattle.std.specs.List.{list_any}
-use Rattle.sqlite.specs.declared.types.Value.TheVariants.{Int}
+use Rattle.sqlite.specs.declared.types.Value.TheVariants.{Int, Text}
+use Rattle.sqlite.specs.declared.error.Error.{Error}
+use Rattle.sqlite.specs.declared.error.Error.TheVariants.{SqliteFailure}
+use Rattle.sqlite.specs.declared.error.ErrorCode.TheVariants as code
 use Rattle.sqlite.specs.Order.{Row, bytes, column}
 use Rattle.sqlite.specs.Tree.{Trees}
-use Rattle.am_tenant.specs.Names.{same}
+use Rattle.am_text.specs.declared.failure.Failure.{Failure}
+use Rattle.am_text.specs.declared.failure.Failure.TheVariants.{OutOfMemory}
+use Rattle.am_tenant.specs.Names.{is_tenant_name, same}
 use Rattle.am_item.specs.declared.stamp.Stamp.{Stamp}
 use Rattle.am_item.specs.Stamp.{stamp_cmp}
 use Rattle.std.specs.Ordering.{is_gt}
 use Rattle.am_item.specs.declared.item.Item.{Item}
 use Rattle.am_store.specs.Rows.{IsConfig, IsSilenceRow, IsStamp, config_in, pairs_in, silence_in, stamp_at}
 use Rattle.am_store.specs.Stored.{stored_item}
+
+-- there is a value, unless memory ran out
+abbrev pub GivesValue : {X R : Type 0} → Result X (Failure R) → Type 0
+GivesValue result = IfErr result (λ failure. failure ≡ OutOfMemory)
+
+-- the same of a column of a row
+abbrev pub GivesColumn : {X : Type 0} → Result X Error → Type 0
+GivesColumn result = IfErr result (λ e. e ≡ SqliteFailure code.OutOfMemory)
 
 -- from this place on four columns hold a stamp
 pub record HasStamp (row : Row) (at : ℕ) (s : Stamp) : Type 0 where
@@ -35,6 +48,12 @@ pub record ReadsSilence (row : Row) (tenant : List ℕ) (item : Item) : Type 0 w
   pub is : IsSilenceRow row
   pub tenant_is : (silence_in row).0 ≡ tenant
   pub item_is : stored_item item ≡ Some (silence_in row).1
+
+-- the first column is the name of a tenant
+pub record IsNamed (row : Row) : Type 0 where
+  pub tenant : List ℕ
+  pub tenant_is : column row 0 ≡ Text tenant
+  pub named : IsTrue (is_tenant_name tenant)
 
 -- the rows of two queries, whose first columns are names, name the tenants of all pairs
 abbrev pub NameTenants : List Row → List Row → Trees → Type 0

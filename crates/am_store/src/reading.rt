@@ -1,13 +1,15 @@
 //! Rows as items of a tenant.
 
-ghost use Rattle.std.specs.Prelude.{◌≡◌, IfOk, IfSome, IsErr, IsTrue, IsUtf8, MatchResult, Ok, Some};
+ghost use Rattle.std.specs.Prelude.{◌≡◌, ◌↔◌, ◌<◌, ℕ, List, Option, All, IfOk, IfSome, IsErr, IsTrue, IsUtf8};
+ghost use Rattle.std.specs.Prelude.{MatchResult, Ok, Some, length};
 ghost use Rattle.sqlite.specs.Order.{column};
 ghost use Rattle.sqlite.specs.declared.types.Value.TheVariants.{Blob, Text as Words};
 ghost use Rattle.uuid.specs.Text.{parsed};
-ghost use Rattle.am_match.specs.Spelling.{Spells};
+ghost use Rattle.am_match.specs.Matchers.{IsMatcher, MatcherText};
+ghost use Rattle.am_match.specs.Spelling.{IsSpellable, Spells, spelling};
 ghost use Rattle.am_tenant.specs.Names.{is_tenant_name};
-ghost use Rattle.am_store.specs.Reading.{ReadsConfig, ReadsSilence};
-ghost use Rattle.am_store.specs.Rows.{body_value, id_text};
+ghost use Rattle.am_store.specs.Reading.{GivesColumn, GivesValue, ReadsConfig, ReadsSilence};
+ghost use Rattle.am_store.specs.Rows.{IsConfig, IsSilenceRow, body_value, id_text};
 
 use crate::refusal::StoreRefusal;
 use crate::silence::text_of;
@@ -24,7 +26,8 @@ use uuid::Uuid;
 
 // A column that isn't read is that of a row that is no item, unless memory ran out.
 pub(crate) fn or_foreign<T>(read: Result<T, Error>) -> Result<T, Failure<StoreRefusal>>
-    ensures { MatchResult read (λ value. result ≡ Ok value) (λ _. IsErr result) }
+    ensures value { MatchResult read (λ value. result ≡ Ok value) (λ _. IsErr result) }
+    ensures given { GivesColumn read → GivesValue result }
 {
     match read {
         Ok(value) => Ok(value),
@@ -37,6 +40,7 @@ pub(crate) fn or_foreign<T>(read: Result<T, Error>) -> Result<T, Failure<StoreRe
 pub(crate) fn tenant_in(row: &Row, at: usize) -> Result<TenantName, Failure<StoreRefusal>>
     ensures text { IfOk result (λ tenant. column row.now at ≡ Words tenant) }
     ensures name { IfOk result (λ tenant. IsTrue (is_tenant_name tenant)) }
+    ensures given { (t : List ℕ) → column row.now at ≡ Words t → IsTrue (is_tenant_name t) → GivesValue result }
 {
     let ValueRef::Text(bytes) = or_foreign(row.get_ref(at))? else {
         return Err(Failure::Refused(StoreRefusal::Foreign));
@@ -51,6 +55,7 @@ pub(crate) fn tenant_in(row: &Row, at: usize) -> Result<TenantName, Failure<Stor
 fn text_in(alloc: Global, row: &Row, at: usize) -> Result<Text, Failure<StoreRefusal>>
     ensures text { IfOk result (λ text. column row.now at ≡ Blob text) }
     ensures utf8 { IfOk result (λ text. IsUtf8 text) }
+    ensures given { (t : List ℕ) → column row.now at ≡ Blob t → IsUtf8 t → GivesValue result }
 {
     let ValueRef::Blob(bytes) = or_foreign(row.get_ref(at))? else {
         return Err(Failure::Refused(StoreRefusal::Foreign));
@@ -65,6 +70,8 @@ fn text_in(alloc: Global, row: &Row, at: usize) -> Result<Text, Failure<StoreRef
 fn body_in(alloc: Global, row: &Row) -> Result<Option<Text>, Failure<StoreRefusal>>
     ensures body { IfOk result (λ body. column row.now 2 ≡ body_value body) }
     ensures utf8 { IfOk result (λ body. IfSome body IsUtf8) }
+    ensures given { 2 < length row.now → (body : Option (List ℕ)) → column row.now 2 ≡ body_value body
+        → IfSome body IsUtf8 → GivesValue result }
 {
     if let ValueRef::Null = or_foreign(row.get_ref(2))? {
         return Ok(None);
@@ -77,7 +84,8 @@ pub(crate) fn read_config(
     alloc: Global,
     row: &Row,
 ) -> Result<(TenantName, Item), Failure<StoreRefusal>>
-    ensures { IfOk result (λ p. ReadsConfig row.now p.0 p.1) }
+    ensures reads { IfOk result (λ p. ReadsConfig row.now p.0 p.1) }
+    ensures given { IsConfig row.now → GivesValue result }
 {
     if row.column_count() != 7 {
         return Err(Failure::Refused(StoreRefusal::Foreign));
@@ -97,7 +105,7 @@ pub(crate) fn read_config(
 
 // Whether the bytes are the text of the identifier.
 fn is_text_of(id: &SilenceId, bytes: &[u8]) -> bool
-    ensures text { IsTrue result → bytes.now ≡ id_text id.now }
+    ensures text { IsTrue result ↔ (bytes.now ≡ id_text id.now) }
     ensures back { parsed (id_text id.now) ≡ Some id.now }
 {
     let mut buffer = Uuid::encode_buffer();
@@ -108,14 +116,13 @@ fn is_text_of(id: &SilenceId, bytes: &[u8]) -> bool
 fn id_in(row: &Row) -> Result<SilenceId, Failure<StoreRefusal>>
     ensures text { IfOk result (λ id. column row.now 2 ≡ Words (id_text id)) }
     ensures back { IfOk result (λ id. parsed (id_text id) ≡ Some id) }
+    ensures given { (id : List ℕ) → column row.now 2 ≡ Words (id_text id) → parsed (id_text id) ≡ Some id
+        → GivesValue result }
 {
     let ValueRef::Text(bytes) = or_foreign(row.get_ref(2))? else {
         return Err(Failure::Refused(StoreRefusal::Foreign));
     };
-    let Ok(text) = str::from_utf8(bytes) else {
-        return Err(Failure::Refused(StoreRefusal::Foreign));
-    };
-    let Ok(uuid) = Uuid::parse_str(text) else {
+    let Ok(uuid) = Uuid::try_parse_ascii(bytes) else {
         return Err(Failure::Refused(StoreRefusal::Foreign));
     };
     let id = SilenceId::from_bytes(uuid.into_bytes());
@@ -128,15 +135,24 @@ fn id_in(row: &Row) -> Result<SilenceId, Failure<StoreRefusal>>
 
 // The matchers that a column spells.
 fn matchers_in(alloc: Global, row: &Row) -> Result<Vec<Matcher>, Failure<StoreRefusal>>
-    ensures { IfOk result (λ matchers. (bytes : _) × (column row.now 8 ≡ Blob bytes) × Spells bytes matchers.items) }
+    ensures spelled { IfOk result (λ matchers. (bytes : _) × (column row.now 8 ≡ Blob bytes)
+        × Spells bytes matchers.items) }
+    ensures given { (ms : List MatcherText) → column row.now 8 ≡ Blob (spelling ms) → IsSpellable ms → All IsMatcher ms
+        → GivesValue result }
 {
     let ValueRef::Blob(bytes) = or_foreign(row.get_ref(8))? else {
         return Err(Failure::Refused(StoreRefusal::Foreign));
     };
     match take_matchers(alloc, bytes) {
-        Ok((matchers, taken)) if taken == bytes.len() => Ok(matchers),
+        Ok((matchers, taken)) => {
+            if taken == bytes.len() {
+                Ok(matchers)
+            } else {
+                Err(Failure::Refused(StoreRefusal::Foreign))
+            }
+        }
         Err(Failure::OutOfMemory) => Err(Failure::OutOfMemory),
-        _ => Err(Failure::Refused(StoreRefusal::Foreign)),
+        Err(Failure::Refused(_)) => Err(Failure::Refused(StoreRefusal::Foreign)),
     }
 }
 
@@ -145,7 +161,8 @@ pub(crate) fn read_silence(
     alloc: Global,
     row: &Row,
 ) -> Result<(TenantName, Item), Failure<StoreRefusal>>
-    ensures { IfOk result (λ p. ReadsSilence row.now p.0 p.1) }
+    ensures reads { IfOk result (λ p. ReadsSilence row.now p.0 p.1) }
+    ensures given { IsSilenceRow row.now → GivesValue result }
 {
     if row.column_count() != 13 {
         return Err(Failure::Refused(StoreRefusal::Foreign));

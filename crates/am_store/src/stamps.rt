@@ -1,11 +1,12 @@
 //! Stamps in columns.
 
-ghost use Rattle.std.specs.Prelude.{◌≡◌, ◌≤◌, IfOk, pos};
+ghost use Rattle.std.specs.Prelude.{◌≡◌, ◌≤◌, ℕ, IfOk, pos};
 ghost use Rattle.sqlite.specs.Order.{column};
 ghost use Rattle.sqlite.specs.declared.types.Value.TheVariants.{Int};
 ghost use Rattle.std.specs.List.{list_any};
 ghost use Rattle.am_text.specs.Moment.{greatest_moment};
-ghost use Rattle.am_store.specs.Reading.{HasStamp, reached};
+ghost use Rattle.am_item.specs.declared.stamp.Stamp.{Stamp as StampText};
+ghost use Rattle.am_store.specs.Reading.{GivesColumn, HasStamp, reached};
 
 use am_item::Stamp;
 use am_text::Moment;
@@ -14,7 +15,8 @@ use sqlite::{Error, Row};
 // The stamp whose four columns begin at this place.
 pub(crate) fn stamp_of(row: &Row, at: usize) -> Result<Stamp, Error>
     requires { at ≤ 9 }
-    ensures { IfOk result (HasStamp row.now at) }
+    ensures stamp { IfOk result (HasStamp row.now at) }
+    ensures given { (s : StampText) → HasStamp row.now at s → GivesColumn result }
 {
     let moment = moment_of(row, at)?;
     let Ok(instance) = u8::try_from(row.get::<u32>(at + 1)?) else {
@@ -36,6 +38,7 @@ pub(crate) fn stamp_of(row: &Row, at: usize) -> Result<Stamp, Error>
 pub(crate) fn moment_of(row: &Row, at: usize) -> Result<Moment, Error>
     ensures value { IfOk result (λ moment. column row.now at ≡ Int (pos moment)) }
     ensures bound { IfOk result (λ moment. moment ≤ greatest_moment) }
+    ensures given { (m : ℕ) → column row.now at ≡ Int (pos m) → m ≤ greatest_moment → GivesColumn result }
 {
     match Moment::from_milliseconds(row.get(at)?) {
         Some(moment) => Ok(moment),

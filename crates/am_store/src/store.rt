@@ -12,7 +12,7 @@ ghost use Rattle.am_item.specs.Best.{IsRising};
 ghost use Rattle.am_item.specs.Key.{SilenceKey};
 ghost use Rattle.am_share.specs.Pairs.{things_of};
 ghost use Rattle.am_text.specs.Outcome.{ForRefused};
-ghost use Rattle.am_store.specs.Opening.{LeavesNew, Opens, Rests};
+ghost use Rattle.am_store.specs.Opening.{IsForeign, IsNotForeign, LeavesNew, Opens, Rests};
 ghost use Rattle.am_store.specs.Rows.{IsFit, IsStore, pairs_in};
 ghost use Rattle.am_store.specs.Steps.{Commits, Empties, IsSame, Leaves, Removes, Stores};
 ghost use Rattle.am_store.specs.Stored.{stored_items};
@@ -67,6 +67,11 @@ impl<S: Alter> Store<S> {
             → IsSame (state S.Store conn) (state S.Store e.1)) }
         ensures used { IfErr result (λ e. e.0 ≡ Failure.Refused StoreRefusal.Foreign
             → (state S.Store conn).now.schema ≡ no_schema → ⊥) }
+        ensures foreign { IfErr result (λ e. HasCleanDisk (state S.Store e.1)
+            → e.0 ≡ Failure.Refused StoreRefusal.Foreign → IsForeign (state S.Store conn).now) }
+        ensures refused { IsForeign (state S.Store conn).now → MatchResult result
+            (λ store. HasCleanDisk (state S.Store store) → ⊥)
+            (λ e. Survives (state S.Store conn) (state S.Store e.1) (λ _. ⊥)) }
         ensures crash { MatchResult result
             (λ store. Survives (state S.Store conn) (state S.Store store) (LeavesNew (state S.Store conn)))
             (λ e. Survives (state S.Store conn) (state S.Store e.1) (LeavesNew (state S.Store conn))) }
@@ -137,12 +142,14 @@ impl<S: Alter> Store<S> {
     /// The tenants of which something is stored, each once, in order of name.
     ///
     /// # Errors
-    /// `F2`, `F3` for a row that is no item of a tenant, or out of memory. Nothing is written.
+    /// `F2`, or out of memory. Nothing is written.
     pub fn tenants(&mut self, alloc: Global) -> Result<Vec<TenantName>, Failure<StoreRefusal>>
         ensures order { IfOk result (λ names. IsStrictlySortedBy (slice_cmp nat_cmp) names.items) }
         ensures names { HasCleanDisk (state S.Store self.new) → IsStore (state S.Store self.old).now
             → IfOk result (λ names. (t : List ℕ) → list_any (same t) names.items
             ≡ list_any (λ pair. same t pair.0) (pairs_in (state S.Store self.old).now.trees)) }
+        ensures passes { HasCleanDisk (state S.Store self.new) → IsStore (state S.Store self.old).now
+            → IsNotForeign result }
         ensures rests { (HasCleanDisk (state S.Store self.old) → IsStore (state S.Store self.old).now)
             → Rests (state S.Store self.old) (state S.Store self.new) }
     {

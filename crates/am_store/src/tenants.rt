@@ -1,6 +1,6 @@
 //! The tenants of a store.
 
-ghost use Rattle.std.specs.Prelude.{◌≡◌, ◌++◌, ℕ, List, false, map, IfOk, OnOk};
+ghost use Rattle.std.specs.Prelude.{◌≡◌, ◌++◌, ℕ, List, false, map, All, IfOk, OnOk};
 ghost use Rattle.std.specs.Cmp.Lexicographic.{slice_cmp};
 ghost use Rattle.std.specs.List.{list_any};
 ghost use Rattle.std.specs.Ordering.{nat_cmp};
@@ -9,8 +9,8 @@ ghost use Rattle.sqlite.specs.Held.{state};
 ghost use Rattle.sqlite.specs.Order.{bytes, column};
 ghost use Rattle.sqlite.specs.State.{HasCleanDisk};
 ghost use Rattle.am_tenant.specs.Names.{same};
-ghost use Rattle.am_store.specs.Opening.{Rests};
-ghost use Rattle.am_store.specs.Reading.{NameTenants};
+ghost use Rattle.am_store.specs.Opening.{IsNotForeign, Rests};
+ghost use Rattle.am_store.specs.Reading.{GivesValue, IsNamed, NameTenants};
 ghost use Rattle.am_store.specs.Rows.{IsStore, pairs_in};
 
 use crate::query;
@@ -23,7 +23,8 @@ use std::alloc::{AllocError, Global};
 
 // Reads names behind those that are there.
 fn push_names(names: &mut Vec<TenantName>, rows: &[Row]) -> Result<(), Failure<StoreRefusal>>
-    ensures { OnOk result (names.new.items ≡ names.old.items ++ map (λ row. bytes (column row 0)) rows.now) }
+    ensures names { OnOk result (names.new.items ≡ names.old.items ++ map (λ row. bytes (column row 0)) rows.now) }
+    ensures given { All IsNamed rows.now → GivesValue result }
 {
     for row in rows {
         let name = tenant_in(row, 0)?;
@@ -46,6 +47,9 @@ fn sort(names: &mut Vec<TenantName>) -> Result<(), AllocError>
 fn named<S: Alter>(conn: &mut Connection<S>) -> Result<(Vec<Row>, Vec<Row>), Failure<StoreRefusal>>
     ensures names { HasCleanDisk (state S.Store conn.new) → IsStore (state S.Store conn.old).now
         → IfOk result (λ rows. NameTenants rows.0.items rows.1.items (state S.Store conn.old).now.trees) }
+    ensures named { HasCleanDisk (state S.Store conn.new) → IsStore (state S.Store conn.old).now
+        → IfOk result (λ rows. All IsNamed rows.0.items × All IsNamed rows.1.items) }
+    ensures passes { IsNotForeign result }
     ensures rests { (HasCleanDisk (state S.Store conn.old) → IsStore (state S.Store conn.old).now)
         → Rests (state S.Store conn.old) (state S.Store conn.new) }
     ensures idle { conn.old.in_transaction ≡ false → conn.new.in_transaction ≡ false }
@@ -65,6 +69,7 @@ pub(crate) fn tenants<S: Alter>(
         → IfOk result (λ names. (t : List ℕ)
         → list_any (same t) names.items
         ≡ list_any (λ pair. same t pair.0) (pairs_in (state S.Store conn.old).now.trees)) }
+    ensures passes { HasCleanDisk (state S.Store conn.new) → IsStore (state S.Store conn.old).now → IsNotForeign result }
     ensures rests { (HasCleanDisk (state S.Store conn.old) → IsStore (state S.Store conn.old).now)
         → Rests (state S.Store conn.old) (state S.Store conn.new) }
     ensures idle { conn.old.in_transaction ≡ false → conn.new.in_transaction ≡ false }

@@ -2,8 +2,8 @@
 use Rattle.std.proofs.Common.{◌≡◌, ℕ, Bool, true, false, not, List, [], ◌∷◌, map, refl, sym, ap, ◌∙◌, if◌then◌else◌}
 use Rattle.std.specs.List.Sorted.{IsStrictlySortedBy}
 use Rattle.am_timer.specs.Timer.{Timer, timer_cmp}
-use Rattle.am_timer.specs.Queue.{due_at, is_due, is_named, later_than, timers_of, with_timer, without}
-use Rattle.am_timer.specs.Calls.{Call, Sets, Cancels, Takes, answers, calls_of, is_for}
+use Rattle.am_timer.specs.Queue.{due_at, is_due, is_named, timers_of, with_timer, without}
+use Rattle.am_timer.specs.Calls.{Call, Sets, Cancels, Asks, answers, calls_of, is_for}
 use Rattle.am_timer.proofs.TiedLemmas.{rising-filter, rising-insert}
 use Rattle.am_timer.proofs.Tenants.{each_with, each_without, timers_of-filter}
 
@@ -24,7 +24,5 @@ alone t (Sets x ∷ calls) xs rising =
     (alone t calls (with_timer x xs) (rising-insert _ x (rising-filter (λ y. not (is_named x.name y)) xs rising)))
 alone t (Cancels n ∷ calls) xs rising =
     goes_on t (Cancels n) calls (without n) xs (without n xs) (λ ys. refl) (each_without n xs t) (alone t calls (without n xs) (rising-filter (λ y. not (is_named n y)) xs rising))
-alone t (Takes now ∷ calls) xs rising =
-    ap (λ ys. ys ∷ map (timers_of t) (answers calls (later_than now xs))) (timers_of-filter t (is_due now) xs)
-    ∙ ap (λ rest. due_at now (timers_of t xs) ∷ rest)
-    (alone t calls (later_than now xs) (rising-filter (λ y. not (is_due now y)) xs rising) ∙ ap (answers (calls_of t calls)) (timers_of-filter t (λ y. not (is_due now y)) xs))
+alone t (Asks now ∷ calls) xs rising =
+    ap (λ ys. ys ∷ map (timers_of t) (answers calls xs)) (timers_of-filter t (is_due now) xs) ∙ ap (λ rest. due_at now (timers_of t xs) ∷ rest) (alone t calls xs rising)

@@ -30,10 +30,6 @@ is_due now timer = nat_le timer.due now
 abbrev pub due_at : ℕ → List Timer → List Timer
 due_at now timers = filter (is_due now) timers
 
--- the others, in their order
-abbrev pub later_than : ℕ → List Timer → List Timer
-later_than now timers = filter (λ timer. not (is_due now timer)) timers
-
 -- the timers of a tenant, in their order
 unfoldable pub timers_of : List ℕ → List Timer → List Timer
 timers_of t timers = filter (λ timer. same t timer.name.tenant) timers

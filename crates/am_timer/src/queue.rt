@@ -1,10 +1,10 @@
 //! The queue of timers.
-ghost use Rattle.std.specs.Prelude.{◌≡◌, ◌+◌, ◌⊎◌, ℕ, min, true, not, List, [], ◌∷◌, length, filter, IfOk, IfNone, IfSome, OnOk, OnErr, if◌then◌else◌, ⊤};
+ghost use Rattle.std.specs.Prelude.{◌≡◌, ◌+◌, ◌-◌, ◌⊎◌, ℕ, min, not, List, [], length, filter, IfOk, OnOk, OnErr, if◌then◌else◌, ⊤};
 ghost use Rattle.std.specs.List.Sorted.{IsStrictlySortedBy};
 ghost use Rattle.am_tenant.specs.Names.{same};
 ghost use Rattle.am_share.specs.Pairs.{LeavesOthers};
 ghost use Rattle.am_timer.specs.Timer.{timer_cmp};
-ghost use Rattle.am_timer.specs.Queue.{due_at, is_due, later_than, pairs_of, timers_of, with_timer, without};
+ghost use Rattle.am_timer.specs.Queue.{due_at, pairs_of, timers_of, with_timer, without};
 ghost use Rattle.am_timer.specs.Tied.{IsTied};
 
 use crate::timer::{Timer, TimerName};
@@ -75,29 +75,28 @@ impl TimerQueue {
         forget(&mut self.by_due, &mut self.dues, name);
     }
 
-    /// Takes out the timers that are due at the moment or before it, and gives them in order: by due, then tenant,
-    /// then key. It looks at no other timer but the first that is due later.
+    /// Gives the timers that are due at the moment or before it, in order: by due, then tenant, then key. It looks at no
+    /// other timer but the first that is due later. They stay until they are set anew or cancelled, as what they are for
+    /// is done.
     ///
     /// # Errors
-    /// Out of memory. Timers that are due may be gone then; the later ones stay.
+    /// Out of memory. Nothing changes.
     pub fn due(&mut self, alloc: Global, now: Moment) -> Result<Vec<Timer>, AllocError>
-        ensures taken { IfOk result (λ taken. taken.items ≡ due_at now self.old.timers) }
-        ensures order { IfOk result (λ taken. IsStrictlySortedBy timer_cmp taken.items) }
-        ensures left { OnOk result (self.new.timers ≡ later_than now self.old.timers) }
+        ensures given { IfOk result (λ given. given.items ≡ due_at now self.old.timers) }
+        ensures order { IfOk result (λ given. IsStrictlySortedBy timer_cmp given.items) }
         // For each tenant it is what a queue gives that this tenant alone uses.
-        ensures each { IfOk result (λ taken. (t : List ℕ) → timers_of t taken.items ≡ due_at now (timers_of t self.old.timers)) }
-        ensures each_left { OnOk result ((t : List ℕ) → timers_of t self.new.timers ≡ later_than now (timers_of t self.old.timers)) }
-        ensures looked { IfOk result (λ taken. self.new.looked ≡ length taken.items + min 1 (length self.new.timers)) }
-        ensures err { OnErr result (later_than now self.new.timers ≡ later_than now self.old.timers) }
+        ensures each { IfOk result (λ given. (t : List ℕ) → timers_of t given.items ≡ due_at now (timers_of t self.old.timers)) }
+        ensures stay { self.new.timers ≡ self.old.timers }
+        ensures looked { IfOk result (λ given. self.new.looked ≡ length given.items + min 1 (length self.old.timers - length given.items)) }
         ensures err_looked { OnErr result (self.new.looked ≡ self.old.looked) }
     {
-        let taken = take_due(alloc, &mut self.by_due, &mut self.dues, now)?;
-        self.looked = taken.len() + self.by_due.len().min(1);
-        Ok(taken)
+        let due = first_due(alloc, &self.by_due, now)?;
+        self.looked = due.len() + self.by_due.len().saturating_sub(due.len()).min(1);
+        Ok(due)
     }
 
-    /// How many timers the last call of [`TimerQueue::due`] that gave timers looked at: those that it took out, and the
-    /// first of those that it left. 0 before the first call.
+    /// How many timers the last call of [`TimerQueue::due`] that gave timers looked at: those that it gave, and the
+    /// first of those that are due later. 0 before the first call.
     pub fn looked(&self) -> usize
         ensures { result ≡ self.now.looked }
     {
@@ -130,44 +129,19 @@ fn leave(by_due: &mut BTreeSet<Timer>, dues: &mut BTreeMap<TimerName, Moment>, t
     dues.retain(|name, _| name.tenant != *tenant);
 }
 
-// Takes the first timer out of both maps, where it is due.
-fn take_first(
-    by_due: &mut BTreeSet<Timer>,
-    dues: &mut BTreeMap<TimerName, Moment>,
-    now: Moment,
-) -> Option<Timer>
-    requires tied { IsTied by_due.old.keys dues.old.entries }
-    ensures none { IfNone result ((by_due.new.keys ≡ by_due.old.keys) × (due_at now by_due.old.keys ≡ [])) }
-    ensures first { IfSome result (λ timer. by_due.old.keys ≡ timer ∷ by_due.new.keys) }
-    ensures due { IfSome result (λ timer. is_due now timer ≡ true) }
-    ensures tied { IsTied by_due.new.keys dues.new.entries }
+// The timers that are due, in their order.
+fn first_due(alloc: Global, by_due: &BTreeSet<Timer>, now: Moment) -> Result<Vec<Timer>, AllocError>
+    requires { IsStrictlySortedBy timer_cmp by_due.now.keys }
+    ensures { IfOk result (λ due. due.items ≡ due_at now by_due.now.keys) }
 {
-    if by_due.first()?.due > now {
-        return None;
+    let mut due = Vec::new(alloc);
+    for timer in by_due {
+        if timer.due > now {
+            break;
+        }
+        due.push(timer.copy(alloc)?)?;
     }
-    let timer = by_due.pop_first()?;
-    dues.remove(&timer.name);
-    Some(timer)
-}
-
-// Takes the timers that are due out of both maps, in their order.
-fn take_due(
-    alloc: Global,
-    by_due: &mut BTreeSet<Timer>,
-    dues: &mut BTreeMap<TimerName, Moment>,
-    now: Moment,
-) -> Result<Vec<Timer>, AllocError>
-    requires tied { IsTied by_due.old.keys dues.old.entries }
-    ensures taken { IfOk result (λ taken. taken.items ≡ due_at now by_due.old.keys) }
-    ensures left { OnOk result (by_due.new.keys ≡ later_than now by_due.old.keys) }
-    ensures err { OnErr result (later_than now by_due.new.keys ≡ later_than now by_due.old.keys) }
-    ensures tied { IsTied by_due.new.keys dues.new.entries }
-{
-    let mut taken = Vec::new(alloc);
-    while let Some(timer) = take_first(by_due, dues, now) {
-        taken.push(timer)?;
-    }
-    Ok(taken)
+    Ok(due)
 }
 
 // Takes the timer of this name out of both maps.

@@ -58,9 +58,12 @@ fn order(rt: HostRuntime) -> Result<(), Fail> {
     }
     queue.set(alloc, timer("a", 11, TimerKey::Retry(7))?)?;
     let now = Moment::from_milliseconds(10).ok_or("no moment")?;
-    let taken = queue.due(alloc, now)?;
-    assert!(rt; taken == in_order(alloc)?);
+    let due = queue.due(alloc, now)?;
+    assert!(rt; due == in_order(alloc)?);
     assert_eq!(rt; queue.looked(), 11);
+    for timer in due {
+        queue.cancel(&timer.name);
+    }
     assert!(rt; queue.due(alloc, now)?.is_empty());
     assert_eq!(rt; queue.looked(), 1);
     Ok(())
@@ -77,9 +80,9 @@ fn set_and_cancel(rt: HostRuntime) -> Result<(), Fail> {
     queue.cancel(&name);
     queue.cancel(&name);
     assert!(rt; queue.drop_tenant(&TenantName::read(b"c")?).is_ok());
-    let taken = queue.due(alloc, Moment::greatest())?;
-    assert_eq!(rt; taken.len(), 1);
-    assert!(rt; taken[0] == timer("a", 5, TimerKey::Retry(1))?);
+    let due = queue.due(alloc, Moment::greatest())?;
+    assert_eq!(rt; due.len(), 1);
+    assert!(rt; due[0] == timer("a", 5, TimerKey::Retry(1))?);
     assert_eq!(rt; queue.looked(), 1);
     Ok(())
 }

@@ -34,3 +34,15 @@ pub struct Timer {
     /// Whose it is, and what it is for.
     pub name: TimerName,
 }
+
+impl Timer {
+    /// A copy of the timer.
+    pub fn copy(&self, alloc: Global) -> Result<Timer, AllocError>
+        ensures { IfOk result (λ timer. timer ≡ self.now) }
+    {
+        Ok(Timer {
+            due: self.due,
+            name: self.name.copy(alloc)?,
+        })
+    }
+}

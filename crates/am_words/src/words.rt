@@ -196,6 +196,14 @@ mod tests {
             ([0; 32], "b", 1, 1, "83622ebf-1980-4dd3-8657-3f1f395967ca"),
             (key, "a", 1, 7, "a0383a3a-58a4-4049-9c13-e72c09ef91c6"),
             (key, "a", 2, 7, "80ff640d-0233-4e29-b4fc-1093590d1551"),
+            // Key and name are the 56 bytes of FIPS 180-4's example of two blocks.
+            (
+                *b"abcdbcdecdefdefgefghfghighijhijk",
+                "ijkljklmklmnlmnomnopnopq",
+                1,
+                1,
+                "d390907d-3d3b-4194-b5d4-1db818e54b41",
+            ),
         ] {
             let id = words(&service_key, tenant, instance, incarnation)?.draw_id(&held)?;
             assert_eq!(rt; print_id(&id, &mut [0; ID_LENGTH]), want);

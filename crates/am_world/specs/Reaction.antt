@@ -21,7 +21,8 @@ use Rattle.am_limit.specs.declared.limits.Limits.{Limits}
 use Rattle.am_current.specs.Current.{configuration_in}
 use Rattle.am_words.specs.Words.{generator_of}
 use Rattle.am_query.specs.Patterns.{HasRefused}
-use Rattle.am_listing.specs.Failing.{HasUnanswered, patterns_in_use}
+use Rattle.am_muting.specs.Failing.{HasUnanswered}
+use Rattle.am_listing.specs.Failing.{patterns_in_use}
 use Rattle.am_api.specs.Replied.{Decision}
 use Rattle.am_api.specs.Decision.{decided}
 use Rattle.am_api.specs.Deciding.{IsUnbuilt}

@@ -1,50 +1,58 @@
-use Rattle.std.proofs.Common.{◌≡◌, ◌∙◌, ◌+◌, ◌<◌, ℕ, [], List, Bor, ap, get_or, length, map, sym, arith}
-use Rattle.std.proofs.lemmas.List.{get_or-map, length_push}
-use Rattle.std.proofs.lemmas.List.Elements.{All-push}
+use Rattle.std.proofs.Common.{◌≡◌, ◌∙◌, ℕ, [], Bor, Global, List, Vec, ap, get_or, map, refl, sym, arith}
+use Rattle.std.specs.BTreeMap.{get}
+use Rattle.std.specs.Option.{unwrap_or}
+use Rattle.std.proofs.lemmas.List.{get_or-map, length-map}
+use Rattle.am_labels.specs.declared.Label.{Label}
 use Rattle.am_labels.specs.declared.label_set.LabelSet.{LabelSet}
-use Rattle.am_inhibit.specs.Alike.{key_of}
-use Rattle.am_inhibit.proofs.ClassLemmas.{classes_are, first_fits, firsts_past, firsts_put, known_past, known_put}
-use Rattle.am_inhibit.proofs.classes.classes_of.Goals.{then-flags-place+in_ok-of+in_ok-class, else-flags-place}
+use Rattle.am_inhibit.specs.Alike.{key_of, keys_cmp}
+use Rattle.am_inhibit.proofs.ClassLemmas.{held_all, held_none, held_past, held_put, number_fits}
+use Rattle.am_inhibit.proofs.classes.classes_of.Goals.{then-flags-place+in_ok-of+in_ok-number+in_ok-put, else-flags-place}
 use Rattle.am_inhibit.proofs.classes.classes_of.Goals as goal
+
+pub loop-place-init : goal.loop-place-init
+loop-place-init c =
+    rw c.new-lists.ensures.items
+    (held_none c.args.names.now (map (λ (set : Bor LabelSet). set.now) c.args.sets.now) c.args.flags.now c.new-numbers.result
+    (λ key. rw c.new-numbers.ensures.empty refl))
+
+pub put-requires : goal.put-requires
+put-requires c =
+    let view : Vec ℕ Global → List ℕ = λ list. list.items in
+    let lists = c.loop-place.lists.items in
+    let long = length-map lists view in
+    let fits = number_fits c.loop-place.numbers (map view lists) c.in_ok-of.field-0 c.in_ok-number.number
+    (c.in_ok-number.ensures.number ∙ ap (unwrap_or (get keys_cmp c.loop-place.numbers c.in_ok-of.field-0)) (c.len.ensures ∙ c.loop-place.lists.ok.0 ∙ sym long)) c.loop-place.invariant.within in
+    omega (arith, fits, long)
 
 pub loop-place-preserved : goal.loop-place-preserved
 loop-place-preserved c =
-    let sets = c.args.sets.now in
+    let names = c.args.names.now in
+    let view : Bor LabelSet → List Label = λ set. set.now in
+    let sets = map view c.args.sets.now in
     let place = c.loop-place.place in
     let set = c.index-sets-place.result in
-    let view : Bor LabelSet → List (List ℕ) = λ one. key_of c.args.names.now one.now in
-    let keys = map view sets in
-    let at : get_or keys place [] ≡ view set = get_or-map view sets place set [] c.loop-place-test.true ∙ ap view (sym c.index-sets-place.is) in
-    let so_far = c.loop-place.invariant in
-    let fits : c.if-flags-place.class < length sets = elim c.if-flags-place.branch [
-      | then-flags-place+in_ok-of+in_ok-class w ↦
-          let first = first_fits keys place w.in_ok-of.field-0 (at ∙ sym w.in_ok-of.ensures) c.loop-place.firsts w.first_of.new.firsts w.in_ok-class.class
-          w.in_ok-class.ensures.first w.in_ok-class.ensures.kept so_far.firsts in
-          omega (arith, w.class-is, first.0, c.loop-place-test.true)
-      | else-flags-place w ↦ omega (arith, w.class-is, c.loop-place-test.true)
-    ] in
-    record {
-      each = ap length c.in_ok-push.ensures.items ∙ length_push c.loop-place.classes.items c.if-flags-place.class ∙ ap (λ n. n + 1) so_far.each;
-      within = rw c.in_ok-push.ensures.items (All-push (λ class. class < length sets) c.loop-place.classes.items c.if-flags-place.class so_far.within fits);
-      firsts = elim c.if-flags-place.branch [
-        | then-flags-place+in_ok-of+in_ok-class w ↦
-            rw w.firsts-is
-            (firsts_put keys place w.in_ok-of.field-0 (at ∙ sym w.in_ok-of.ensures) c.loop-place.firsts w.first_of.new.firsts w.in_ok-class.class
-            w.in_ok-class.ensures.first w.in_ok-class.ensures.kept so_far.firsts)
-        | else-flags-place w ↦ rw w.firsts-is (firsts_past keys place c.loop-place.firsts so_far.firsts)
-      ];
-      known = elim c.if-flags-place.branch [
-        | then-flags-place+in_ok-of+in_ok-class w ↦
-            rw (c.in_ok-push.ensures.items, w.class-is, w.firsts-is)
-            (known_put keys place w.in_ok-of.field-0 (at ∙ sym w.in_ok-of.ensures) c.loop-place.firsts w.first_of.new.firsts w.in_ok-class.class
-            w.in_ok-class.ensures.first w.in_ok-class.ensures.kept c.args.flags.now c.loop-place.classes.items so_far.each so_far.known)
-        | else-flags-place w ↦
-            rw (c.in_ok-push.ensures.items, w.firsts-is)
-            (known_past keys c.args.flags.now place c.loop-place.classes.items c.if-flags-place.class c.loop-place.firsts so_far.each w.if-flags-place.false so_far.known)
-      ];
-    }
+    let at : key_of names (get_or sets place []) ≡ key_of names set.now =
+    ap (key_of names) (get_or-map view c.args.sets.now place set [] c.loop-place-test.true ∙ ap view (sym c.index-sets-place.is)) in
+    let items : Vec ℕ Global → List ℕ = λ list. list.items in
+    let lists = c.loop-place.lists.items in
+    elim c.if-flags-place.branch [
+      | then-flags-place+in_ok-of+in_ok-number+in_ok-put w ↦
+          rw (w.numbers-is, w.lists-is, w.in_ok-put.ensures)
+          (held_put names sets c.args.flags.now place c.loop-place.numbers w.number_of.new.numbers (map items lists) w.in_ok-of.field-0 w.in_ok-number.number
+          w.if-flags-place.true (w.in_ok-of.ensures ∙ sym at)
+          (w.in_ok-number.ensures.number ∙ ap (unwrap_or (get keys_cmp c.loop-place.numbers w.in_ok-of.field-0)) (w.len.ensures ∙ c.loop-place.lists.ok.0 ∙ sym (length-map lists items)))
+          w.in_ok-number.ensures.kept c.loop-place.invariant)
+      | else-flags-place w ↦
+          rw (w.numbers-is, w.lists-is)
+          (held_past names sets c.args.flags.now place c.loop-place.numbers (map items lists) w.if-flags-place.false c.loop-place.invariant)
+    ]
 
-pub returns-clause-alike : goal.returns-clause-alike
-returns-clause-alike c =
-    classes_are (λ (one : Bor LabelSet). one.now) c.args.names.now c.args.sets.now c.args.flags.now c.loop-place.place c.loop-place.classes.items c.loop-place.firsts
-    c.loop-place-test.false c.loop-place.invariant.firsts c.loop-place.invariant.known
+pub returns : goal.returns
+returns c =
+    let names = c.args.names.now in
+    let view : Bor LabelSet → List Label = λ set. set.now in
+    let sets = map view c.args.sets.now in
+    let long = length-map c.args.sets.now view in
+    rw c.in_ok-lists.ensures
+    (held_all names sets c.args.flags.now c.loop-place.place c.loop-place.numbers (map (λ (list : Vec ℕ Global). list.items) c.loop-place.lists.items)
+    (omega (arith, c.loop-place-test.false, c.loop-place.auto.place-end, long)) c.loop-place.invariant)

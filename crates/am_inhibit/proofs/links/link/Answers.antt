@@ -1,53 +1,75 @@
-use Rattle.std.proofs.Common.{◌≡◌, ◌∙◌, ◌++◌, ◌∷◌, ◌<◌, ◌==◌, ◌&&◌, ℕ, [], false, Global, List, Vec, ap, cond, get_or, length, map, not, subst, arith}
+use Rattle.std.proofs.Common.{◌≡◌, ◌∙◌, ◌++◌, ◌∷◌, ◌<◌, ◌==◌, ℕ, [], Bor, Global, List, Vec, ap, cond, get_or, length, map, subst, sym, arith}
 use Rattle.std.specs.Rc.{rc_slice_items}
 use Rattle.std.specs.declared.rc.RcSlice.{RcSlice}
-use Rattle.std.proofs.lemmas.List.{length-map}
+use Rattle.std.proofs.lemmas.List.{get_or-map, length-map}
+use Rattle.am_labels.specs.declared.Label.{Label}
+use Rattle.am_labels.specs.declared.label_set.LabelSet.{LabelSet}
+use Rattle.am_inhibit.specs.Alike.{key_of}
+use Rattle.am_inhibit.specs.Classes.{list_of_key, places_of_key}
 use Rattle.am_inhibit.specs.Links.{lists_of}
-use Rattle.am_inhibit.proofs.LinkLemmas.{AreExtended, extended_more, extended_none, linked, list_there, lists_long, places_stay}
+use Rattle.am_inhibit.proofs.LinkLemmas.{AreExtended, comes_to, extended_more, extended_on, extended_past, linked, places_stay}
+use Rattle.am_inhibit.proofs.links.link.Goals.{then-targets-place+in_ok-key+in_ok-add_to, else-targets-place}
 use Rattle.am_inhibit.proofs.links.link.Goals as goal
 
-pub loop-place-init : goal.loop-place-init
-loop-place-init c = extended_none c.args.classes.now c.args.sources.now c.args.targets.now (lists_of c.args.links.now.items)
-
-pub index-requires : goal.index-requires
-index-requires c =
-    let long = lists_long c.args.classes.now c.args.sources.now c.in_ok-lists.lists.items (c.in_ok-lists.ensures ∙ c.in_ok-sources_by_class.ensures) in
-    let fits = c.requires.within c.loop-place.place 0 c.loop-place-test.true in
-    omega (arith, long, fits, c.in_ok-lists.lists.ok.0)
+pub add_to-requires-clause-within : goal.add_to-requires-clause-within
+add_to-requires-clause-within c = λ number at.
+    let below = c.in_ok-classes.ensures.within c.in_ok-key.key number at in
+    omega (arith, below, length-map c.in_ok-classes.classes.lists.items rc_slice_items)
 
 pub loop-place-preserved : goal.loop-place-preserved
 loop-place-preserved c =
-    let classes = c.args.classes.now in
+    let names = c.args.names.now in
+    let view : Bor LabelSet → List Label = λ set. set.now in
+    let sets = map view c.args.sets.now in
+    let sources = c.args.sources.now in
+    let targets = c.args.targets.now in
+    let old = lists_of c.args.links.now.items in
     let place = c.loop-place.place in
-    let list = c.index.result.now in
-    let before = c.index_mut.result.now in
+    let set = c.index-sets-place.result in
     let links = c.loop-place.links.items in
-    let fits = c.requires.within place 0 c.loop-place-test.true in
-    let there = list_there classes c.args.sources.now c.in_ok-lists.lists.items (get_or classes place 0) list fits c.index.ensures
-    (c.in_ok-lists.ensures ∙ c.in_ok-sources_by_class.ensures) in
-    let view : Vec (RcSlice ℕ Global) Global → List (List ℕ) = λ held. map rc_slice_items held.items in
+    let classes = c.in_ok-classes.classes in
+    let held : Vec (RcSlice ℕ Global) Global → List (List ℕ) = λ lists. map rc_slice_items lists.items in
     let within : place < length links =
-    omega (arith, c.loop-place.invariant.long, length-map links view, length-map c.args.links.now.items view, c.requires.links, c.loop-place-test.true) in
-    extended_more classes c.args.sources.now c.args.targets.now place (lists_of c.args.links.now.items) links before c.add_where.new.lists within
-    c.index_mut.ensures.value
-    (c.in_ok-add_where.ensures
-    ∙ ap (λ (held : List ℕ). cond (get_or c.args.targets.now place false && not (length held == 0)) (view before ++ held ∷ []) (view before)) there)
-    c.loop-place.invariant
+    omega (arith, c.loop-place.invariant.long, length-map links held, length-map c.args.links.now.items held, c.requires.links, c.loop-place-test.true) in
+    let at : key_of names set.now ≡ key_of names (get_or sets place []) =
+    ap (key_of names) (sym (get_or-map view c.args.sets.now place set [] c.loop-place-test.true ∙ ap view (sym c.index-sets-place.is))) in
+    elim c.if-targets-place.branch [
+      | then-targets-place+in_ok-key+in_ok-add_to w ↦
+          let before = w.index_mut.result.now in
+          let listed : list_of_key classes.numbers (map rc_slice_items classes.lists.items) w.in_ok-key.key ≡ comes_to names sets sources targets place =
+          c.in_ok-classes.ensures.listed w.in_ok-key.key ∙ ap (places_of_key names sets sources) (w.in_ok-key.ensures ∙ at) in
+          rw w.links-is
+          (extended_more names sets sources targets place old links before w.add_to.new.lists within w.index_mut.ensures.value
+          (w.in_ok-add_to.ensures
+          ∙ ap (λ (list : List ℕ). cond (length list == 0) (held before) (held before ++ list ∷ [])) listed
+          ∙ extended_on names sets sources targets place (held before) w.if-targets-place.true)
+          c.loop-place.invariant)
+      | else-targets-place w ↦
+          rw w.links-is (extended_past names sets sources targets place old links w.if-targets-place.false c.loop-place.invariant)
+    ]
 
 pub returns-clause-linked : goal.returns-clause-linked
 returns-clause-linked c =
+    let names = c.args.names.now in
+    let view : Bor LabelSet → List Label = λ set. set.now in
+    let sets = map view c.args.sets.now in
     let old = lists_of c.args.links.now.items in
     let new = lists_of c.loop-place.links.items in
-    let end : c.loop-place.place ≡ length c.args.classes.now = omega (arith, c.loop-place-test.false, c.loop-place.auto.place-end) in
-    linked c.args.classes.now c.args.sources.now c.args.targets.now old new
-    (subst (λ n. AreExtended c.args.classes.now c.args.sources.now c.args.targets.now n old new) end c.loop-place.invariant)
+    let end : c.loop-place.place ≡ length sets =
+    omega (arith, c.loop-place-test.false, c.loop-place.auto.place-end, length-map c.args.sets.now view) in
+    linked names sets c.args.sources.now c.args.targets.now old new
+    (subst (λ n. AreExtended names sets c.args.sources.now c.args.targets.now n old new) end c.loop-place.invariant)
 
 pub returns-clause-places : goal.returns-clause-places
 returns-clause-places c = λ count sound fine.
+    let names = c.args.names.now in
+    let view : Bor LabelSet → List Label = λ set. set.now in
+    let sets = map view c.args.sets.now in
+    let held : Vec (RcSlice ℕ Global) Global → List (List ℕ) = λ lists. map rc_slice_items lists.items in
     let old = lists_of c.args.links.now.items in
     let new = lists_of c.loop-place.links.items in
-    let end : c.loop-place.place ≡ length c.args.classes.now = omega (arith, c.loop-place-test.false, c.loop-place.auto.place-end) in
-    let view : Vec (RcSlice ℕ Global) Global → List (List ℕ) = λ held. map rc_slice_items held.items in
-    places_stay c.args.classes.now c.args.sources.now c.args.targets.now count sound old new
-    (length-map c.args.links.now.items view ∙ c.requires.links)
-    (subst (λ n. AreExtended c.args.classes.now c.args.sources.now c.args.targets.now n old new) end c.loop-place.invariant) fine
+    let long = length-map c.args.sets.now view in
+    let end : c.loop-place.place ≡ length sets = omega (arith, c.loop-place-test.false, c.loop-place.auto.place-end, long) in
+    places_stay names sets c.args.sources.now c.args.targets.now count sound old new
+    (length-map c.args.links.now.items held ∙ c.requires.links ∙ sym long)
+    (subst (λ n. AreExtended names sets c.args.sources.now c.args.targets.now n old new) end c.loop-place.invariant) fine

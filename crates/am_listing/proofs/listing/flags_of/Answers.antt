@@ -1,4 +1,5 @@
-use Rattle.am_listing.proofs.Failures.{refused_pattern, unanswered_matcher}
+use Rattle.am_muting.proofs.Failures.{unanswered_matcher}
+use Rattle.am_listing.proofs.Failures.{refused_pattern}
 use Rattle.am_listing.proofs.listing.flags_of.Goals as goal
 
 pub returns-in-Err-Refused-clause-failure : goal.returns-in-Err-Refused-clause-failure

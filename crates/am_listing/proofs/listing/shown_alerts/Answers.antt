@@ -1,7 +1,6 @@
 use Rattle.std.proofs.Common.{ap, map, ◌∙◌}
 use Rattle.std.proofs.lemmas.List.Elements.{Contains-append_left, Contains-append_right}
 use Rattle.std.proofs.lemmas.Result.{IfErr-weaker, IfOk-weaker, err_from_is_err_and}
-use Rattle.am_query.specs.Patterns.{patterns_asked}
 use Rattle.am_listing.specs.Failing.{patterns_in_use}
 use Rattle.am_listing.specs.Listed.{routed}
 use Rattle.am_listing.proofs.Failures.{unanswered_among}
@@ -12,22 +11,13 @@ pub returns-in_err-passed-clause-failure : goal.returns-in_err-passed-clause-fai
 returns-in_err-passed-clause-failure c =
     let p = err_from_is_err_and c.from_residual.result c.from_residual.ensures.1 in
     rw (p.1, p.2)
-    (unanswered_among _ _ _ _ _ _ (λ text there. Contains-append_left _ _ text there) (λ text there. Contains-append_right _ _ text there)
-    c.in_err-passed.ensures.failure)
-
-pub returns-in_err-routed-clause-failure : goal.returns-in_err-routed-clause-failure
-returns-in_err-routed-clause-failure c =
-    let p = err_from_is_err_and c.from_residual-in_err-routed.result c.from_residual-in_err-routed.ensures.1 in
-    rw (p.1, p.2)
-    (unanswered_among _ _ _ _ _ _ (λ text there. there) (λ text there. Contains-append_left _ _ text there)
-    (c.in_err-routed.ensures.failure (patterns_asked c.args.query.now)))
+    (unanswered_among _ _ _ _ _ _ (λ text there. Contains-append_left _ _ text there) (λ text there. there) c.in_err-passed.ensures.failure)
 
 pub returns-clause-shown : goal.returns-clause-shown
 returns-clause-shown c =
     IfOk-weaker c.asked_alerts.result _ _
     (λ v is. ap (map routed) is
-    ∙ shown_are c.args.config.now c.args.query.now c.args.moment c.args.held.now c.in_ok-passed.passed.items c.in_ok-routed.routed.items
-    c.in_ok-passed.ensures.passed c.in_ok-routed.ensures.routed)
+    ∙ shown_are c.args.config.now c.args.query.now c.args.moment c.args.held.now c.in_ok-passed.passed.items c.in_ok-passed.ensures.passed)
     c.asked_alerts.ensures.shown
 
 pub returns-clause-failure : goal.returns-clause-failure

@@ -1,5 +1,5 @@
 use Rattle.am_route.specs.Asked.{route_matchers}
-use Rattle.am_listing.proofs.Failures.{unanswered_matcher}
+use Rattle.am_muting.proofs.Failures.{unanswered_matcher}
 use Rattle.am_listing.proofs.receivers.routes_of_sets.Goals as goal
 
 pub returns-in-Err-Refused-clause-failure : goal.returns-in-Err-Refused-clause-failure

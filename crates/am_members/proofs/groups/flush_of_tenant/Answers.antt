@@ -1,13 +1,11 @@
-use Rattle.std.proofs.Common.{◌∙◌, IsSome, Some, cond, refl, sym}
+use Rattle.std.proofs.Common.{IsSome, refl, sym}
 use Rattle.std.specs.BTreeMap as tree
 use Rattle.std.specs.Cmp.Lexicographic.{slice_cmp}
 use Rattle.std.specs.Ordering.{nat_cmp}
 use Rattle.std.proofs.lemmas.Bool.{true≢false}
 use Rattle.std.proofs.lemmas.Result.{on_err_weaker, on_ok_weaker}
-use Rattle.am_tenant.specs.Names.{same}
-use Rattle.am_members.specs.Grouped.{flush_of, grouped_of}
-use Rattle.am_members.specs.Names.{is_group}
-use Rattle.am_members.proofs.Tenants.{both, grouped_none, grouped_there, part_changed, part_kept}
+use Rattle.am_members.specs.Grouped.{flushed_at}
+use Rattle.am_members.proofs.Tenants.{grouped_none, grouped_there, part_changed, part_kept}
 use Rattle.am_members.proofs.groups.flush_of_tenant.Goals as goal
 
 pub flush_at-requires : goal.flush_at-requires
@@ -21,10 +19,7 @@ returns-in-Some-clause-flushes c =
     let now = c.flush_at.new.self in
     let there : IsSome (tree.get (slice_cmp nat_cmp) m own) = rw (← c.in-Some.ensures.value) refl in
     on_ok_weaker c.flush_at.result
-    (λ flushed t q.
-    part_changed m (c.get_mut.follows.lender now) own (λ x. flush_of q x.flushes) (λ x. cond (is_group q c.args.group.now) (Some c.args.moment) (flush_of q x.flushes)) was now
-    ((c.get_mut.follows.holds now).3 there) (sym (grouped_there own m.entries was c.in-Some.ensures.value)) (flushed q) t
-    ∙ both (same t own) (is_group q c.args.group.now) (Some c.args.moment) (flush_of q (grouped_of t m.entries).flushes))
+    (λ flushed. part_changed m (c.get_mut.follows.lender now) own (λ x. x.flushes) (flushed_at c.args.group.now c.args.moment) was now ((c.get_mut.follows.holds now).3 there) (sym (grouped_there own m.entries was c.in-Some.ensures.value)) flushed)
     c.flush_at.ensures.flushes
 
 pub returns-in-Some-clause-alerts : goal.returns-in-Some-clause-alerts

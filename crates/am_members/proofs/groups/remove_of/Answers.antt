@@ -1,12 +1,11 @@
-use Rattle.std.proofs.Common.{◌∙◌, IsSome, None, ap, cond, refl, sym}
+use Rattle.std.proofs.Common.{◌∙◌, IsSome, ap, refl, sym}
 use Rattle.std.specs.BTreeMap as tree
 use Rattle.std.specs.Cmp.Lexicographic.{slice_cmp}
 use Rattle.std.specs.Map.{lookup}
 use Rattle.std.specs.Ordering.{nat_cmp}
-use Rattle.am_tenant.specs.Names.{same}
-use Rattle.am_members.specs.Grouped.{Grouped, flush_of, grouped_of, lost}
+use Rattle.am_members.specs.Grouped.{Grouped, kept_after}
 use Rattle.am_members.specs.Names.{is_set, without}
-use Rattle.am_members.proofs.Tenants.{both, grouped_none, grouped_there, part_changed, part_missed}
+use Rattle.am_members.proofs.Tenants.{grouped_none, grouped_there, part_changed, part_missed}
 use Rattle.am_members.proofs.groups.remove_of.Goals as goal
 
 pub returns-in-Some-clause-known : goal.returns-in-Some-clause-known
@@ -22,17 +21,13 @@ returns-in-Some-clause-alerts c =
     ((c.get_mut.follows.holds now).3 there) (sym (grouped_there t m.entries c.in-Some.index.now c.in-Some.ensures.value)) c.remove.ensures.alerts
 
 pub returns-in-Some-clause-flushes : goal.returns-in-Some-clause-flushes
-returns-in-Some-clause-flushes c t q =
+returns-in-Some-clause-flushes c =
     let m = c.args.tenants.now in
     let own = c.args.tenant.now in
-    let l = c.args.labels.now in
-    let was = c.in-Some.index.now in
     let now = c.remove.new.self in
     let there : IsSome (tree.get (slice_cmp nat_cmp) m own) = rw (← c.in-Some.ensures.value) refl in
-    part_changed m (c.get_mut.follows.lender now) own (λ x. flush_of q x.flushes) (λ x. cond (lost q x.alerts (without l x.alerts)) None (flush_of q x.flushes)) was now
-    ((c.get_mut.follows.holds now).3 there) (sym (grouped_there own m.entries was c.in-Some.ensures.value))
-    (c.remove.ensures.flushes q ∙ ap (λ zs. cond (lost q was.alerts zs) None (flush_of q was.flushes)) c.remove.ensures.alerts) t
-    ∙ both (same t own) (lost q (grouped_of t m.entries).alerts (without l (grouped_of t m.entries).alerts)) None (flush_of q (grouped_of t m.entries).flushes)
+    part_changed m (c.get_mut.follows.lender now) own (λ x. x.flushes) (kept_after c.args.labels.now) c.in-Some.index.now now
+    ((c.get_mut.follows.holds now).3 there) (sym (grouped_there own m.entries c.in-Some.index.now c.in-Some.ensures.value)) c.remove.ensures.flushes
 
 pub returns-in-None-clause-known : goal.returns-in-None-clause-known
 returns-in-None-clause-known c = ap (λ (x : Grouped). lookup (is_set c.args.labels.now) x.alerts) (sym (grouped_none c.args.tenant.now c.args.tenants.now.entries c.in-None.ensures.value))
@@ -42,9 +37,5 @@ returns-in-None-clause-alerts c t =
     rw c.get_mut.follows.holds-at-none (part_missed (λ x. x.alerts) (λ x. without c.args.labels.now x.alerts) c.args.tenants.now.entries c.args.tenant.now c.in-None.ensures.value refl t)
 
 pub returns-in-None-clause-flushes : goal.returns-in-None-clause-flushes
-returns-in-None-clause-flushes c t q =
-    let es = c.args.tenants.now.entries in
-    let l = c.args.labels.now in
-    rw c.get_mut.follows.holds-at-none
-    (part_missed (λ x. flush_of q x.flushes) (λ x. cond (lost q x.alerts (without l x.alerts)) None (flush_of q x.flushes)) es c.args.tenant.now c.in-None.ensures.value refl t
-    ∙ both (same t c.args.tenant.now) (lost q (grouped_of t es).alerts (without l (grouped_of t es).alerts)) None (flush_of q (grouped_of t es).flushes))
+returns-in-None-clause-flushes c t =
+    rw c.get_mut.follows.holds-at-none (part_missed (λ x. x.flushes) (kept_after c.args.labels.now) c.args.tenants.now.entries c.args.tenant.now c.in-None.ensures.value refl t)

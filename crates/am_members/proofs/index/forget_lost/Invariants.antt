@@ -1,10 +1,9 @@
-use Rattle.std.proofs.Common.{◌≡◌, ◌&&◌, None, cond, take}
-use Rattle.std.specs.List.{list_any}
-use Rattle.am_members.specs.declared.group.Group.{Group}
-use Rattle.am_members.specs.Grouped.{flush_of, held_at}
+use Rattle.std.proofs.Common.{◌≡◌, ◌&&◌, not, take}
+use Rattle.std.specs.List.{filter, list_any}
+use Rattle.am_members.specs.Grouped.{held_at}
 use Rattle.am_members.specs.Members.{is_bare}
 use Rattle.am_members.specs.Names.{is_group}
 use Rattle.am_members.proofs.index.forget_lost.Given as goal
 
 abbrev pub invariant-loop-group : goal.invariant-loop-group
-invariant-loop-group l = (q : Group) → flush_of q l.flushes.entries ≡ cond (list_any (is_group q) (take l.group-index l.left) && is_bare (held_at q l.groups.entries)) None (flush_of q l.fn.flushes.entries)
+invariant-loop-group l = l.flushes.entries ≡ filter (λ e. not (list_any (is_group e.0) (take l.group-index l.left) && is_bare (held_at e.0 l.groups.entries))) l.fn.flushes.entries

@@ -2,7 +2,7 @@ use Rattle.std.proofs.Common.{◌≡◌, ◌++◌, OnOk, arith}
 use Rattle.std.proofs.lemmas.Grind.{common_steps}
 use Rattle.serde_json.specs.Data.{object}
 use Rattle.am_json.specs.Written.{data_tokens}
-use Rattle.am_payload.proofs.Rising.{labels_members, labels_rising}
+use Rattle.am_json.proofs.Rising.{labels_members, labels_rising}
 use Rattle.am_payload.proofs.key.put_labels.Goals as goal
 
 pub returns-clause-tokens : goal.returns-clause-tokens

@@ -2,7 +2,7 @@ use Rattle.std.proofs.Common.{◌≡◌, ◌++◌, OnOk, arith, map}
 use Rattle.std.proofs.lemmas.Grind.{common_steps}
 use Rattle.serde_json.specs.Data.{object}
 use Rattle.am_json.specs.Written.{member_tokens}
-use Rattle.am_payload.proofs.Rising.{labels_members, labels_rising}
+use Rattle.am_json.proofs.Rising.{labels_members, labels_rising}
 use Rattle.am_payload.proofs.members.pairs_member.Goals as goal
 
 pub returns : goal.returns

@@ -1,7 +1,7 @@
 use Rattle.std.proofs.Common.{◌≡◌, ◌++◌, drop, map}
 use Rattle.serde_json.specs.Data.{object}
 use Rattle.am_json.specs.Written.{member_tokens, members_tokens}
-use Rattle.am_payload.proofs.Rising.{labels_members}
+use Rattle.am_json.proofs.Rising.{labels_members}
 use Rattle.am_payload.proofs.members.pairs_member.Given as goal
 
 abbrev pub invariant-loop-pair : goal.invariant-loop-pair

@@ -1,5 +1,7 @@
+use Rattle.am_query.specs.Patterns.{patterns_of_query}
 use Rattle.am_query.proofs.QueryLemmas.{asked_of}
 use Rattle.am_query.proofs.query.read_query.Goals as goal
 
 pub returns-clause-patterns : goal.returns-clause-patterns
-returns-clause-patterns c = asked_of _ _ _ c.query_in.ensures.read
+unfolding patterns_of_query
+returns-clause-patterns c = asked_of _ _ _ (rw c.in_ok-parameters.ensures at c.query_of.ensures.read)

@@ -7,7 +7,7 @@ use Rattle.am_store.proofs.rows.push_silences.Goals as goal
 pub loop-row-preserved : goal.loop-row-preserved
 loop-row-preserved c =
     let row = c.row-item.result in
-    let read = c.in_ok-item.ensures in (
+    let read = c.in_ok-item.ensures.reads in (
       (λ rose. c.in_ok-push.ensures.rising (c.loop-row.invariant.0 rose)),
       ap stored_items c.in_ok-push.ensures.items
           ∙ pushed c.loop-row.items.items c.in_ok-item.item (silence_in row).1 read.item_is

@@ -4,7 +4,7 @@ use Rattle.am_store.specs.Rows.{IsStore}
 use Rattle.am_store.specs.Texts.{select_config_tenants, select_silence_tenants}
 use Rattle.am_store.proofs.Calls.{at_store}
 use Rattle.am_store.proofs.CompiledOpening.{select_config_tenants_plain, select_silence_tenants_plain}
-use Rattle.am_store.proofs.Named.{both_named, configs_named, silences_named}
+use Rattle.am_store.proofs.Named.{both_named, configs_all_named, configs_named, silences_all_named, silences_named}
 use Rattle.am_store.proofs.Resting.{rests_then}
 use Rattle.am_store.proofs.tenants.named.Goals as goal
 
@@ -44,3 +44,14 @@ returns-clause-names g c clean store =
     let same_db = one.0.0.now_is in
     let two = silences_named mid new (subst IsStore (sym same_db) store) c.in_ok-silences.silences.items (c.in_ok-silences.ensures.shown clean) in
     both_named old.now mid.now same_db c.in_ok-configs.configs.items c.in_ok-silences.silences.items one.1 two.1
+
+pub returns-clause-named : goal.returns-clause-named
+returns-clause-named g c clean store =
+    let old = state g.S.Store c.args.conn.now in
+    let mid = state g.S.Store c.rows.new.conn in
+    let new = state g.S.Store c.rows-2.new.conn in
+    let shown = c.in_ok-configs.ensures.shown (c.rows-2.ensures.clean clean) in
+    let same_db = (configs_named old mid store c.in_ok-configs.configs.items shown).0.0.now_is in (
+      configs_all_named old mid store c.in_ok-configs.configs.items shown,
+      silences_all_named mid new (subst IsStore (sym same_db) store) c.in_ok-silences.silences.items (c.in_ok-silences.ensures.shown clean),
+    )

@@ -1,9 +1,9 @@
-use Rattle.std.proofs.Common.{◌≡◌, ◌∙◌, ap, rules}
+use Rattle.std.proofs.Common.{◌≡◌, ◌∙◌, ap, inr, rules}
 use Rattle.std.specs.BTreeMap.Entry.{map_with_value}
 use Rattle.std.specs.Option.{unwrap_or}
-use Rattle.std.proofs.lemmas.Result.{on_ok_weaker}
+use Rattle.std.proofs.lemmas.Result.{on_err_weaker, on_ok_weaker}
 use Rattle.am_members.specs.Grouped.{grouped_of, put_in}
-use Rattle.am_members.proofs.Tenants.{at_error, grouped_or, grouped_same, others_kept, part_changed, part_kept}
+use Rattle.am_members.proofs.Tenants.{at_error, grouped_or, grouped_own, grouped_same, others_kept, part_changed, part_kept}
 use Rattle.am_members.proofs.groups.Groups.put.Goals as goal
 
 pub returns-clause-alerts : goal.returns-clause-alerts
@@ -46,3 +46,14 @@ returns-clause-others c =
     at_error c.put.result
     (λ t other. rw (← c.self.view_is)
     (grouped_same (λ x. x) t _ after.entries _ (others_kept m after own now (entry.update.0 now) t other) (search rules)))
+
+pub returns-clause-err : goal.returns-clause-err
+returns-clause-err c =
+    let entry = c.in_ok-self-inside.ensures in
+    let m = c.self.inside.tenants in
+    let own = c.args.tenant.now in
+    let now = c.put.new.self in
+    let after = map_with_value c.in_ok-self-inside.field-0 now in
+    on_err_weaker c.put.result
+    (λ gone. inr (grouped_same (λ x. x) own _ after.entries _ (grouped_own m after own now _ (entry.update.0 now) gone) (search rules)))
+    c.put.ensures.err

@@ -1,10 +1,18 @@
 use Rattle.std.proofs.Common.{◌≡◌, ◌∙◌, ap, rules}
 use Rattle.std.specs.BTreeMap.Entry.{map_with_value}
 use Rattle.std.specs.Option.{unwrap_or}
-use Rattle.std.proofs.lemmas.Result.{on_err_weaker, on_ok_weaker}
+use Rattle.std.proofs.lemmas.Result.{IfOk-weaker, on_err_weaker, on_ok_weaker}
 use Rattle.am_members.specs.Grouped.{grouped_of}
 use Rattle.am_members.proofs.Tenants.{grouped_or, grouped_same, part_changed, part_kept}
 use Rattle.am_members.proofs.groups.Groups.rebuild.Goals as goal
+
+pub returns-clause-before : goal.returns-clause-before
+returns-clause-before c =
+    let entry = c.in_ok-self-inside.ensures in
+    let m = c.self.inside.tenants in
+    let own = c.args.tenant.now in
+    let found : c.or_insert-index.result.now ≡ grouped_of own m.entries = c.or_insert-index.ensures.value ∙ ap (λ o. unwrap_or o c.new.result) entry.value ∙ grouped_or own m.entries c.new.result c.new.ensures in
+    IfOk-weaker c.rebuild.result _ _ (λ before is. is ∙ ap (λ x. x.alerts) found ∙ ap (λ es. (grouped_of own es).alerts) c.self.view_is) c.rebuild.ensures.before
 
 pub returns-clause-alerts : goal.returns-clause-alerts
 returns-clause-alerts c =

@@ -1,5 +1,6 @@
-use Rattle.std.proofs.Common.{sym, ap, ◌∙◌, refl}
-use Rattle.am_outlet.specs.Attempts.{Desk, number_with, without}
+use Rattle.std.proofs.Common.{◌≡◌, IfSome, sym, ap, ◌∙◌, refl, subst}
+use Rattle.std.specs.Option.{IfNone}
+use Rattle.am_outlet.specs.Attempts.{Desk, number_with, without, without_key, without_number}
 use Rattle.am_outlet.proofs.Seen.{each_none, each_written, no_desk, others_stay, own_desk}
 use Rattle.am_outlet.proofs.attempts.Attempts.drop_key.Goals as goal
 
@@ -22,3 +23,20 @@ returns-clause-each c =
 
 pub returns-clause-others : goal.returns-clause-others
 returns-clause-others c = others_stay c.args.tenant.now _ _ (without c.args.key.now) (returns-clause-each c)
+
+pub returns-clause-one : goal.returns-clause-one
+returns-clause-one c =
+    rw (← c.self.view_is)
+    (subst (λ (d : Desk). IfSome c.drop_key.result (λ number. without_key c.args.key.now d.open_ones ≡ without_number number d.open_ones))
+    (sym (own_desk c.self.inside.desks c.args.tenant.now c.in-Some.desk.now c.self.invariant c.in-Some.ensures.value)) c.drop_key.ensures.one)
+
+pub returns-in_default-clause-none : goal.returns-in_default-clause-none
+returns-in_default-clause-none c =
+    rw (← c.self.view_is)
+    (subst (λ (d : Desk). without_key c.args.key.now d.open_ones ≡ d.open_ones) (sym (no_desk c.self.inside.desks c.args.tenant.now c.self.invariant c.in_default.ensures.value)) refl)
+
+pub returns-clause-none : goal.returns-clause-none
+returns-clause-none c =
+    rw (← c.self.view_is)
+    (subst (λ (d : Desk). IfNone c.drop_key.result (without_key c.args.key.now d.open_ones ≡ d.open_ones))
+    (sym (own_desk c.self.inside.desks c.args.tenant.now c.in-Some.desk.now c.self.invariant c.in-Some.ensures.value)) c.drop_key.ensures.none)

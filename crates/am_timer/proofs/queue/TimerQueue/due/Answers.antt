@@ -1,14 +1,10 @@
-use Rattle.std.proofs.Common.{not}
 use Rattle.am_timer.specs.Queue.{is_due}
 use Rattle.am_timer.proofs.Tenants.{timers_of-filter}
 use Rattle.am_timer.proofs.TiedLemmas.{rising-filter}
 use Rattle.am_timer.proofs.queue.TimerQueue.due.Goals as goal
 
 pub returns-clause-order : goal.returns-clause-order
-returns-clause-order c = rw c.in_ok-taken.ensures.taken (rising-filter (is_due c.args.now) c.self.inside.by_due.keys c.self.invariant.rising)
+returns-clause-order c = rw c.in_ok-due.ensures (rising-filter (is_due c.args.now) c.self.inside.by_due.keys c.self.invariant.rising)
 
 pub returns-clause-each : goal.returns-clause-each
-returns-clause-each c = λ t. rw (c.in_ok-taken.ensures.taken, ← c.self.view_is) (timers_of-filter t (is_due c.args.now) c.self.inside.by_due.keys)
-
-pub returns-clause-each_left : goal.returns-clause-each_left
-returns-clause-each_left c = λ t. rw (c.in_ok-taken.ensures.left, ← c.self.view_is) (timers_of-filter t (λ x. not (is_due c.args.now x)) c.self.inside.by_due.keys)
+returns-clause-each c = λ t. rw (c.in_ok-due.ensures, ← c.self.view_is) (timers_of-filter t (is_due c.args.now) c.self.inside.by_due.keys)

@@ -1,0 +1,10 @@
+pub mod Named
+pub mod Timing
+pub mod Moving
+pub mod PaceLemmas
+pub mod Keeping
+pub mod Putting
+pub mod Retries
+pub mod Attempting
+pub mod Due
+pub mod Rebuilding

@@ -1,0 +1,10 @@
+use Rattle.std.proofs.Common.{◌≡◌, cond, take}
+use Rattle.am_members.specs.Grouped.{grouped_of}
+use Rattle.am_members.specs.Members.{gave}
+use Rattle.am_timer.specs.Tied.{has_timer}
+use Rattle.am_timer.specs.Timer.{Timer}
+use Rattle.am_agenda.specs.Planned.{flush_due_of, is_for_one}
+use Rattle.am_agenda.proofs.refresh.refresh_all.Given as goal
+
+abbrev pub invariant-loop-group : goal.invariant-loop-group
+invariant-loop-group l = (x : Timer) → has_timer l.timers.timers x ≡ cond (is_for_one l.tenant l.paces (take l.group-index l.changed) x) (gave (flush_due_of l.paces (grouped_of l.tenant l.groups) x.name.key) x.due) (has_timer l.fn.timers.timers x)

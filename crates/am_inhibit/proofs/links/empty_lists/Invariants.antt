@@ -1,5 +1,0 @@
-use Rattle.std.proofs.Common.{◌≡◌, [], All, length}
-use Rattle.am_inhibit.proofs.links.empty_lists.Given as goal
-
-abbrev pub invariant-loop : goal.invariant-loop
-invariant-loop l = record { count : length l.lists.items ≡ l.counter; empty : All (λ list. list.items ≡ []) l.lists.items }

@@ -1,0 +1,8 @@
+//! What mutes alerts: the active silences that take them, and the firing alerts that inhibit them.
+#![tactic(auto)]
+
+mod mutes;
+mod muting;
+
+pub use mutes::Mutes;
+pub use muting::{are_muted, label_sets, mutes_of, mutes_of_firing};

@@ -1,0 +1,94 @@
+ghost use Rattle.std.specs.Prelude.{◌≡◌, ◌<◌, IfOk, drop, get_or, length, map};
+ghost use Rattle.am_muting.specs.Mutes.{AreEach, mutings};
+ghost use Rattle.am_muting.specs.Muting.{is_inhibited, is_muted, is_silenced, nothing};
+
+use am_inhibit::{Inhibited, sets_at};
+use am_item::SilenceId;
+use am_labels::LabelSet;
+use std::alloc::{AllocError, Global};
+use std::marker::Model;
+
+/// What mutes each of some alerts, by its place among them.
+#[derive(Drop)]
+pub struct Mutes<'a> {
+    // the label sets of the alerts that fire
+    firing: Vec<&'a LabelSet>,
+    // the silences of each
+    silences: Vec<Vec<SilenceId>>,
+    // which of the firing ones inhibit each, behind those of so many others
+    inhibited: Inhibited,
+    first: usize,
+}
+
+impl<'a> Model for Mutes<'a> {
+    ghost use Rattle.std.specs.Prelude.{List, drop, length, map};
+    ghost use Rattle.am_muting.specs.Mutes.{AreEach, mutings};
+    ghost use Rattle.am_muting.specs.Muting.{Muting};
+
+    ghost Value = { List Muting };
+
+    ghost view = { λ m. mutings (map (λ set. set.now) m.firing.items) (map (λ ids. ids.items) m.silences.items) (drop m.first m.inhibited) };
+
+    ghost invariant = { λ m. AreEach (length m.firing.items) m.first (map (λ ids. ids.items) m.silences.items) m.inhibited };
+}
+
+impl<'a> Mutes<'a> {
+    // The silences of each, and the places of the firing ones that inhibit each, behind those of so many others.
+    pub(crate) fn new(
+        firing: Vec<&'a LabelSet>,
+        silences: Vec<Vec<SilenceId>>,
+        inhibited: Inhibited,
+        first: usize,
+    ) -> Mutes<'a>
+        requires { AreEach (length firing.items) first (map (λ ids. ids.items) silences.items) inhibited }
+        ensures { result ≡ mutings (map (λ set. set.now) firing.entry.items) (map (λ ids. ids.items) silences.items) (drop first inhibited) }
+    {
+        Mutes {
+            firing,
+            silences,
+            inhibited,
+            first,
+        }
+    }
+
+    /// Whether a silence silences the alert at this place.
+    pub fn is_silenced(&self, place: usize) -> bool
+        requires { place < length self.now }
+        ensures { result ≡ is_silenced (get_or self.now place nothing) }
+    {
+        !self.silences[place].is_empty()
+    }
+
+    /// Whether an alert inhibits the one at this place.
+    pub fn is_inhibited(&self, place: usize) -> bool
+        requires { place < length self.now }
+        ensures { result ≡ is_inhibited (get_or self.now place nothing) }
+    {
+        self.inhibited.is_inhibited(self.first + place)
+    }
+
+    /// Whether anything mutes the alert at this place.
+    pub fn is_muted(&self, place: usize) -> bool
+        requires { place < length self.now }
+        ensures { result ≡ is_muted (get_or self.now place nothing) }
+    {
+        self.is_silenced(place) || self.is_inhibited(place)
+    }
+
+    /// The silences that silence the alert at this place, in the order of identifiers.
+    pub fn silenced_by(&self, place: usize) -> &[SilenceId]
+        requires { place < length self.now }
+        ensures { result.now ≡ (get_or self.now place nothing).silenced_by }
+    {
+        self.silences[place].as_slice()
+    }
+
+    /// The label sets of the alerts that inhibit the one at this place, in their order.
+    pub fn inhibited_by(&self, alloc: Global, place: usize) -> Result<Vec<&'a LabelSet>, AllocError>
+        requires { place < length self.now }
+        ensures { IfOk result (λ v. map (λ set. set.now) v.items ≡ (get_or self.now place nothing).inhibited_by) }
+    {
+        let places = self.inhibited.places_of(alloc, self.first + place)?;
+        sets_at(alloc, &self.firing, &places)
+    }
+}

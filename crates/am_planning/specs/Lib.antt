@@ -1,0 +1,2 @@
+-- what a configuration plans
+pub mod Planning

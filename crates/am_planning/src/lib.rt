@@ -1,0 +1,8 @@
+//! What a configuration plans for the alerts that are held of a tenant: how its routes wait, and the groups of each alert.
+#![tactic(auto)]
+
+mod alerts;
+mod paces;
+
+pub use alerts::plan_alerts;
+pub use paces::paces_of;

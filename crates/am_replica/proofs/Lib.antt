@@ -1,0 +1,4 @@
+mod Counting
+mod Fates
+mod Locals
+mod Outcomes

@@ -1,0 +1,2 @@
+-- what is told at a flush
+pub mod Tellings
