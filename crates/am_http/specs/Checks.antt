@@ -11,7 +11,7 @@ use Rattle.am_http.specs.declared.request.Endpoint.{Endpoint}
 use Rattle.am_http.specs.declared.request.Method.{Method}
 use Rattle.am_http.specs.declared.request.Method.TheVariants.{Get, Post, Delete}
 use Rattle.am_http.specs.Fields.{Fields, has_field, content_length, tenant_of}
-use Rattle.am_http.specs.Paths.{ready_path, path_at, is_brought, takes, endpoint_of}
+use Rattle.am_http.specs.Paths.{ready_path, path_at, takes, endpoint_of}
 
 -- what a head that passes asks for
 pub data Asked : Type 0 where
@@ -69,11 +69,6 @@ method_of method =
     else (if bytes_eq method (codes "POST") then Some Post
     else (if bytes_eq method (codes "DELETE") then Some Delete else None))
 
--- what stands at a path, where its requests are answered
-abbrev pub brought : Option Path → Option Path
-brought None = None
-brought (Some path) = if is_brought path then Some path else None
-
 -- the method, where the path takes it
 abbrev pub taken : Path → Option Method → Option Method
 taken path None = None
@@ -84,7 +79,7 @@ unfoldable pub called : List ℕ → List ℕ → List ℕ → List ℕ → Resu
 called tenant method path query = do
   -- GET of this path needs no tenant, and no other method is taken
   _ ← refused_if (bytes_eq path ready_path) WrongMethod
-  there ← or_refused (brought (path_at path)) NoSuchPath
+  there ← or_refused (path_at path) NoSuchPath
   taken ← or_refused (taken there (method_of method)) WrongMethod
   Ok (Call tenant taken (endpoint_of there path) query)
 

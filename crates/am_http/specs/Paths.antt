@@ -55,15 +55,6 @@ unfoldable pub path_at : List ℕ → Option Path
 path_at path =
     or_else (found_in path table) (if is_segment (below silence_root path) then Some Silence else None)
 
--- the paths whose requests are answered; the others are as if there were none
-abbrev pub is_brought : Path → Bool
-is_brought Alerts = true
-is_brought Silences = true
-is_brought Silence = true
-is_brought Receivers = true
-is_brought Configuration = true
-is_brought _ = false
-
 -- the methods that it takes
 abbrev pub takes : Path → Method → Bool
 takes path Get = true

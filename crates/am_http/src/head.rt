@@ -2,7 +2,7 @@
 ghost use Rattle.std.specs.Prelude.{◌≡◌, ◌≤◌, All, IsUtf8, length, map, None, IfOk, IfSome, IfNone};
 ghost use Rattle.httparse.specs.Grammar.{RequestHead};
 ghost use Rattle.httparse.specs.Spans.{IsWithin, IsHeaderWithin, header_bytes, span_bytes};
-ghost use Rattle.am_http.specs.Checks.{path_in, query_in, method_of, brought, taken, longest_body};
+ghost use Rattle.am_http.specs.Checks.{path_in, query_in, method_of, taken, longest_body};
 ghost use Rattle.am_http.specs.Checks.{asked, asks_ready, body_stated, called, checked, judged};
 ghost use Rattle.am_http.specs.Paths.{path_at};
 ghost use Rattle.am_http.specs.Plans.{asked_at, wanted_at, IsActionAt, IsPlanAt, IsHeadAt};
@@ -99,16 +99,6 @@ fn stated_body(method: &[u8], head: &[u8], fields: &[HeaderSpan]) -> Result<u32,
     Ok(length)
 }
 
-// What stands at a path, where its requests are answered.
-fn find(paths: &Paths, path: &str) -> Option<Path>
-    ensures { result ≡ brought (path_at path.now) }
-{
-    match paths.find(path) {
-        Some(there) if there.is_brought() => Some(there),
-        _ => None,
-    }
-}
-
 // The method, where the path takes it.
 fn take(path: Path, method: Option<Method>) -> Option<Method>
     ensures { result ≡ taken path method }
@@ -138,7 +128,7 @@ fn call(
     if path == READY {
         return Err(FrontRefusal::WrongMethod);
     }
-    let there = find(paths, path).ok_or(FrontRefusal::NoSuchPath)?;
+    let there = paths.find(path).ok_or(FrontRefusal::NoSuchPath)?;
     let method = take(there, method_named(method)).ok_or(FrontRefusal::WrongMethod)?;
     Ok(Action::Call(tenant, method, there, target))
 }

@@ -1,6 +1,6 @@
 //! The paths, and what stands at each.
 ghost use Rattle.std.specs.Prelude.{◌≡◌, true, OnOk, IfOk};
-ghost use Rattle.am_http.specs.Paths.{below, endpoint_of, is_brought, path_at, silence_root, takes};
+ghost use Rattle.am_http.specs.Paths.{below, endpoint_of, path_at, silence_root, takes};
 ghost use Rattle.am_http.specs.Routes.{has_room, with_route};
 
 use crate::request::{Endpoint, Method};
@@ -27,16 +27,6 @@ pub(crate) enum Path {
 }
 
 impl Path {
-    /// Whether requests of this path are answered. The others are as if there were none.
-    pub fn is_brought(self) -> bool
-        ensures { result ≡ is_brought self }
-    {
-        matches!(
-            self,
-            Path::Alerts | Path::Silences | Path::Silence | Path::Receivers | Path::Configuration
-        )
-    }
-
     /// Whether it takes this method.
     pub fn takes(self, method: Method) -> bool
         ensures { result ≡ takes self method }

@@ -139,7 +139,7 @@ request GET /alertmanager/api/v2/silences HTTP/1.1¶X-Scope-OrgID: a¶¶
 request DELETE /alertmanager/api/v2/silence/a HTTP/1.1¶X-Scope-OrgID: a¶¶
 H6 POST /alertmanager/api/v2/silence/a HTTP/1.1¶X-Scope-OrgID: a¶Content-Length: 0¶¶
 H5 GET /alertmanager/api/v2/silence/ HTTP/1.1¶X-Scope-OrgID: a¶¶
-H5 GET /alertmanager/api/v2/alerts/groups HTTP/1.1¶X-Scope-OrgID: a¶¶
+request GET /alertmanager/api/v2/alerts/groups HTTP/1.1¶X-Scope-OrgID: a¶¶
 # Whether the program is ready: GET needs no tenant, and waits for its body.
 ready GET /ready HTTP/1.1¶¶
 ready GET /ready?x HTTP/1.1¶X-Scope-OrgID: a|b¶¶
