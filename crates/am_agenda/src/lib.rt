@@ -12,6 +12,3 @@ mod trying;
 
 pub use agenda::Agenda;
 pub use pace::Pace;
-
-#[cfg(test)]
-mod tests;

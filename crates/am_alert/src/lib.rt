@@ -14,6 +14,3 @@ pub use made::{items_of_post, stamp_moment};
 pub use maker::Maker;
 pub use posted::read_posted;
 pub use refusal::PostedRefusal;
-
-#[cfg(test)]
-mod tests;

@@ -10,6 +10,3 @@ mod silences;
 mod silencing;
 
 pub use decision::{Decided, decide};
-
-#[cfg(test)]
-mod tests;

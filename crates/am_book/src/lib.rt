@@ -6,6 +6,3 @@ pub mod laws;
 mod row;
 
 pub use book::Book;
-
-#[cfg(test)]
-mod tests;

@@ -20,6 +20,3 @@ mod terms;
 pub use config::Config;
 pub use parts::{Receiver, Route, Rule, Settings, Webhook};
 pub use refusal::ConfigRefusal;
-
-#[cfg(test)]
-mod tests;

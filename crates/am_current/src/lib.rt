@@ -9,6 +9,3 @@ mod reading;
 mod replacing;
 
 pub use holdings::Holdings;
-
-#[cfg(test)]
-mod tests;

@@ -16,6 +16,3 @@ pub use receiver::{ReceiverDraft, WebhookDraft};
 pub use refusal::DraftRefusal;
 pub use route::{Grouping, Intervals, RouteDraft};
 pub use rule::RuleDraft;
-
-#[cfg(test)]
-mod tests;

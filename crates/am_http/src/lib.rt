@@ -15,8 +15,6 @@ mod refusal;
 mod reply;
 mod request;
 mod scan;
-#[cfg(test)]
-mod tests;
 
 pub use front::Front;
 pub use refusal::FrontRefusal;

@@ -51,22 +51,3 @@ impl Counts {
         Ok(())
     }
 }
-
-#[cfg(test)]
-mod tests {
-    use super::*;
-    use std::test::Fail;
-
-    #[test]
-    fn each_tenant_has_a_count(rt: HostRuntime) -> Result<(), Fail> {
-        let first = TenantName::read(b"a")?;
-        let second = TenantName::read(b"b")?;
-        let mut counts = Counts::new(rt.alloc());
-        counts.set(rt.alloc(), &first, 2)?;
-        counts.set(rt.alloc(), &second, 7)?;
-        counts.set(rt.alloc(), &first, 3)?;
-        assert_eq!(rt; counts.used(&first), 3);
-        assert_eq!(rt; counts.used(&second), 7);
-        Ok(())
-    }
-}

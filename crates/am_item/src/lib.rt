@@ -24,6 +24,3 @@ pub use label_sets::LabelSets;
 pub use matchers::Matchers;
 pub use silence::{Silence, SilenceDetails, SilenceId};
 pub use stamp::{Stamp, Stamped};
-
-#[cfg(test)]
-mod tests;

@@ -13,6 +13,3 @@ pub use fields::{
 pub use reading::read_json;
 pub use refusal::JsonRefusal;
 pub use writer::JsonWriter;
-
-#[cfg(test)]
-mod tests;

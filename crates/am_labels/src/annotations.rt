@@ -102,27 +102,3 @@ impl PartialEq for Annotations {
 impl Eq for Annotations {
     ghost laws = { eq_by_cmp_equiv labels_total };
 }
-
-#[cfg(test)]
-mod tests {
-    use super::*;
-    use am_text::Text;
-    use std::test::Fail;
-
-    #[test]
-    fn empty_texts_stay(rt: HostRuntime) -> Result<(), Fail> {
-        let mut pairs = Vec::new(rt.alloc());
-        for (name, value) in [("b", ""), ("a", "1")] {
-            pairs.push(Label {
-                name: Text::read(rt.alloc(), name)?,
-                value: Text::read(rt.alloc(), value)?,
-            })?;
-        }
-        let annotations = Annotations::from_pairs(rt.alloc(), pairs)?;
-        assert_eq!(rt; annotations.len(), 2);
-        assert_eq!(rt; annotations.get("a"), "1");
-        assert_eq!(rt; annotations.get("b"), "");
-        assert!(rt; annotations == annotations.copy(rt.alloc())?);
-        Ok(())
-    }
-}

@@ -75,36 +75,3 @@ pub fn fingerprint_of(labels: &[Label]) -> u64
     }
     hash
 }
-
-#[cfg(test)]
-mod tests {
-    use super::*;
-    use std::test::Fail;
-
-    #[test]
-    fn published_vectors(rt: HostRuntime) -> Result<(), Fail> {
-        assert_eq!(rt; fnv32(b""), 0x811c_9dc5);
-        assert_eq!(rt; fnv32(b"a"), 0xe40c_292c);
-        assert_eq!(rt; fnv32(b"foobar"), 0xbf9c_f968);
-        assert_eq!(rt; fnv64_from(START_64, b""), 0xcbf2_9ce4_8422_2325);
-        assert_eq!(rt; fnv64_from(START_64, b"a"), 0xaf63_dc4c_8601_ec8c);
-        assert_eq!(rt; fnv64_from(START_64, b"foobar"), 0x8594_4171_f739_67e8);
-        assert_eq!(rt; place(&TenantName::read(b"a")?), 0xe40c_292c);
-        Ok(())
-    }
-
-    #[test]
-    fn fingerprint_is_printed(rt: HostRuntime) -> Result<(), Fail> {
-        let labels = [Label {
-            name: Text::read(rt.alloc(), "a")?,
-            value: Text::read(rt.alloc(), "b")?,
-        }];
-        let text = print_fingerprint(rt.alloc(), fingerprint_of(&labels))?;
-        assert_eq!(rt; text.as_str(), "d2b371819297f98a");
-        assert_eq!(rt;
-            print_fingerprint(rt.alloc(), 0)?.as_str(),
-            "0000000000000000"
-        );
-        Ok(())
-    }
-}

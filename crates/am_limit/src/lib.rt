@@ -11,6 +11,3 @@ pub use allowance::Allowance;
 pub use allowances::Allowances;
 pub use book::LimitBook;
 pub use limits::Limits;
-
-#[cfg(test)]
-mod tests;

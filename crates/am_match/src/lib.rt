@@ -22,6 +22,3 @@ pub use printing::print_matchers;
 pub use refusal::{MatcherRefusal, SpellRefusal, TakeRefusal};
 pub use spelling::spell_matchers;
 pub use taking::take_matchers;
-
-#[cfg(test)]
-mod tests;

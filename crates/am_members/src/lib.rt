@@ -13,6 +13,3 @@ pub use group::Group;
 pub use groups::Groups;
 pub use known::Known;
 pub use members::Members;
-
-#[cfg(test)]
-mod tests;

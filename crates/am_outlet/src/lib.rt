@@ -14,6 +14,3 @@ pub use attempts::Attempts;
 pub use outcome::Outcome;
 pub use request::request_bytes;
 pub use status::read_status;
-
-#[cfg(test)]
-mod tests;

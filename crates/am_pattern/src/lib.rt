@@ -14,6 +14,3 @@ pub use building::MAX_SIZE;
 pub use cache::PatternCache;
 pub use reading::{MAX_PATTERN, is_shallow_pattern};
 pub use refusal::PatternRefusal;
-
-#[cfg(test)]
-mod tests;

@@ -19,6 +19,3 @@ pub use key::group_key;
 pub use receivers::receivers_json;
 pub use silences::{posted_json, silence_json, silences_json};
 pub use webhook::{ToldAlert, WebhookBody, webhook_json};
-
-#[cfg(test)]
-mod tests;

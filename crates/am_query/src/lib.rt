@@ -6,6 +6,3 @@ mod refusal;
 
 pub use query::{Query, read_filters, read_group_query, read_query};
 pub use refusal::QueryRefusal;
-
-#[cfg(test)]
-mod tests;

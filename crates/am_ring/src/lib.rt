@@ -14,6 +14,3 @@ mod ring;
 pub use instance::Instance;
 pub use refusal::RingRefusal;
 pub use ring::Ring;
-
-#[cfg(test)]
-mod tests;

@@ -8,6 +8,3 @@ mod routing;
 
 pub use id::RouteId;
 pub use routing::{routes_of, routes_of_each};
-
-#[cfg(test)]
-mod tests;

@@ -18,6 +18,3 @@ pub use held::HeldSilence;
 pub use posted::{PostedSilence, read_silence};
 pub use refusal::SilenceRefusal;
 pub use state::SilenceState;
-
-#[cfg(test)]
-mod tests;

@@ -23,6 +23,3 @@ pub use reading::read_moment;
 pub use refusal::TextRefusal;
 pub use text::Text;
 pub use tree::{Node, count_within};
-
-#[cfg(test)]
-mod tests;

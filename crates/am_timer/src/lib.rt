@@ -9,6 +9,3 @@ mod timer;
 pub use key::{GroupKey, TimerKey};
 pub use queue::TimerQueue;
 pub use timer::{Timer, TimerName};
-
-#[cfg(test)]
-mod tests;

@@ -5,6 +5,3 @@ mod authority;
 mod url;
 
 pub use url::WebhookUrl;
-
-#[cfg(test)]
-mod tests;

@@ -18,6 +18,3 @@ pub use decoding::decode;
 pub use encoding::encode;
 pub use message::{Body, Message};
 pub use refusal::{EncodeRefusal, WireRefusal};
-
-#[cfg(test)]
-mod tests;

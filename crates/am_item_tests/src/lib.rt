@@ -1,0 +1,17 @@
+//! Worked examples: items, what is held of them, posts, silences and messages.
+#![tactic(auto)]
+
+#[cfg(test)]
+mod alert;
+#[cfg(test)]
+mod book;
+#[cfg(test)]
+mod current;
+#[cfg(test)]
+mod item;
+#[cfg(test)]
+mod payload;
+#[cfg(test)]
+mod silence;
+#[cfg(test)]
+mod wire;

@@ -1,0 +1,17 @@
+//! Worked examples: texts, names of tenants, labels, limits, URLs, JSON and the ring.
+#![tactic(auto)]
+
+#[cfg(test)]
+mod json;
+#[cfg(test)]
+mod labels;
+#[cfg(test)]
+mod limit;
+#[cfg(test)]
+mod ring;
+#[cfg(test)]
+mod tenant;
+#[cfg(test)]
+mod text;
+#[cfg(test)]
+mod url;

@@ -1,0 +1,81 @@
+//! Configurations with the codes of their refusals, and what holds for routes.
+
+mod codes;
+mod counted;
+mod greatest;
+mod matching;
+mod told;
+
+use am_config::{Config, ConfigRefusal, Receiver, Route, Rule};
+use am_pattern::PatternCache;
+use am_text::Failure;
+use std::alloc::{AllocError, Global};
+
+type Read = Result<Config, Failure<ConfigRefusal>>;
+
+// What a text gives, and what it gives by the grammars alone.
+fn read_text(alloc: Global, text: &str) -> Read {
+    let mut cache = PatternCache::new(alloc, 16, [7; 16])?;
+    Config::read_text(alloc, text.as_bytes(), &mut cache)
+}
+
+fn reread(alloc: Global, text: &str) -> Read {
+    Config::reread(alloc, text.as_bytes())
+}
+
+fn read_document(alloc: Global, document: &str) -> Read {
+    let mut cache = PatternCache::new(alloc, 16, [7; 16])?;
+    Config::read(alloc, document.as_bytes(), &mut cache)
+}
+
+fn code_of(read: &Read) -> &'static str {
+    match read {
+        Ok(_) => "ok",
+        Err(Failure::Refused(refusal)) => refusal.code(),
+        Err(Failure::OutOfMemory) => "out of memory",
+    }
+}
+
+// The code of a text, where it is read again with the same code.
+fn code_of_text(alloc: Global, text: &str) -> &'static str {
+    let code = code_of(&read_text(alloc, text));
+    if code_of(&reread(alloc, text)) != code {
+        return "read again with another code";
+    }
+    code
+}
+
+// Adds a text so many times.
+fn add_times(text: &mut String, part: &str, count: usize) -> Result<(), AllocError> {
+    for _ in 0..count {
+        text.push_str(part)?;
+    }
+    Ok(())
+}
+
+// A text with so many routes within the root, of which the first has these matchers.
+fn wide(alloc: Global, matchers: &str, count: usize) -> Result<String, AllocError> {
+    let mut text = String::from_str(
+        alloc,
+        r#"{"receivers":[{"name":"a"}],"route":{"receiver":"a","routes":[{"matchers":["#,
+    )?;
+    text.push_str(matchers)?;
+    text.push_str("]}")?;
+    add_times(&mut text, ",{}", count.saturating_sub(1))?;
+    text.push_str("]}}")?;
+    Ok(text)
+}
+
+fn code_of_wide(alloc: Global, matchers: &str, count: usize) -> Result<&'static str, AllocError> {
+    let text = wide(alloc, matchers, count)?;
+    Ok(code_of_text(alloc, text.as_str()))
+}
+
+// Adds so many receivers, each with its number as name.
+fn add_numbered(alloc: Global, text: &mut String, count: usize) -> Result<(), AllocError> {
+    for number in 0..count {
+        let receiver = format!(in alloc; "{{\"name\":\"{number}\"}},")?;
+        text.push_str(receiver.as_str())?;
+    }
+    Ok(())
+}

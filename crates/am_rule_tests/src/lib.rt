@@ -1,0 +1,15 @@
+//! Worked examples: patterns, matchers, configurations, routes and queries.
+#![tactic(auto)]
+
+#[cfg(test)]
+mod config;
+#[cfg(test)]
+mod draft;
+#[cfg(test)]
+mod matchers;
+#[cfg(test)]
+mod pattern;
+#[cfg(test)]
+mod query;
+#[cfg(test)]
+mod route;
