@@ -1,4 +1,3 @@
-use am_labels::place;
 use am_ring::{Instance, Ring, RingRefusal};
 use am_tenant::TenantName;
 use std::test::Fail;
@@ -7,18 +6,6 @@ use std::test::Fail;
 fn replicas(ring: &Ring, tenant: &TenantName) -> [u8; 3] {
     let [first, second, third] = ring.replicas(tenant);
     [first.number(), second.number(), third.number()]
-}
-
-#[test]
-fn distances(rt: HostRuntime) -> Result<(), Fail> {
-    let tenant = TenantName::read(b"a")?;
-    assert_eq!(rt; place(&tenant), 0xe40c_292c);
-    let expected = [0x8438_f623, 0x560f_c355, 0x98e7_3df3, 0x7945_9ea1];
-    for (number, distance) in [1, 2, 3, 4].into_iter().zip(expected) {
-        let instance = Instance::new(number).ok_or("no instance")?;
-        assert_eq!(rt; distance::distance(instance, place(&tenant)), distance);
-    }
-    Ok(())
 }
 
 #[test]
