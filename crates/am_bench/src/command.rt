@@ -2,7 +2,7 @@
 ghost use Rattle.std.specs.Prelude.{◌≤◌, IfOk};
 
 use crate::grouping::Order;
-use crate::{flushes, grouping, queue};
+use crate::{flushes, grouping, queue, storing};
 use anyhow::{Context, Result, bail, ensure};
 use std::alloc::Global;
 
@@ -12,10 +12,13 @@ const MOST_ALERTS: usize = 100_000;
 
 const MOST_TIMES: usize = 1_000_000;
 
-/// Does what a line asks for, and tells how many timers were taken, alerts removed or alerts told:
+const MOST_ROWS: usize = 100_000;
+
+/// Does what a line asks for, and tells how many timers were taken, alerts removed, alerts told, or rows put or read:
 /// - `timers COUNT`: timers are set and taken;
 /// - `groups ALERTS GROUPS ORDER TIMES`: alerts are put into groups and removed, both in this order, so many times;
-/// - `flush MEMBERS TIMES`: a group of so many members is flushed so many times.
+/// - `flush MEMBERS TIMES`: a group of so many members is flushed so many times;
+/// - `put ROWS TIMES`, `read ROWS TIMES`: of so many stored rows of a tenant one is put, or all are read, so many times.
 pub fn obey(alloc: Global, line: &str) -> Result<usize> {
     let words: Vec<&str> = line.split_whitespace().collect(alloc)?;
     match words.as_slice() {
@@ -29,6 +32,14 @@ pub fn obey(alloc: Global, line: &str) -> Result<usize> {
         ["flush", members, times] => {
             let members = number(members, MOST_ALERTS)?;
             flushes::flush_often(alloc, members, number(times, MOST_TIMES)?)
+        }
+        ["put", rows, times] => {
+            let rows = number(rows, MOST_ROWS)? as u32;
+            storing::put_often(alloc, rows, number(times, MOST_TIMES)? as u32)
+        }
+        ["read", rows, times] => {
+            let rows = number(rows, MOST_ROWS)? as u32;
+            storing::read_often(alloc, rows, number(times, MOST_TIMES)? as u32)
         }
         _ => bail!("unknown command"),
     }

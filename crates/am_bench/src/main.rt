@@ -8,6 +8,7 @@ mod flushes;
 mod grouping;
 mod making;
 mod queue;
+mod storing;
 
 use std::io;
 
