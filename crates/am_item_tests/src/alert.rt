@@ -1,8 +1,8 @@
 //! Posted bodies, and what the rules say of each.
 
 use PostedRefusal::{BadForm, EndsBeforeStart, NoLabels};
-use am_alert::{AlertBook, Maker, PostedRefusal, items_of_post, read_posted};
-use am_item::{Alert, Held, Item, Thing};
+use am_alert::{PostedRefusal, read_posted};
+use am_item::Alert;
 use am_labels::Label;
 use am_text::{Failure, Moment};
 use std::alloc::{AllocError, Global};
@@ -268,45 +268,5 @@ fn limits(rt: HostRuntime) -> Result<(), Fail> {
     }
     let no_text = read_posted(alloc, b"[{\"labels\":{\"a\":\"\xff\"}}]", moment, 300_000).err();
     assert_eq!(rt; no_text, Some(Failure::Refused(BadForm)));
-    Ok(())
-}
-
-// A label of the item's alert, and the stamp's moment, in milliseconds after 15:00, and count.
-fn stamped<'a>(item: &'a Item, name: &str) -> (&'a str, u64, u64) {
-    let value = match &item.thing {
-        Thing::Alert(alert) => alert.labels.get(name),
-        _ => "",
-    };
-    let moment = item.stamp.moment.milliseconds();
-    let since = moment.saturating_sub(1_749_999_600_000);
-    (value, since, item.stamp.count)
-}
-
-#[test]
-fn posts_make_items(rt: HostRuntime) -> Result<(), Fail> {
-    let alloc = rt.alloc();
-    let moment = Moment::from_milliseconds(1_750_000_000_000).ok_or("a moment")?;
-    let mut held = Held::new(alloc);
-    let body =
-        br#"[{"labels":{"a":"b"}},{"labels":{"c":"d"}},{"labels":{"a":"b"},"generatorURL":"x"}]"#;
-    // The counts used before, and the moments and counts of the stamps.
-    for (used, since, counts) in [(6, 400_000, (7, 8)), (8, 400_001, (9, 10))] {
-        let posted = read_posted(alloc, body, moment, 300_000)?;
-        let maker = Maker {
-            instance: 1,
-            incarnation: 1,
-            used,
-        };
-        let items = items_of_post(alloc, posted, &held, moment, maker)?;
-        assert_eq!(rt; items.len(), 2);
-        assert_eq!(rt; stamped(&items[0], "c"), ("d", since, counts.0));
-        assert_eq!(rt; stamped(&items[1], "a"), ("b", since, counts.1));
-        for item in items {
-            held.put(item)?;
-        }
-    }
-    let alerts = AlertBook::new(&held);
-    assert_eq!(rt; alerts.firing(alloc, moment.plus(299_999))?.len(), 2);
-    assert_eq!(rt; alerts.firing(alloc, moment.plus(300_000))?.len(), 0);
     Ok(())
 }

@@ -1,8 +1,7 @@
 use am_item::{
-    Alert, Counts, Held, Item, LabelSets, Matchers, SentEntry, Silence, SilenceId, Stamp, Thing,
+    Alert, Held, Item, LabelSets, Matchers, SentEntry, Silence, SilenceId, Stamp, Thing,
 };
 use am_labels::{Annotations, Label, LabelSet};
-use am_tenant::TenantName;
 use am_text::{Moment, Text};
 use std::alloc::Global;
 use std::test::Fail;
@@ -97,27 +96,6 @@ fn of_each_key_the_greater_stamp_stays(rt: HostRuntime) -> Result<(), Fail> {
 }
 
 #[test]
-fn what_stands_is_removed(rt: HostRuntime) -> Result<(), Fail> {
-    let alloc = rt.alloc();
-    let moment = Moment::from_milliseconds(5).ok_or("no moment")?;
-    // From when on a thing of each kind is retired that is written and ends at 5.
-    for (name, retires_at) in [
-        ("c", None),
-        ("s1", Some(432_000_005)),
-        ("a1", Some(3_600_005)),
-        ("e", Some(3_600_005)),
-    ] {
-        let mut held = held_of(alloc, [(name, 5)].as_slice())?;
-        let key = thing(alloc, name, moment)?.key(alloc)?;
-        let standing = held.standing(&key).ok_or("nothing stands")?;
-        assert_eq!(rt; standing.retires_at.map(Moment::milliseconds), retires_at);
-        held.remove(&key);
-        assert!(rt; held.standing(&key).is_none());
-    }
-    Ok(())
-}
-
-#[test]
 fn label_sets_rise(rt: HostRuntime) -> Result<(), Fail> {
     let alloc = rt.alloc();
     for (first, second, rises) in [("a", "b", true), ("a", "a", false), ("b", "a", false)] {
@@ -126,18 +104,5 @@ fn label_sets_rise(rt: HostRuntime) -> Result<(), Fail> {
         sets.push(labels(alloc, second)?)?;
         assert_eq!(rt; LabelSets::from_rising(sets).is_some(), rises);
     }
-    Ok(())
-}
-
-#[test]
-fn each_tenant_has_a_count(rt: HostRuntime) -> Result<(), Fail> {
-    let first = TenantName::read(b"a")?;
-    let second = TenantName::read(b"b")?;
-    let mut counts = Counts::new(rt.alloc());
-    counts.set(rt.alloc(), &first, 2)?;
-    counts.set(rt.alloc(), &second, 7)?;
-    counts.set(rt.alloc(), &first, 3)?;
-    assert_eq!(rt; counts.used(&first), 3);
-    assert_eq!(rt; counts.used(&second), 7);
     Ok(())
 }

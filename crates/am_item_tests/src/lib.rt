@@ -4,10 +4,6 @@
 #[cfg(test)]
 mod alert;
 #[cfg(test)]
-mod book;
-#[cfg(test)]
-mod current;
-#[cfg(test)]
 mod item;
 #[cfg(test)]
 mod payload;

@@ -5,7 +5,7 @@ use am_config::Config;
 use am_item::{AlertDetails, SilenceId, Stamp, Stamped};
 use am_labels::{Annotations, Label, LabelSet};
 use am_payload::{
-    ReadAlert, ReadGroup, ToldAlert, WebhookBody, alerts_json, group_key, groups_json, webhook_json,
+    ReadAlert, ReadGroup, ToldAlert, WebhookBody, alerts_json, groups_json, webhook_json,
 };
 use am_text::{Listed, Moment, Text};
 use std::alloc::{AllocError, Global};
@@ -174,13 +174,5 @@ fn a_webhook_is_told(rt: HostRuntime) -> Result<(), Fail> {
         let text = webhook_json(alloc, &body)?;
         assert_eq!(rt; text.as_slice(), expected.as_bytes());
     }
-    Ok(())
-}
-
-#[test]
-fn a_group_has_a_key(rt: HostRuntime) -> Result<(), Fail> {
-    let labels = label_set(rt.alloc(), r#"a=" b=é"#)?;
-    let key = group_key(rt.alloc(), 10, &labels)?;
-    assert_eq!(rt; key.as_str(), r#"10{"a":"\"","b":"é"}"#);
     Ok(())
 }

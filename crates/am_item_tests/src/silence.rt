@@ -3,7 +3,6 @@
 
 mod changing;
 mod posting;
-mod silencing;
 
 use am_item::{Held, Item, Matchers, Silence, SilenceId, Stamp, Thing};
 use am_match::{Matcher, Operator};

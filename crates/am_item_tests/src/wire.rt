@@ -1,9 +1,6 @@
 //! Frames written out by hand: each is read, and the message is written as the same bytes.
-use am_item::{Item, Stamp, Thing};
-use am_ring::Instance;
-use am_tenant::TenantName;
-use am_text::{Failure, Moment};
-use am_wire::{Body, EncodeRefusal, Message, decode, encode};
+use am_text::Failure;
+use am_wire::{decode, encode};
 use std::alloc::{AllocError, Global};
 use std::test::Fail;
 
@@ -12,17 +9,6 @@ const GET: &[u8] = b"\0\0\0\x1a\x01\x01\x01\0\0\0\x01\x02\0\0\0\0\0\0\0\x01\x01a
 
 // What stands between the kind and the body.
 const NAME: &[u8] = b"\x01\0\0\0\x01\x02\0\0\0\0\0\0\0\x01\x01a";
-
-const STAMP: &[u8] = b"\0\0\0\0\0\0\0\x05\x01\0\0\0\x01\0\0\0\0\0\0\0\x01";
-
-const MOMENT: &[u8] = b"\0\0\0\0\0\0\0\x05";
-
-const LABELS: &[u8] = b"\0\x01\0\0\0\x01a\0\0\0\x01b";
-
-// Labels and annotations: the annotation is empty.
-const ALERT: &[u8] = b"\0\x01\0\0\0\x01a\0\0\0\x01b\0\x01\0\0\0\x01a\0\0\0\0";
-
-const TIMES: &[u8] = b"\0\0\0\0\0\0\0\x05\0\0\0\0\0\0\0\x06\0\0\0\0";
 
 fn joined(alloc: Global, parts: &[&[u8]]) -> Result<Vec<u8>, AllocError> {
     let mut bytes = Vec::new(alloc);
@@ -47,14 +33,6 @@ fn frame(alloc: Global, kind: u8, body: &[u8]) -> Result<Vec<u8>, Fail> {
     Ok(joined(alloc, &[&[0, 0, 0, length, 1, kind], NAME, body])?)
 }
 
-// A Put of one item: its kind, a stamp and the fields.
-fn put(alloc: Global, kind: u8, fields: &[&[u8]]) -> Result<Vec<u8>, Fail> {
-    let front = joined(alloc, &[b"\0\0\0\0\0\0\0\0\0\0\0\x01", &[kind], STAMP])?;
-    let fields = joined(alloc, fields)?;
-    let body = joined(alloc, &[front.as_slice(), fields.as_slice()])?;
-    frame(alloc, 3, body.as_slice())
-}
-
 // The code of the refusal of these bytes, empty where they are read and written again.
 fn code(alloc: Global, bytes: &[u8]) -> Result<&'static str, Fail> {
     match decode(alloc, bytes) {
@@ -63,22 +41,6 @@ fn code(alloc: Global, bytes: &[u8]) -> Result<&'static str, Fail> {
         Err(Failure::Refused(refusal)) => Ok(refusal.code()),
         Err(Failure::OutOfMemory) => Ok("out of memory"),
     }
-}
-
-#[test]
-fn beginnings_of_a_frame(rt: HostRuntime) -> Result<(), Fail> {
-    assert_eq!(rt; code(rt.alloc(), GET)?, "");
-    for end in 0..GET.len() {
-        assert_eq!(rt; code(rt.alloc(), &GET[..end])?, "Wi1", "{end}");
-    }
-    let longer = joined(rt.alloc(), &[GET, b"\0"])?;
-    assert_eq!(rt; code(rt.alloc(), longer.as_slice())?, "Wi6");
-    let message = decode(rt.alloc(), GET)?;
-    assert_eq!(rt; (message.from.number(), message.to.number()), (1, 2));
-    assert_eq!(rt; (message.incarnation, message.count), (1, 1));
-    assert_eq!(rt; message.tenant.as_str(), "a");
-    assert!(rt; matches!(message.body, Body::Get { operation: 1 }));
-    Ok(())
 }
 
 #[test]
@@ -127,89 +89,5 @@ fn each_kind_of_message(rt: HostRuntime) -> Result<(), Fail> {
     assert_eq!(rt; code(rt.alloc(), flag.as_slice())?, "Wi5");
     let left = frame(rt.alloc(), 1, b"\0\0\0\0\0\0\0\x07\0")?;
     assert_eq!(rt; code(rt.alloc(), left.as_slice())?, "Wi6");
-    Ok(())
-}
-
-#[test]
-fn each_kind_of_item(rt: HostRuntime) -> Result<(), Fail> {
-    let silence: &[u8] = b"\0\0\0\x01w\0\0\0\0\0\x01\x02\0\0\0\x01a\0\0\0\x03a|b";
-    let rows: [(u8, &[&[u8]], &str); 12] = [
-        (1, &[b"\0"], ""),
-        (1, &[b"\x01\0\0\0\x02{}"], ""),
-        (1, &[b"\x02"], "Wi5"),
-        (1, &[b"\x01\0\0\0\x01\xff"], "Wi5"),
-        (
-            2,
-            &[b"0123456789abcdef", MOMENT, MOMENT, MOMENT, silence],
-            "",
-        ),
-        (3, &[ALERT, TIMES], ""),
-        (3, &[b"\0\x01\0\0\0\x01a\0\0\0\0", TIMES], "Wi5"),
-        (
-            3,
-            &[b"\0\x02\0\0\0\x01a\0\0\0\x01b\0\0\0\x01a", TIMES],
-            "Wi5",
-        ),
-        (3, &[b"\0\x01\0\0\0\x010\0\0\0\x01b", TIMES], "Wi5"),
-        (
-            4,
-            &[
-                b"\0\0\0\x01w\0\0\0\x030{}\0",
-                MOMENT,
-                b"\0\0\0\x01",
-                LABELS,
-                b"\0\0\0\0",
-            ],
-            "",
-        ),
-        (
-            4,
-            &[
-                b"\0\0\0\x01w\0\0\0\x030{}\0",
-                MOMENT,
-                b"\0\0\0\x02",
-                LABELS,
-                LABELS,
-            ],
-            "Wi5",
-        ),
-        (5, &[b"\0"], "Wi5"),
-    ];
-    for (kind, fields, expected) in rows {
-        let bytes = put(rt.alloc(), kind, fields)?;
-        assert_eq!(rt; code(rt.alloc(), bytes.as_slice())?, expected, "{kind}");
-    }
-    Ok(())
-}
-
-#[test]
-fn a_stamp_of_no_instance(rt: HostRuntime) -> Result<(), Fail> {
-    let moment = Moment::from_milliseconds(5).ok_or("no moment")?;
-    let stamp = Stamp {
-        moment,
-        instance: 9,
-        incarnation: 1,
-        count: 1,
-    };
-    let mut items = Vec::new(rt.alloc());
-    items.push(Item {
-        stamp,
-        thing: Thing::Configuration(None),
-    })?;
-    let instance = Instance::new(1).ok_or("no instance")?;
-    let message = Message {
-        from: instance,
-        incarnation: 1,
-        to: instance,
-        count: 1,
-        tenant: TenantName::read(b"a")?,
-        body: Body::Put {
-            operation: 0,
-            items,
-        },
-    };
-    let refused = encode(rt.alloc(), &message).err();
-    assert!(rt; refused == Some(Failure::Refused(EncodeRefusal::BadItem)));
-    assert_eq!(rt; EncodeRefusal::TooLong.code(), "Wo2");
     Ok(())
 }

@@ -1,6 +1,6 @@
 //! Label sets, annotations and their hashes.
 
-use am_labels::{Annotations, Label, LabelRefusal, LabelSet, place, print_fingerprint};
+use am_labels::{Label, LabelRefusal, LabelSet, place, print_fingerprint};
 use am_tenant::TenantName;
 use am_text::{Failure, Text};
 use std::test::Fail;
@@ -18,49 +18,12 @@ fn set(rt: &HostRuntime, pairs: &[(&str, &str)]) -> Result<LabelSet, Failure<Lab
 }
 
 #[test]
-fn map(rt: HostRuntime) -> Result<(), Fail> {
-    let labels = set(&rt, &[("b", "2"), ("a", "1"), ("c", "")])?;
-    assert_eq!(rt; labels.len(), 2);
-    assert_eq!(rt; labels.get("a"), "1");
-    assert_eq!(rt; labels.get("c"), "");
-    assert_eq!(rt; labels.get("d"), "");
-    assert!(rt; labels == labels.copy()?);
-    Ok(())
-}
-
-#[test]
 fn faults(rt: HostRuntime) {
     let bad_name = Err(Failure::Refused(LabelRefusal::BadName));
     assert!(rt; set(&rt, &[("a", "1"), ("a", "2"), ("0", "")]).map(|_| ()) == bad_name);
     assert!(rt; set(&rt, &[("", "1")]).map(|_| ()) == bad_name);
     let repeated = Err(Failure::Refused(LabelRefusal::Repeated));
     assert!(rt; set(&rt, &[("a", ""), ("b", ""), ("a", "")]).map(|_| ()) == repeated);
-}
-
-#[test]
-fn order(rt: HostRuntime) -> Result<(), Fail> {
-    let low = set(&rt, &[("a", "9")])?;
-    let middle = set(&rt, &[("a", "9"), ("b", "1")])?;
-    let high = set(&rt, &[("b", "1")])?;
-    assert!(rt; low < middle && middle < high);
-    Ok(())
-}
-
-#[test]
-fn empty_texts_stay(rt: HostRuntime) -> Result<(), Fail> {
-    let mut pairs = Vec::new(rt.alloc());
-    for (name, value) in [("b", ""), ("a", "1")] {
-        pairs.push(Label {
-            name: Text::read(rt.alloc(), name)?,
-            value: Text::read(rt.alloc(), value)?,
-        })?;
-    }
-    let annotations = Annotations::from_pairs(rt.alloc(), pairs)?;
-    assert_eq!(rt; annotations.len(), 2);
-    assert_eq!(rt; annotations.get("a"), "1");
-    assert_eq!(rt; annotations.get("b"), "");
-    assert!(rt; annotations == annotations.copy(rt.alloc())?);
-    Ok(())
 }
 
 // FNV-1a's published values of 32 bits.

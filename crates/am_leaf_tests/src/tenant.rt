@@ -33,15 +33,3 @@ fn reserved(rt: HostRuntime) {
     assert_eq!(rt; code(b"..."), "");
     assert_eq!(rt; code(b"__mimir_cluster"), "N4");
 }
-
-#[test]
-fn order(rt: HostRuntime) {
-    if let (Ok(a), Ok(ab), Ok(b)) = (
-        TenantName::read(b"a"),
-        TenantName::read(b"ab"),
-        TenantName::read(b"b"),
-    ) {
-        assert!(rt; a < ab && ab < b && a == a && a != ab);
-        assert_eq!(rt; ab.as_str(), "ab");
-    }
-}

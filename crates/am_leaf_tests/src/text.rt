@@ -1,7 +1,4 @@
-use am_text::{
-    Failure, Listed, Moment, Node, Octets, Text, TextRefusal, count_within, map_refusal,
-    print_moment, read_duration, read_moment, refuse_as,
-};
+use am_text::{Moment, TextRefusal, print_moment, read_duration, read_moment};
 use std::test::Fail;
 
 fn milliseconds(text: &str) -> Option<u64> {
@@ -38,47 +35,6 @@ fn reads_moments(rt: HostRuntime) {
 fn reads_no_moment(rt: HostRuntime) {
     assert_eq!(rt; read_moment("0001-01-01T00:00:00Z"), Ok(None));
     assert_eq!(rt; read_moment("0001-01-01T01:30:00.0009+01:30"), Ok(None));
-}
-
-#[test]
-fn refuses_other_texts(rt: HostRuntime) {
-    let texts = [
-        // the examples of RFC 3339 section 5.8 with a leap second, and before 1970
-        "1990-12-31T23:59:60Z",
-        "1990-12-31T15:59:60-08:00",
-        "1937-01-01T12:00:27.87+00:20",
-        // no leap days
-        "1900-02-29T00:00:00Z",
-        "2100-02-29T00:00:00Z",
-        "2023-02-29T00:00:00Z",
-        // past both ends
-        "1969-12-31T23:59:59.999Z",
-        "1970-01-01T00:00:00+00:01",
-        "9999-12-31T23:59:59.999-00:01",
-        "0001-01-01T00:00:00.001Z",
-        // other forms
-        "",
-        "2025-06-15",
-        "2025-06-15 15:06:40Z",
-        "2025-06-15T15:06:40",
-        "2025-06-15T15:06:40.Z",
-        "2025-06-15T15:06:40,5Z",
-        "2025-06-15T15:06:40.1234567890Z",
-        "2025-06-15T24:00:00Z",
-        "2025-06-15T15:60:00Z",
-        "2025-06-15T15:06:40+24:00",
-        "2025-06-15T15:06:40+01:60",
-        "2025-06-15T15:06:40+0100",
-        "2025-06-15T15:06:40Z ",
-        "2025-6-15T15:06:40Z",
-        "02025-06-15T15:06:40Z",
-        "2025-13-01T00:00:00Z",
-        "2025-00-01T00:00:00Z",
-        "2025-01-00T00:00:00Z",
-    ];
-    for text in texts {
-        assert_eq!(rt; read_moment(text), Err(TextRefusal::NotAMoment), "{text}");
-    }
 }
 
 #[test]
@@ -138,84 +94,4 @@ fn refuses_other_durations(rt: HostRuntime) {
     ] {
         assert_eq!(rt; read_duration(text), Err(TextRefusal::OutOfRange), "{text}");
     }
-}
-
-#[test]
-fn adds_to_moments(rt: HostRuntime) -> Result<(), Fail> {
-    let greatest = Moment::greatest();
-    assert_eq!(rt; Moment::from_milliseconds(253_402_300_800_000), None);
-    let early = Moment::from_milliseconds(5).ok_or("no moment")?;
-    assert_eq!(rt; early.plus(7).milliseconds(), 12);
-    assert_eq!(rt; early.plus(u64::MAX), greatest);
-    assert!(rt; early < greatest);
-    Ok(())
-}
-
-#[test]
-fn tells_refusals(rt: HostRuntime) -> Result<(), Fail> {
-    let refusals = [
-        (TextRefusal::NotAMoment, "Tx1"),
-        (TextRefusal::NotADuration, "Tx2"),
-        (TextRefusal::OutOfRange, "Tx3"),
-    ];
-    for (refusal, want) in refusals {
-        let told = format!(in rt.alloc(); "{refusal}")?;
-        assert_eq!(rt; told.as_str(), want);
-    }
-    Ok(())
-}
-
-#[test]
-fn copies_and_compares(rt: HostRuntime) -> Result<(), Fail> {
-    let text = Text::read(rt.alloc(), "a\u{e9}")?;
-    let copy = text.copy(rt.alloc())?;
-    assert!(rt; text == copy);
-    assert_eq!(rt; text.len(), 3);
-    assert!(rt; Text::read(rt.alloc(), "a")? < text);
-    assert!(rt; !Text::from_string(copy.into_string()).is_empty());
-    let octets = Octets::read(rt.alloc(), b"\xff\x00")?;
-    let copy = octets.copy(rt.alloc())?;
-    assert!(rt; octets == copy);
-    assert_eq!(rt; octets.len(), 2);
-    assert!(rt; Octets::read(rt.alloc(), b"\xff")? < octets);
-    assert!(rt; !Octets::from_vec(copy.into_vec()).is_empty());
-    Ok(())
-}
-
-#[test]
-fn refuses_for_another_reason(rt: HostRuntime) -> Result<(), Fail> {
-    let failures: [(Failure<TextRefusal>, &str, Failure<u8>); 2] = [
-        (
-            Failure::Refused(TextRefusal::NotAMoment),
-            "Tx1",
-            Failure::Refused(7),
-        ),
-        (Failure::OutOfMemory, "out of memory", Failure::OutOfMemory),
-    ];
-    for (failure, want, other) in failures {
-        let told = format!(in rt.alloc(); "{failure}")?;
-        assert_eq!(rt; told.as_str(), want);
-        let failed: Result<(), Failure<TextRefusal>> = Err(failure);
-        assert!(rt; refuse_as(failed, 7u8) == Err(other));
-        assert!(rt; map_refusal(failed, |_| 7u8) == Err(other));
-    }
-    Ok(())
-}
-
-#[test]
-fn holds_trees_in_lists(rt: HostRuntime) -> Result<(), Fail> {
-    let mut nodes = Vec::new(rt.alloc());
-    for item in ["root", "first", "second"] {
-        nodes.push(Node { item, within: 0 })?;
-    }
-    if !nodes.is_empty() {
-        count_within(&mut nodes, 0);
-    }
-    let nodes = Listed::from_vec(nodes);
-    let want = [("root", 2), ("first", 0), ("second", 0)];
-    for (node, (item, within)) in nodes.as_slice().iter().zip(want) {
-        assert_eq!(rt; node.item, item);
-        assert_eq!(rt; node.within, within);
-    }
-    Ok(())
 }

@@ -2,10 +2,6 @@
 #![tactic(auto)]
 
 #[cfg(test)]
-mod agenda;
-#[cfg(test)]
-mod members;
-#[cfg(test)]
 mod outlet;
 #[cfg(test)]
 mod timer;

@@ -1,9 +1,7 @@
 //! Configurations with the codes of their refusals, and what holds for routes.
 
 mod codes;
-mod counted;
 mod greatest;
-mod matching;
 mod told;
 
 use am_config::{Config, ConfigRefusal, Receiver, Route, Rule};
@@ -51,24 +49,6 @@ fn add_times(text: &mut String, part: &str, count: usize) -> Result<(), AllocErr
         text.push_str(part)?;
     }
     Ok(())
-}
-
-// A text with so many routes within the root, of which the first has these matchers.
-fn wide(alloc: Global, matchers: &str, count: usize) -> Result<String, AllocError> {
-    let mut text = String::from_str(
-        alloc,
-        r#"{"receivers":[{"name":"a"}],"route":{"receiver":"a","routes":[{"matchers":["#,
-    )?;
-    text.push_str(matchers)?;
-    text.push_str("]}")?;
-    add_times(&mut text, ",{}", count.saturating_sub(1))?;
-    text.push_str("]}}")?;
-    Ok(text)
-}
-
-fn code_of_wide(alloc: Global, matchers: &str, count: usize) -> Result<&'static str, AllocError> {
-    let text = wide(alloc, matchers, count)?;
-    Ok(code_of_text(alloc, text.as_str()))
 }
 
 // Adds so many receivers, each with its number as name.

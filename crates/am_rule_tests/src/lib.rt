@@ -4,8 +4,6 @@
 #[cfg(test)]
 mod config;
 #[cfg(test)]
-mod draft;
-#[cfg(test)]
 mod matchers;
 #[cfg(test)]
 mod pattern;

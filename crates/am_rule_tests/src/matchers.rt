@@ -2,8 +2,8 @@
 use am_labels::{Label, LabelSet};
 use am_match::MatcherRefusal::{BadPattern, BuildRefused, LongPattern, NoMatchers};
 use am_match::{
-    Matcher, MatcherRefusal, SpellRefusal, TakeRefusal, check_pattern, print_matchers,
-    read_matchers, reread_matchers, spell_matchers, take_matchers, taken_by_all,
+    Matcher, MatcherRefusal, SpellRefusal, TakeRefusal, print_matchers, read_matchers,
+    reread_matchers,
 };
 use am_pattern::{PatternCache, PatternRefusal};
 use am_text::{Failure, Text};
@@ -34,52 +34,6 @@ fn labels(alloc: Global, pair: Option<(&str, &str)>) -> Result<LabelSet, Fail> {
         })?;
     }
     Ok(LabelSet::from_pairs(alloc, pairs)?)
-}
-
-#[test]
-fn patterns_answer(rt: HostRuntime) -> Result<(), Fail> {
-    let mut cache = cache_of_one(rt.alloc())?;
-    let rows = [
-        // The whole value is matched, by each alternative alone.
-        ("^a|b$", "b", Ok(true)),
-        ("^a|b$", "ab", Ok(false)),
-        // A pattern may take the empty value, and may be empty itself.
-        (".*?", "aaa", Ok(true)),
-        (".*?", "", Ok(true)),
-        (".*?", "\n", Ok(false)),
-        ("", "", Ok(true)),
-        ("", "a", Ok(false)),
-        // Letters without regard to case, and Unicode's classes.
-        ("(?i)straße|éa", "STRASSE", Ok(false)),
-        ("(?i)straße|éa", "ÉA", Ok(true)),
-        ("\\p{Greek}+\\d", "αβγ٣", Ok(true)),
-        // Anchored it could be read, but not alone.
-        (
-            "a)|(b",
-            "a",
-            Err(Failure::Refused(PatternRefusal::BadPattern)),
-        ),
-        ("(", "", Err(Failure::Refused(PatternRefusal::BadPattern))),
-        (
-            "(a{1000}){1000}",
-            "a",
-            Err(Failure::Refused(PatternRefusal::BuildRefused)),
-        ),
-    ];
-    for (pattern, value, expected) in rows {
-        let answer = cache.answer(rt.alloc(), pattern, value);
-        assert_eq!(rt; answer, expected, "{pattern} at {value}");
-    }
-    let deepest = longer(rt.alloc(), "a", '+', 248)?;
-    let answer = cache.answer(rt.alloc(), deepest.as_str(), "aa");
-    assert_eq!(rt; answer, Ok(true));
-    let too_deep = longer(rt.alloc(), "a", '+', 250)?;
-    let answer = cache.answer(rt.alloc(), too_deep.as_str(), "a");
-    assert_eq!(rt; answer, Err(Failure::Refused(PatternRefusal::BadPattern)));
-    let longest = longer(rt.alloc(), "", 'a', 256)?;
-    let answer = cache.answer(rt.alloc(), longest.as_str(), longest.as_str());
-    assert_eq!(rt; answer, Ok(true));
-    Ok(())
 }
 
 // The matchers of a text as they are printed.
@@ -163,24 +117,6 @@ fn texts_are_read(rt: HostRuntime) -> Result<(), Fail> {
 }
 
 #[test]
-fn patterns_are_checked(rt: HostRuntime) -> Result<(), Fail> {
-    let mut cache = cache_of_one(rt.alloc())?;
-    let long = longer(rt.alloc(), "", 'a', 257)?;
-    let rows = [
-        ("", None),
-        ("a|b", None),
-        ("a)|(b", Some(Failure::Refused(BadPattern))),
-        (long.as_str(), Some(Failure::Refused(LongPattern))),
-        ("(a{1000}){1000}", Some(Failure::Refused(BuildRefused))),
-    ];
-    for (pattern, failure) in rows {
-        let checked = check_pattern(rt.alloc(), pattern, &mut cache).err();
-        assert_eq!(rt; checked, failure, "{pattern}");
-    }
-    Ok(())
-}
-
-#[test]
 fn refusals_print_their_codes(rt: HostRuntime) -> Result<(), Fail> {
     let rows = [
         (NoMatchers, "M1"),
@@ -234,75 +170,6 @@ fn labels_are_matched(rt: HostRuntime) -> Result<(), Fail> {
         let matchers = read_matchers(rt.alloc(), ASKED, &mut cache)?;
         let taken = each_taken(rt.alloc(), &matchers, &labels, &mut cache)?;
         assert_eq!(rt; taken.as_slice(), expected.as_slice());
-    }
-    Ok(())
-}
-
-#[test]
-fn label_sets_are_asked_together(rt: HostRuntime) -> Result<(), Fail> {
-    let sets = [
-        labels(rt.alloc(), Some(("a", "ab")))?,
-        labels(rt.alloc(), Some(("a", "b")))?,
-        labels(rt.alloc(), None)?,
-        labels(rt.alloc(), Some(("a", "a")))?,
-    ];
-    let sets = [&sets[0], &sets[1], &sets[2], &sets[3]];
-    // With how many patterns are built, where the cache keeps the last that was read.
-    let rows = [
-        ("a=~\"a|ab\",a!~\"b\"", [true, false, false, true], 2),
-        ("a!~\"a|ab\"", [false, true, true, false], 0),
-        ("a!~\"\",a!=ab,c=\"\"", [false, true, false, true], 0),
-    ];
-    let mut cache = cache_of_one(rt.alloc())?;
-    for (text, expected, built) in rows {
-        let matchers = read_matchers(rt.alloc(), text, &mut cache)?;
-        let before = cache.misses();
-        let taken = taken_by_all(rt.alloc(), &matchers, &sets, &mut cache)?;
-        assert_eq!(rt; taken.as_slice(), expected.as_slice(), "{text}");
-        assert_eq!(rt; cache.misses().wrapping_sub(before), built, "{text}");
-        assert_eq!(rt;
-            taken_by_all(rt.alloc(), &matchers, &[], &mut cache)?.len(),
-            0
-        );
-    }
-    Ok(())
-}
-
-#[test]
-fn bytes_are_written_and_taken(rt: HostRuntime) -> Result<(), Fail> {
-    let mut cache = cache_of_one(rt.alloc())?;
-    let matchers = read_matchers(rt.alloc(), "a=~\"a|b\",b=", &mut cache)?;
-    let bytes = spell_matchers(rt.alloc(), &matchers)?;
-    let written =
-        b"\x00\x02\x02\x00\x00\x00\x01a\x00\x00\x00\x03a|b\x00\x00\x00\x00\x01b\x00\x00\x00\x00";
-    assert_eq!(rt; bytes.as_slice(), written.as_slice());
-    let longer = b"\x00\x01\x03\x00\x00\x00\x01a\x00\x00\x00\x01b rest";
-    let (taken, count) = take_matchers(rt.alloc(), longer)?;
-    let printed = print_matchers(rt.alloc(), &taken)?;
-    assert_eq!(rt; printed.as_str(), "a!~\"b\"");
-    assert_eq!(rt; count, 13);
-    let refused = [
-        (
-            b"\x00".as_slice(),
-            Some(Failure::Refused(TakeRefusal::Short)),
-        ),
-        (b"\x00\x01", Some(Failure::Refused(TakeRefusal::Short))),
-        (
-            b"\x00\x01\x03\x00\x00\x00\x02a",
-            Some(Failure::Refused(TakeRefusal::Short)),
-        ),
-        (b"\x00\x01\x04", Some(Failure::Refused(TakeRefusal::Bad))),
-        (
-            b"\x00\x01\x00\x00\x00\x00\x021a\x00\x00\x00\x00",
-            Some(Failure::Refused(TakeRefusal::Bad)),
-        ),
-        (
-            b"\x00\x01\x00\x00\x00\x00\x01a\x00\x00\x00\x01\xff",
-            Some(Failure::Refused(TakeRefusal::Bad)),
-        ),
-    ];
-    for (bytes, refusal) in refused {
-        assert_eq!(rt; take_matchers(rt.alloc(), bytes).err(), refusal);
     }
     Ok(())
 }

@@ -25,28 +25,6 @@ fn answers_and_keeps(rt: HostRuntime) -> Result<(), Fail> {
 }
 
 #[test]
-fn answers_many_values_at_once(rt: HostRuntime) -> Result<(), Fail> {
-    let alloc = rt.alloc();
-    let mut cache = PatternCache::new(alloc, 1, [7; 16])?;
-    let taken = cache.answer_each(alloc, "a|b", &["a", "ab", "", "b"])?;
-    assert_eq!(rt; taken.as_slice(), [true, false, false, true].as_slice());
-    assert_eq!(rt; cache.misses(), 1);
-    // Without values too the pattern is built, and kept.
-    let none = cache.answer_each(alloc, "c*", &[])?;
-    assert!(rt; none.is_empty());
-    assert_eq!(rt;
-        (cache.misses(), cache.holds("c*"), cache.holds("a|b")),
-        (2, true, false)
-    );
-    // It is not built again.
-    assert_eq!(rt; cache.answer(alloc, "c*", ""), Ok(true));
-    assert_eq!(rt; cache.misses(), 2);
-    let refused = cache.answer_each(alloc, "(", &["a", "b"]).err();
-    assert_eq!(rt; refused, Some(Failure::Refused(PatternRefusal::BadPattern)));
-    Ok(())
-}
-
-#[test]
 fn reads_without_a_build(rt: HostRuntime) -> Result<(), Fail> {
     let texts = [
         ("a|b", true),

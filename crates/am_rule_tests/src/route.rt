@@ -1,8 +1,8 @@
 use am_config::Config;
 use am_labels::{Label, LabelSet};
 use am_pattern::PatternCache;
-use am_route::{RouteId, routes_of, routes_of_each};
-use am_text::{Listed, Text};
+use am_route::{RouteId, routes_of};
+use am_text::Text;
 use std::alloc::{AllocError, Global};
 use std::test::Fail;
 
@@ -48,20 +48,6 @@ fn on_to_later_siblings(rt: HostRuntime) -> Result<(), Fail> {
 }
 
 #[test]
-fn the_first_child_that_takes_it(rt: HostRuntime) -> Result<(), Fail> {
-    let text = r#"{"route":{"receiver":"r","routes":[
-        {"matchers":["a=b"],"continue":true,"routes":[{"matchers":["c=d"]},{"matchers":["e=f"]}]},
-        {"matchers":["a!=\"\"","x=\"\""]},
-        {"matchers":["x=y"]}
-    ]},"receivers":[{"name":"r"}]}"#;
-    let first = numbers(rt.alloc(), text, &[("a", "b"), ("c", "d"), ("e", "f")])?;
-    assert_eq!(rt; first.as_slice(), [2, 4].as_slice());
-    let itself = numbers(rt.alloc(), text, &[("a", "b"), ("x", "y")])?;
-    assert_eq!(rt; itself.as_slice(), [1, 5].as_slice());
-    Ok(())
-}
-
-#[test]
 fn sixteen_routes_deep(rt: HostRuntime) -> Result<(), Fail> {
     let mut text = String::from_str(rt.alloc(), "{\"route\":{\"receiver\":\"r\"")?;
     for _ in 1..16 {
@@ -75,47 +61,5 @@ fn sixteen_routes_deep(rt: HostRuntime) -> Result<(), Fail> {
     assert_eq!(rt; deepest.as_slice(), [15].as_slice());
     let root = numbers(rt.alloc(), text.as_str(), &[("a", "c")])?;
     assert_eq!(rt; root.as_slice(), [0].as_slice());
-    Ok(())
-}
-
-// Two patterns: one in three routes and of two labels, one behind a value.
-const PATTERNS: &str = r#"{"route":{"receiver":"r","routes":[
-    {"matchers":["a=~\"b|c\""],"continue":true},
-    {"matchers":["x=~\"b|c\"","a!~\"b|c\""]},
-    {"matchers":["a=b","x=~\"y+\""],"routes":[{"matchers":["z!~\"y+\""]}]}
-]},"receivers":[{"name":"r"}]}"#;
-
-// Three label sets: one that two routes take, one that one takes, one that only the root does.
-fn label_sets(alloc: Global) -> Result<Vec<LabelSet>, Fail> {
-    let mut sets = Vec::new(alloc);
-    sets.push(label_set(alloc, &[("a", "b"), ("x", "yy")])?)?;
-    sets.push(label_set(alloc, &[("x", "c")])?)?;
-    sets.push(label_set(alloc, &[("z", "y")])?)?;
-    Ok(sets)
-}
-
-// For each label set how many routes it has, and their numbers.
-fn flat_numbers(alloc: Global, found: &[Listed<RouteId>]) -> Result<Vec<usize>, AllocError> {
-    let mut numbers = Vec::new(alloc);
-    for routes in found {
-        let own = numbers_of(alloc, routes.as_slice())?;
-        numbers.push(own.len())?;
-        numbers.extend_from_slice(&own)?;
-    }
-    Ok(numbers)
-}
-
-#[test]
-fn of_many_label_sets(rt: HostRuntime) -> Result<(), Fail> {
-    let mut cache = PatternCache::new(rt.alloc(), 1, [0; 16])?;
-    let config = Config::read_text(rt.alloc(), PATTERNS.as_bytes(), &mut cache)?;
-    let sets = label_sets(rt.alloc())?;
-    let before = cache.misses();
-    let asked: Vec<&LabelSet> = sets.iter().collect(rt.alloc())?;
-    let found = routes_of_each(rt.alloc(), &config, &asked, &mut cache)?;
-    let numbers = flat_numbers(rt.alloc(), &found)?;
-    assert_eq!(rt; numbers.as_slice(), [2, 1, 4, 1, 2, 1, 0].as_slice());
-    // Each pattern was built once, though the cache keeps one.
-    assert_eq!(rt; cache.misses(), before.wrapping_add(2));
     Ok(())
 }

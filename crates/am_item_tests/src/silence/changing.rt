@@ -1,5 +1,5 @@
 use super::{id, matchers, minute, minute_of, put, silence};
-use am_item::{Held, Silence};
+use am_item::Held;
 use am_match::Operator;
 use am_silence::{PostedSilence, SilenceBook, SilenceRefusal, SilenceWrite};
 use am_text::{Failure, Text};
@@ -84,26 +84,6 @@ fn a_pending_silence_may_start_at_the_moment(rt: HostRuntime) -> Result<(), Fail
     Ok(())
 }
 
-#[test]
-fn an_expired_one_stays(rt: HostRuntime) -> Result<(), Fail> {
-    let held = held(rt.alloc(), 0, 5)?;
-    let changed = changes(rt.alloc(), &held, posted(rt.alloc(), "b", 0, 8)?)?;
-    assert_eq!(rt; changed.as_str(), "5: 9 5 8 8 you;");
-    Ok(())
-}
-
-#[test]
-fn an_unknown_one_is_refused(rt: HostRuntime) -> Result<(), Fail> {
-    let held = Held::new(rt.alloc());
-    let posted = posted(rt.alloc(), "b", 0, 8)?;
-    let changed = SilenceBook::new(&held).change(rt.alloc(), Some(id(1)), posted, minute(5)?);
-    assert_eq!(rt;
-        changed.err(),
-        Some(Failure::Refused(SilenceRefusal::Unknown))
-    );
-    Ok(())
-}
-
 // What the deletion of silence 1 stores at minute 5.
 fn deleted(alloc: Global, held: &Held) -> Result<String, Fail> {
     let write = SilenceBook::new(held).delete(alloc, &id(1), minute(5)?)?;
@@ -126,13 +106,4 @@ fn refusal(alloc: Global, held: &Held) -> Result<Option<Failure<SilenceRefusal>>
             .delete(alloc, &id(1), minute(5)?)
             .err(),
     )
-}
-
-#[test]
-fn a_deletion_is_refused(rt: HostRuntime) -> Result<(), Fail> {
-    let expired = refusal(rt.alloc(), &held(rt.alloc(), 0, 5)?)?;
-    assert_eq!(rt; expired, Some(Failure::Refused(SilenceRefusal::Ended)));
-    let unknown = refusal(rt.alloc(), &Held::new(rt.alloc()))?;
-    assert_eq!(rt; unknown, Some(Failure::Refused(SilenceRefusal::Unknown)));
-    Ok(())
 }

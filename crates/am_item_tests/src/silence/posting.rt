@@ -1,6 +1,5 @@
-use super::{cache, minute, minute_of};
-use am_match::Operator;
-use am_silence::{PostedSilence, SilenceRefusal, read_silence};
+use super::{cache, minute};
+use am_silence::{PostedSilence, read_silence};
 use am_text::{Failure, Moment};
 use std::alloc::{AllocError, Global};
 use std::test::Fail;
@@ -9,19 +8,13 @@ const MINUTE_0: &str = "2025-06-15T15:06:40Z";
 
 const MINUTE_1: &str = "2025-06-15T15:07:40Z";
 
-const MINUTE_9: &str = "2025-06-15T15:15:40Z";
-
 const WANTED: &str = r#"{"name":"a","value":"b","isRegex":false}"#;
-
-const UNWANTED: &str = r#"{"name":"a","value":"","isRegex":true,"isEqual":false}"#;
 
 const EMPTY: &str = r#"{"name":"a","value":"","isRegex":false}"#;
 
 const UNNAMED: &str = r#"{"name":"1","value":"(","isRegex":true}"#;
 
 const BROKEN: &str = r#"{"name":"a","value":"(","isRegex":true}"#;
-
-const TOO_BIG: &str = r#"{"name":"a","value":"(a{1000}){1000}","isRegex":true}"#;
 
 // A body with these matchers.
 fn body(
@@ -100,15 +93,6 @@ fn a_short_pattern_comes_before_a_long_one(rt: HostRuntime) -> Result<(), Fail> 
 }
 
 #[test]
-fn of_short_ones_the_first_that_is_refused_decides(rt: HostRuntime) -> Result<(), Fail> {
-    let big_first = pair(rt.alloc(), TOO_BIG, BROKEN)?;
-    assert_eq!(rt; code_of(rt.alloc(), big_first.as_str())?, "B2");
-    let broken_first = pair(rt.alloc(), BROKEN, TOO_BIG)?;
-    assert_eq!(rt; code_of(rt.alloc(), broken_first.as_str())?, "M2");
-    Ok(())
-}
-
-#[test]
 fn the_moment_comes_last(rt: HostRuntime) -> Result<(), Fail> {
     let body = body(rt.alloc(), WANTED, MINUTE_0, MINUTE_1)?;
     assert_eq!(rt; code_at(rt.alloc(), body.as_str(), minute(1)?)?, "S5");
@@ -120,30 +104,4 @@ fn the_moment_comes_last(rt: HostRuntime) -> Result<(), Fail> {
 fn read(alloc: Global, body: &str) -> Result<PostedSilence, Fail> {
     let mut cache = cache(alloc)?;
     Ok(read_silence(alloc, body.as_bytes(), minute(5)?, &mut cache)?)
-}
-
-#[test]
-fn a_silence_is_read(rt: HostRuntime) -> Result<(), Fail> {
-    let matchers = pair(rt.alloc(), WANTED, UNWANTED)?;
-    let body = body(rt.alloc(), matchers.as_str(), MINUTE_1, MINUTE_9)?;
-    let posted = read(rt.alloc(), body.as_str())?;
-    assert!(rt; posted.id.is_none());
-    assert_eq!(rt; minute_of(posted.starts_at), 1);
-    assert_eq!(rt; minute_of(posted.ends_at), 9);
-    assert_eq!(rt; posted.created_by.as_str(), "me");
-    assert_eq!(rt; posted.comment.as_str(), "why");
-    Ok(())
-}
-
-#[test]
-fn its_matchers_are_read(rt: HostRuntime) -> Result<(), Fail> {
-    let matchers = pair(rt.alloc(), WANTED, UNWANTED)?;
-    let body = body(rt.alloc(), matchers.as_str(), MINUTE_1, MINUTE_9)?;
-    let posted = read(rt.alloc(), body.as_str())?;
-    let operators: [Option<Operator>; 2] = [Some(Operator::Equal), Some(Operator::NotMatch)];
-    for (place, operator) in operators.iter().enumerate() {
-        let read = posted.matchers.get(place).map(|matcher| matcher.operator());
-        assert_eq!(rt; read, *operator, "{place}");
-    }
-    Ok(())
 }
