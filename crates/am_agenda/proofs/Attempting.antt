@@ -19,7 +19,8 @@ use Rattle.am_outlet.specs.Desks.{Desks, desk_of}
 use Rattle.am_outlet.specs.Outcomes.{awaits}
 use Rattle.am_timer.specs.Tied.{has_timer}
 use Rattle.am_timer.specs.Timer.{Timer}
-use Rattle.am_agenda.specs.Paces.{PaceBook, paces_of}
+use Rattle.am_agenda.specs.Paces.{paces_of}
+use Rattle.am_planning.specs.declared.pace.Pace.{Pace}
 use Rattle.am_agenda.specs.Plan.{Plan, retry_due, with_desk}
 use Rattle.am_agenda.specs.Planned.{IsKept, Plans, due_after, is_retry, plan_of, with_retry, without_retry}
 use Rattle.am_agenda.proofs.Retries.{come, gone, kept_still, kept_trying, retry_cancelled, retry_set, tried_at}
@@ -38,7 +39,7 @@ awaited false tries o = refl
 itself : (n : ℕ) → (n == n) ≡ true
 itself n = grind (arith, nat_tests)
 
-module _ (book : PaceBook) (groups : List (List ℕ × Grouped)) (desks others : Desks) (t : List ℕ) where
+module _ (book : List (List ℕ × List Pace)) (groups : List (List ℕ × Grouped)) (desks others : Desks) (t : List ℕ) where
   abbrev old : Plans
   old = record { paces = book; groups = groups; desks = desks }
 
@@ -195,7 +196,7 @@ started_anew desks others t notice none made s = made s ∙ by_tenant (same s t)
     by_tenant false e = refl
 
 -- .. where the call met no error
-pub kept_told_well : {E : Type 0} (book : PaceBook) (groups : List (List ℕ × Grouped)) (desks others : Desks) (t : List ℕ) (number tries moment : ℕ) (status : Option ℕ) (result : Result Outcome E) (timers after : List Timer) → is_err result ≡ false
+pub kept_told_well : {E : Type 0} (book : List (List ℕ × List Pace)) (groups : List (List ℕ × Grouped)) (desks others : Desks) (t : List ℕ) (number tries moment : ℕ) (status : Option ℕ) (result : Result Outcome E) (timers after : List Timer) → is_err result ≡ false
     → IsKept (record { paces = book; groups = groups; desks = desks }) timers
     → ((s : List ℕ) → desk_of s others ≡ cond (same s t) (after_outcome number tries moment status (desk_of s desks)) (desk_of s desks))
     → IfOk result (λ outcome. outcome ≡ outcome_of number tries moment status (desk_of t desks).open_ones) → IfOk result (λ outcome. after ≡ with_retry t number (due_after outcome) timers)

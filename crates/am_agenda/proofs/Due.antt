@@ -26,7 +26,7 @@ use Rattle.am_timer.specs.Tied.{has_timer}
 use Rattle.am_timer.specs.Timer.{Key, Timer, timer_cmp}
 use Rattle.am_timer.proofs.Orders.{same_timer, timer_itself}
 use Rattle.am_timer.proofs.TiedLemmas.{has-filter, has-insert, rising-filter, rising-insert, same_timers}
-use Rattle.am_agenda.specs.declared.pace.Pace.{Pace}
+use Rattle.am_planning.specs.declared.pace.Pace.{Pace}
 use Rattle.am_agenda.specs.Plan.{Plan, due_by, due_for, due_of, flush_due, flush_key, flush_timer, group_due, group_in, groups_in, in_order, numbers_in, retry_due, retry_timer, timer_of, timers_in}
 use Rattle.am_agenda.specs.Planned.{AreTimed, Plans, is_planned, plan_of}
 use Rattle.am_agenda.proofs.Named.{same_group}

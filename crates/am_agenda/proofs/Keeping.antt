@@ -20,8 +20,8 @@ use Rattle.am_timer.specs.declared.key.GroupKey.{GroupKey}
 use Rattle.am_timer.specs.declared.key.TimerKey.TheVariants.{Operation, Group, Retry, Push}
 use Rattle.am_timer.specs.Tied.{has_timer}
 use Rattle.am_timer.specs.Timer.{Key, Timer}
-use Rattle.am_agenda.specs.declared.pace.Pace.{Pace}
-use Rattle.am_agenda.specs.Paces.{PaceBook, paces_of}
+use Rattle.am_planning.specs.declared.pace.Pace.{Pace}
+use Rattle.am_agenda.specs.Paces.{paces_of}
 use Rattle.am_agenda.specs.Plan.{Plan, due_for, due_of, flush_due, no_plan, with_grouped}
 use Rattle.am_agenda.specs.Planned.{IsKept, Plans, flush_due_of, is_for_one, plan_of}
 use Rattle.am_agenda.proofs.Timing.{IsDueElsewhere, timed_after}
@@ -49,10 +49,10 @@ none_kept plans bare idle = record {
     none_due t (Push instance) = refl
 
 -- what is grouped is told by its two parts
-parts : {g h : Grouped} → g.alerts ≡ h.alerts → g.flushes ≡ h.flushes → g ≡ h
+pub parts : {g h : Grouped} → g.alerts ≡ h.alerts → g.flushes ≡ h.flushes → g ≡ h
 parts {g} {h} a f = ap (λ x. let r : Grouped = record { alerts = x; flushes = g.flushes } in r) a ∙ ap (λ x. let r : Grouped = record { alerts = h.alerts; flushes = x } in r) f
 
-module _ (book : PaceBook) (desks : Desks) (groups others : List (List ℕ × Grouped)) (t : List ℕ) where
+module _ (book : List (List ℕ × List Pace)) (desks : Desks) (groups others : List (List ℕ × Grouped)) (t : List ℕ) where
   abbrev old : Plans
   old = record { paces = book; groups = groups; desks = desks }
 
@@ -145,7 +145,7 @@ no_error X (Ok a) h = tt
 no_error X (Err e) h = absurd (true≢false h)
 
 -- the plans of the same attempts are the same
-pub same_plan : (book : PaceBook) (groups : List (List ℕ × Grouped)) (desks others : Desks) (t : List ℕ) → desk_of t others ≡ desk_of t desks
+pub same_plan : (book : List (List ℕ × List Pace)) (groups : List (List ℕ × Grouped)) (desks others : Desks) (t : List ℕ) → desk_of t others ≡ desk_of t desks
     → plan_of t (record { paces = book; groups = groups; desks = others }) ≡ plan_of t (record { paces = book; groups = groups; desks = desks })
 unfolding plan_of
 same_plan book groups desks others t same = ap (λ d. let p : Plan = record { paces = paces_of t book; grouped = grouped_of t groups; desk = d } in p) same

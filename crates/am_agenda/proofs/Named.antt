@@ -28,7 +28,7 @@ use Rattle.am_timer.specs.Tied.{has_timer}
 use Rattle.am_timer.specs.Timer.{Key, Name as TimerName, Timer, group_cmp, key_cmp, name_cmp, timer_cmp}
 use Rattle.am_timer.proofs.Orders.{name_ties, same_name, same_timer}
 use Rattle.am_timer.proofs.TiedLemmas.{has-filter, has-insert}
-use Rattle.am_agenda.specs.declared.pace.Pace.{Pace}
+use Rattle.am_planning.specs.declared.pace.Pace.{Pace}
 use Rattle.am_agenda.specs.Plan.{all_groups, flush_due, flush_key, group_due, group_in}
 use Rattle.am_agenda.specs.Planned.{flush_due_of, flush_name, is_for, is_for_one, names_flush}
 

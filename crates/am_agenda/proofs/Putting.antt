@@ -1,11 +1,13 @@
 -- What is planned goes with its timers as an alert is put.
 use Rattle.std.proofs.Common.{◌≡◌, ℕ, Bool, true, false, ◌||◌, cond, List, [], ◌∷◌, Option, Some, None, Result, Ok, Err, OnOk, IfSome, refl, sym, ap, ◌∙◌, subst}
-use Rattle.std.specs.Map.{lookup}
+use Rattle.std.specs.List.Sorted.{IsStrictlySortedBy}
+use Rattle.std.specs.Map.{keys_of, lookup}
 use Rattle.std.specs.Prelude.{slice_get}
 use Rattle.std.specs.Result.{is_err}
 use Rattle.std.specs.Str.{bytes_eq}
 use Rattle.std.proofs.lemmas.Bool.{true≢false}
 use Rattle.am_labels.specs.declared.Label.{Label}
+use Rattle.am_labels.specs.Labels.{labels_cmp}
 use Rattle.am_tenant.specs.Names.{same}
 use Rattle.am_tenant.proofs.Same.{same-refl}
 use Rattle.am_members.specs.declared.group.Group.{Group as Name}
@@ -15,13 +17,14 @@ use Rattle.am_members.specs.Members.{gave, is_bare, least_of}
 use Rattle.am_members.specs.Names.{is_set, without as absent}
 use Rattle.am_members.proofs.Flushes.{flush_living}
 use Rattle.am_members.proofs.Putting.{rising_put, rising_without}
-use Rattle.am_outlet.specs.Desks.{Desks}
+use Rattle.am_outlet.specs.Desks.{Desks, desk_of}
 use Rattle.am_timer.specs.declared.key.GroupKey.{GroupKey}
+use Rattle.am_timer.specs.declared.key.TimerKey.TheVariants.{Operation, Group, Retry, Push}
 use Rattle.am_timer.specs.Tied.{has_timer}
-use Rattle.am_timer.specs.Timer.{Timer}
-use Rattle.am_agenda.specs.declared.pace.Pace.{Pace}
-use Rattle.am_agenda.specs.Paces.{PaceBook, paces_of}
-use Rattle.am_agenda.specs.Plan.{due_by, due_for, flush_due, group_due, group_in}
+use Rattle.am_timer.specs.Timer.{Key, Timer}
+use Rattle.am_planning.specs.declared.pace.Pace.{Pace}
+use Rattle.am_agenda.specs.Paces.{paces_of}
+use Rattle.am_agenda.specs.Plan.{Plan, due_by, due_for, due_of, flush_due, group_due, group_in, with_living}
 use Rattle.am_agenda.specs.Planned.{IsKept, Plans, flush_due_of, groups_known, is_for, is_for_one, plan_of}
 use Rattle.am_agenda.proofs.Keeping.{grouped_parts, grouped_put, kept_after, same_at}
 use Rattle.am_agenda.proofs.Moving.{flush_others, put_others, remove_others}
@@ -33,7 +36,7 @@ went_well (Ok a) h x = x
 went_well (Err e) h x = absurd (true≢false h)
 
 -- an alert was put, and the timers of its groups were set anew
-pub kept_put : (book : PaceBook) (desks : Desks) (groups others : List (List ℕ × Grouped)) (t : List ℕ) (l : List Label) (v : Known) (paces : List Pace) (timers after : List Timer) → paces ≡ paces_of t book
+pub kept_put : (book : List (List ℕ × List Pace)) (desks : Desks) (groups others : List (List ℕ × Grouped)) (t : List ℕ) (l : List Label) (v : Known) (paces : List Pace) (timers after : List Timer) → paces ≡ paces_of t book
     → IsKept (record { paces = book; groups = groups; desks = desks }) timers
     → IfSome (lookup (is_set l) (plan_of t (record { paces = book; groups = groups; desks = desks })).grouped.alerts) (λ held. held.groups ≡ v.groups)
     → ((s : List ℕ) → (grouped_of s others).alerts ≡ cond (same s t) (put_in l v (grouped_of s groups).alerts) (grouped_of s groups).alerts)
@@ -55,7 +58,7 @@ abbrev pub gone_from : List Label → Grouped → Grouped
 gone_from l g = record { alerts = absent l g.alerts; flushes = flushes_after l g }
 
 -- an alert went, and the timers of its groups were set anew
-pub kept_removed : (book : PaceBook) (desks : Desks) (groups others : List (List ℕ × Grouped)) (t : List ℕ) (l : List Label) (paces : List Pace) (timers after : List Timer) → paces ≡ paces_of t book
+pub kept_removed : (book : List (List ℕ × List Pace)) (desks : Desks) (groups others : List (List ℕ × Grouped)) (t : List ℕ) (l : List Label) (paces : List Pace) (timers after : List Timer) → paces ≡ paces_of t book
     → IsKept (record { paces = book; groups = groups; desks = desks }) timers
     → ((s : List ℕ) → (grouped_of s others).alerts ≡ cond (same s t) (absent l (grouped_of s groups).alerts) (grouped_of s groups).alerts)
     → ((s : List ℕ) → (grouped_of s others).flushes ≡ cond (same s t) (flushes_after l (grouped_of s groups)) (grouped_of s groups).flushes)
@@ -78,7 +81,7 @@ abbrev pub flushed_in : Name → ℕ → Grouped → Grouped
 flushed_in group moment g = record g { flushes = flushed_at group moment g }
 
 -- a group was flushed, and its timer was set anew
-pub kept_flushed : (book : PaceBook) (desks : Desks) (groups others : List (List ℕ × Grouped)) (t : List ℕ) (group : Name) (moment : ℕ) (paces : List Pace) (timers after : List Timer) → paces ≡ paces_of t book
+pub kept_flushed : (book : List (List ℕ × List Pace)) (desks : Desks) (groups others : List (List ℕ × Grouped)) (t : List ℕ) (group : Name) (moment : ℕ) (paces : List Pace) (timers after : List Timer) → paces ≡ paces_of t book
     → IsKept (record { paces = book; groups = groups; desks = desks }) timers
     → ((s : List ℕ) → (grouped_of s others).alerts ≡ (grouped_of s groups).alerts)
     → ((s : List ℕ) → (grouped_of s others).flushes ≡ cond (same s t) (flushed_at group moment (grouped_of s groups)) (grouped_of s groups).flushes)
@@ -102,32 +105,45 @@ kept_flushed book desks groups others t group moment paces timers after are kept
 abbrev pub swept : Grouped → Grouped
 swept g = record g { flushes = living g }
 
--- no flush of a group that has members is forgotten, and one without is never due
-pub kept_swept : (book : PaceBook) (desks : Desks) (groups others : List (List ℕ × Grouped)) (t : List ℕ) (timers : List Timer) → IsKept (record { paces = book; groups = groups; desks = desks }) timers
-    → ((s : List ℕ) → (grouped_of s others).alerts ≡ (grouped_of s groups).alerts)
-    → ((s : List ℕ) → (grouped_of s others).flushes ≡ cond (same s t) (living (grouped_of s groups)) (grouped_of s groups).flushes)
-    → IsKept (record { paces = book; groups = others; desks = desks }) timers
-unfolding plan_of flush_due
-kept_swept book desks groups others t timers kept alerts flushes =
-    kept_after book desks groups others t swept [] timers timers made kept (λ up. up) (λ key unchanged. by_pace key (slice_get (paces_of t book) key.route)) (λ x. refl)
-  where
-    made : (s : List ℕ) → grouped_of s others ≡ cond (same s t) (swept (grouped_of s groups)) (grouped_of s groups)
-    made = grouped_parts groups others t swept (λ s. same_at (same s t) _ _ (alerts s)) flushes
+module _ (book : List (List ℕ × List Pace)) (desks : Desks) (groups others : List (List ℕ × Grouped))
+    (made : (t : List ℕ) → grouped_of t others ≡ swept (grouped_of t groups)) where
+  abbrev old : Plans
+  old = record { paces = book; groups = groups; desks = desks }
 
-    own : grouped_of t others ≡ swept (grouped_of t groups)
-    own = made t ∙ ap (λ b. cond b (swept (grouped_of t groups)) (grouped_of t groups)) (same-refl t)
+  abbrev new : Plans
+  new = record { paces = book; groups = others; desks = desks }
 
-    by_members : (key : GroupKey) (pace : Pace) (ms : List (List Label × ℕ)) → members (group_in key) (grouped_of t groups).alerts ≡ ms
-        → due_by pace (least_of ms) (flush_of (group_in key) (grouped_of t groups).flushes) ≡ due_by pace (least_of ms) (flush_of (group_in key) (living (grouped_of t groups)))
-    by_members key pace [] bare = refl
-    by_members key pace (m ∷ ms) held =
-        ap (due_by pace (least_of (m ∷ ms))) (sym (flush_living (group_in key) (grouped_of t groups) ∙ ap (λ us. cond (is_bare us) None (flush_of (group_in key) (grouped_of t groups).flushes)) held))
+  -- what is planned then
+  pub plan_swept : (t : List ℕ) → plan_of t new ≡ with_living (plan_of t old)
+  unfolding plan_of
+  plan_swept t = ap (λ g. let p : Plan = record { paces = paces_of t book; grouped = g; desk = desk_of t desks } in p) (made t)
 
-    same_due : (key : GroupKey) (pace : Pace) → group_due pace (group_in key) (grouped_of t groups) ≡ group_due pace (group_in key) (swept (grouped_of t groups))
-    same_due key pace =
-        let ms = members (group_in key) (grouped_of t groups).alerts in
-        by_members key pace ms refl
+  -- no flush of a group that has members is forgotten, and one without is never due
+  pub kept_swept : (timers : List Timer) → IsKept old timers → IsKept new timers
+  unfolding plan_of flush_due
+  kept_swept timers kept = record {
+    rising = λ t. subst (λ (g : Grouped). IsStrictlySortedBy labels_cmp (keys_of g.alerts)) (sym (made t)) (kept.rising t);
+    timed = λ x. kept.timed x ∙ ap (λ o. gave o x.due) (same_due x.name.tenant x.name.key);
+  }
+    where
+      by_members : (grouped : Grouped) (key : GroupKey) (pace : Pace) (ms : List (List Label × ℕ)) → members (group_in key) grouped.alerts ≡ ms
+          → due_by pace (least_of ms) (flush_of (group_in key) grouped.flushes) ≡ due_by pace (least_of ms) (flush_of (group_in key) (living grouped))
+      by_members grouped key pace [] bare = refl
+      by_members grouped key pace (m ∷ ms) held =
+          ap (due_by pace (least_of (m ∷ ms)))
+          (sym (flush_living (group_in key) grouped ∙ ap (λ us. cond (is_bare us) None (flush_of (group_in key) grouped.flushes)) held))
 
-    by_pace : (key : GroupKey) (pace : Option Pace) → due_for key (grouped_of t groups) pace ≡ due_for key (grouped_of t others) pace
-    by_pace key None = refl
-    by_pace key (Some pace) = ap (λ d. cond (bytes_eq pace.receiver key.receiver) d None) (same_due key pace) ∙ ap (λ g. due_for key g (Some pace)) (sym own)
+      group_as_before : (grouped : Grouped) (key : GroupKey) (pace : Pace) → group_due pace (group_in key) grouped ≡ group_due pace (group_in key) (swept grouped)
+      group_as_before grouped key pace = by_members grouped key pace (members (group_in key) grouped.alerts) refl
+
+      by_pace : (t : List ℕ) (key : GroupKey) (pace : Option Pace) → due_for key (grouped_of t groups) pace ≡ due_for key (grouped_of t others) pace
+      by_pace t key None = refl
+      by_pace t key (Some pace) =
+          ap (λ d. cond (bytes_eq pace.receiver key.receiver) d None) (group_as_before (grouped_of t groups) key pace)
+          ∙ ap (λ g. due_for key g (Some pace)) (sym (made t))
+
+      same_due : (t : List ℕ) (key : Key) → due_of (plan_of t old) key ≡ due_of (plan_of t new) key
+      same_due t (Operation number) = refl
+      same_due t (Group key) = by_pace t key (slice_get (paces_of t book) key.route)
+      same_due t (Retry number) = refl
+      same_due t (Push instance) = refl

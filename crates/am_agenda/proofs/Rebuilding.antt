@@ -19,8 +19,8 @@ use Rattle.am_outlet.specs.Desks.{Desks, desk_of}
 use Rattle.am_timer.specs.declared.key.GroupKey.{GroupKey}
 use Rattle.am_timer.specs.Tied.{has_timer}
 use Rattle.am_timer.specs.Timer.{Timer}
-use Rattle.am_agenda.specs.declared.pace.Pace.{Pace}
-use Rattle.am_agenda.specs.Paces.{PaceBook, paces_of}
+use Rattle.am_planning.specs.declared.pace.Pace.{Pace}
+use Rattle.am_agenda.specs.Paces.{paces_of}
 use Rattle.am_agenda.specs.Plan.{Plan, all_groups, due_by, due_for, flush_due, group_due, group_in, rebuilt}
 use Rattle.am_agenda.specs.Planned.{IsKept, flush_due_of, has_receiver, is_for_one, plan_of}
 use Rattle.am_agenda.proofs.Keeping.{grouped_parts, kept_after, same_at}
@@ -72,7 +72,7 @@ bare_never : (paces : List Pace) (grouped : Grouped) (key : GroupKey) → groupe
 bare_never paces grouped key bare = never_planned paces grouped key (ap (λ ys. list_any (is_group (group_in key)) (all_groups ys) && has_receiver key (slice_get paces key.route)) bare)
 
 -- all alerts were taken out
-pub kept_taken : (book : PaceBook) (desks : Desks) (groups others : List (List ℕ × Grouped)) (t : List ℕ) (paces : List Pace) (timers after : List Timer) → paces ≡ paces_of t book
+pub kept_taken : (book : List (List ℕ × List Pace)) (desks : Desks) (groups others : List (List ℕ × Grouped)) (t : List ℕ) (paces : List Pace) (timers after : List Timer) → paces ≡ paces_of t book
     → IsKept (record { paces = book; groups = groups; desks = desks }) timers
     → ((s : List ℕ) → (grouped_of s others).alerts ≡ cond (same s t) [] (grouped_of s groups).alerts)
     → ((s : List ℕ) → (grouped_of s others).flushes ≡ (grouped_of s groups).flushes)
@@ -88,7 +88,7 @@ kept_taken book desks groups others t paces timers after are kept alerts flushes
     bare : (grouped_of t others).alerts ≡ []
     bare = alerts t ∙ ap (λ b. cond b [] (grouped_of t groups).alerts) (same-refl t)
 
-module _ (book after_book : PaceBook) (desks : Desks) (groups others : List (List ℕ × Grouped)) (t : List ℕ) (paces : List Pace) (ys : List (List Label × Known))
+module _ (book after_book : List (List ℕ × List Pace)) (desks : Desks) (groups others : List (List ℕ × Grouped)) (t : List ℕ) (paces : List Pace) (ys : List (List Label × Known))
     (own : (s : List ℕ) → paces_of s after_book ≡ cond (same s t) paces (paces_of s book))
     (alerts : (s : List ℕ) → (grouped_of s others).alerts ≡ cond (same s t) ys (grouped_of s groups).alerts)
     (flushes : (s : List ℕ) → (grouped_of s others).flushes ≡ (grouped_of s groups).flushes) where

@@ -19,7 +19,7 @@ use Rattle.am_timer.specs.Tied.{has_timer}
 use Rattle.am_timer.specs.Timer.{Key, Timer, key_cmp, timer_cmp}
 use Rattle.am_timer.proofs.Orders.{name_ties, same_name, same_timer}
 use Rattle.am_timer.proofs.TiedLemmas.{has-filter, has-insert}
-use Rattle.am_agenda.specs.Paces.{PaceBook}
+use Rattle.am_planning.specs.declared.pace.Pace.{Pace}
 use Rattle.am_agenda.specs.Plan.{due_of, retry_due}
 use Rattle.am_agenda.specs.Planned.{IsKept, is_planned, is_retry, names_retry, plan_of, retry_name}
 use Rattle.am_agenda.proofs.Named.{due_then}
@@ -118,7 +118,7 @@ retry_set t number y old new named is x =
     ] refl)
 
 -- the attempts of one tenant changed, and the timer of one of them was set anew
-pub kept_trying : (book : PaceBook) (groups : List (List ℕ × Grouped)) (desks others : Desks) (t : List ℕ) (number : ℕ) (timers after : List Timer) → IsKept (record { paces = book; groups = groups; desks = desks }) timers
+pub kept_trying : (book : List (List ℕ × List Pace)) (groups : List (List ℕ × Grouped)) (desks others : Desks) (t : List ℕ) (number : ℕ) (timers after : List Timer) → IsKept (record { paces = book; groups = groups; desks = desks }) timers
     → ((s : List ℕ) → same s t ≡ false → desk_of s others ≡ desk_of s desks)
     → ((n : ℕ) → (number == n) ≡ false → retry_due (desk_of t others) n ≡ retry_due (desk_of t desks) n)
     → ((x : Timer) → has_timer after x ≡ cond (is_retry t number x) (gave (retry_due (desk_of t others) number) x.due) (has_timer timers x))
@@ -163,7 +163,7 @@ kept_trying book groups desks others t number timers after kept apart elsewhere 
     by_test x false e = kept.timed x ∙ ap (λ o. gave o x.due) (same_due x x.name.key refl e)
 
 -- the attempts changed, but not when a next try is due
-pub kept_still : (book : PaceBook) (groups : List (List ℕ × Grouped)) (desks others : Desks) (timers : List Timer) → IsKept (record { paces = book; groups = groups; desks = desks }) timers
+pub kept_still : (book : List (List ℕ × List Pace)) (groups : List (List ℕ × Grouped)) (desks others : Desks) (timers : List Timer) → IsKept (record { paces = book; groups = groups; desks = desks }) timers
     → ((s : List ℕ) (n : ℕ) → retry_due (desk_of s others) n ≡ retry_due (desk_of s desks) n) → IsKept (record { paces = book; groups = groups; desks = others }) timers
 unfolding plan_of
 kept_still book groups desks others timers kept stays = record {

@@ -14,7 +14,7 @@ use Rattle.am_timer.specs.declared.key.GroupKey.{GroupKey}
 use Rattle.am_timer.specs.declared.key.TimerKey.TheVariants.{Operation, Group, Retry, Push}
 use Rattle.am_timer.specs.Tied.{has_timer}
 use Rattle.am_timer.specs.Timer.{Key, Timer}
-use Rattle.am_agenda.specs.declared.pace.Pace.{Pace}
+use Rattle.am_planning.specs.declared.pace.Pace.{Pace}
 use Rattle.am_agenda.specs.Plan.{Plan, due_for, due_of, flush_due, group_in}
 use Rattle.am_agenda.specs.Planned.{AreTimed, Plans, flush_due_of, has_receiver, is_for_one, is_planned, names_flush, plan_of}
 

@@ -14,7 +14,7 @@ use Rattle.am_outlet.specs.Attempts.{Desk, attempt_at, no_attempts}
 use Rattle.am_timer.specs.declared.key.GroupKey.{GroupKey}
 use Rattle.am_timer.specs.declared.key.TimerKey.TheVariants.{Operation, Group, Retry, Push}
 use Rattle.am_timer.specs.Timer.{Key, Timer, timer_cmp}
-use Rattle.am_agenda.specs.declared.pace.Pace.{Pace}
+use Rattle.am_planning.specs.declared.pace.Pace.{Pace}
 
 -- how the groups of each route wait, by the number of the route; the alerts in their groups, with the groups' last flushes;
 -- and the open attempts

@@ -19,13 +19,13 @@ use Rattle.am_timer.specs.declared.key.TimerKey.TheVariants.{Operation, Group, R
 use Rattle.am_timer.specs.Queue.{with_timer, without}
 use Rattle.am_timer.specs.Tied.{has_timer}
 use Rattle.am_timer.specs.Timer.{Key, Name as TimerName, Timer}
-use Rattle.am_agenda.specs.declared.pace.Pace.{Pace}
-use Rattle.am_agenda.specs.Paces.{PaceBook, paces_of}
+use Rattle.am_planning.specs.declared.pace.Pace.{Pace}
+use Rattle.am_agenda.specs.Paces.{paces_of}
 use Rattle.am_agenda.specs.Plan.{Plan, due_of, flush_due, flush_key, group_in}
 
 -- what is planned of all tenants
 pub record Plans : Type 0 where
-  pub paces : PaceBook
+  pub paces : List (List ℕ × List Pace)
   pub groups : List (List ℕ × Grouped)
   pub desks : Desks
 

@@ -1,5 +1,5 @@
 //! What is planned of all tenants.
-ghost use Rattle.std.specs.Prelude.{◌≡◌, ◌↔◌, ◌+◌, ◌^◌, ◌≤◌, ℕ, false, List, [], IfOk, IfSome, IsErrOf, OnErr, OnOk, if◌then◌else◌};
+ghost use Rattle.std.specs.Prelude.{◌≡◌, ◌↔◌, ◌+◌, ◌^◌, ◌≤◌, ℕ, false, List, [], map, IfOk, IfSome, IsErrOf, OnErr, OnOk, if◌then◌else◌};
 ghost use Rattle.std.specs.List.Sorted.{IsStrictlySortedBy};
 ghost use Rattle.std.specs.Map.{keys_of, lookup};
 ghost use Rattle.std.specs.Option.{option_copied};
@@ -7,28 +7,31 @@ ghost use Rattle.am_tenant.specs.Names.{same};
 ghost use Rattle.am_members.specs.Grouped.{flushed_at, grouped_of, kept_after, listed, members, nothing, put_in};
 ghost use Rattle.am_members.specs.Members.{gave, is_bare};
 ghost use Rattle.am_members.specs.Names.{is_set, without as absent};
-ghost use Rattle.am_outlet.specs.Attempts.{added, after_outcome, after_tick, next_of, no_attempts, outcome_of, sending_of, without, without_key};
+ghost use Rattle.am_outlet.specs.Attempts.{added, after_outcome, after_tick, attempt_at, awaits_outcome, next_of, no_attempts, outcome_of, sending_of, without, without_key};
 ghost use Rattle.am_outlet.specs.Desks.{desk_of};
 ghost use Rattle.am_timer.specs.Queue.{due_at, timers_of};
 ghost use Rattle.am_timer.specs.Tied.{has_timer};
 ghost use Rattle.am_timer.specs.Timer.{Timer as Timed, timer_cmp};
 ghost use Rattle.am_labels.specs.Labels.{labels_cmp};
+ghost use Rattle.am_planning.specs.Planning.{default_paces};
 ghost use Rattle.am_agenda.specs.Paces.{paces_of};
-ghost use Rattle.am_agenda.specs.Plan.{all_groups, no_plan, rebuilt, timers_in, with_alert, with_alerts, with_desk, with_flush, with_living, without_alert};
+ghost use Rattle.am_agenda.specs.Plan.{all_groups, flush_due, no_plan, rebuilt, timers_in, with_alert, with_alerts, with_desk, with_flush, with_living, without_alert};
 ghost use Rattle.am_agenda.specs.Planned.{flush_due_of, groups_known, is_for, is_for_one, plan_of};
 
 use crate::grouping::{flush_in, put_all, put_in, remove_from, take_out_of};
-use crate::pace::Pace;
 use crate::paces::Paces;
+use crate::refresh::due;
 use crate::trying::{drop_attempt, take_outcome, try_again};
 use am_item::{EntryKey, Fault};
 use am_labels::LabelSet;
 use am_members::{Group, Groups, Known, Members};
 use am_outlet::{Attempts, Notice, Outcome, Sending};
+use am_planning::Pace;
 use am_tenant::TenantName;
-use am_text::{Listed, Moment};
+use am_text::{Listed, Moment, Text};
 use am_timer::{Timer, TimerQueue};
 use std::alloc::{AllocError, Global};
+use std::collections::BTreeMap;
 use std::marker::Model;
 
 /// What an instance has to do by itself, of all tenants. A call that fails leaves nothing planned of any tenant but how long
@@ -52,24 +55,23 @@ impl Model for Agenda {
 }
 
 impl Agenda {
-    /// Nothing planned. The routes of a tenant for whom nothing else was set have these paces.
-    #[tactic(auto, unfolding(crate::specs::Planned::plan_of))]
-    pub fn new(alloc: Global, otherwise: Listed<Pace>) -> Agenda
-        ensures plans { (t : List ℕ) → plan_of t result ≡ no_plan otherwise }
-        ensures otherwise { result.paces.otherwise ≡ otherwise }
+    /// Nothing planned. The routes of a tenant for whom no others were set have the paces that hold without a configuration.
+    ///
+    /// An error is out of memory.
+    pub fn new(alloc: Global) -> Result<Agenda, AllocError>
+        ensures { IfOk result (λ agenda. (t : List ℕ) → plan_of t agenda ≡ no_plan default_paces) }
     {
-        Agenda {
-            paces: Paces::new(alloc, otherwise),
+        Ok(Agenda {
+            paces: Paces::new(alloc)?,
             groups: Groups::new(alloc),
             attempts: Attempts::new(alloc),
             timers: TimerQueue::new(alloc),
-        }
+        })
     }
 
     /// Forgets all that is planned, and the paces that were set. It takes no memory.
     pub fn clear(&mut self, alloc: Global)
-        ensures plans { (t : List ℕ) → plan_of t self.new ≡ no_plan self.old.paces.otherwise }
-        ensures otherwise { self.new.paces.otherwise ≡ self.old.paces.otherwise }
+        ensures { (t : List ℕ) → plan_of t self.new ≡ no_plan default_paces }
     {
         self.paces.clear();
         reset(
@@ -96,6 +98,42 @@ impl Agenda {
         self.groups.members(tenant, group)
     }
 
+    /// When the flush of a tenant's group to this receiver is due; `None` where the group has no members, or its route another
+    /// receiver.
+    pub fn flush_due(&self, tenant: &TenantName, receiver: &Text, group: &Group) -> Option<Moment>
+        ensures { result ≡ flush_due (plan_of tenant.now self.now).paces (plan_of tenant.now self.now).grouped
+            (record { receiver = receiver.now; labels = group.now.labels; route = group.now.route }) }
+    {
+        let pace = self.paces.of(tenant).get(group.route)?;
+        if pace.receiver != *receiver {
+            return None;
+        }
+        due(&self.groups, pace, tenant, group)
+    }
+
+    /// The label sets of all of a tenant's alerts in order, each with the moment since which it is held.
+    pub fn sinces(
+        &self,
+        alloc: Global,
+        tenant: &TenantName,
+    ) -> Result<Vec<(LabelSet, Moment)>, AllocError>
+        ensures sinces { IfOk result (λ v. v.items ≡ map (λ a. (a.0, a.1.since)) (plan_of tenant.now self.now).grouped.alerts) }
+        ensures rising { IfOk result (λ v. IsStrictlySortedBy labels_cmp (keys_of v.items)) }
+    {
+        match self.groups.alerts(tenant) {
+            Some(alerts) => sinces_of(alloc, alerts),
+            None => Ok(Vec::new(alloc)),
+        }
+    }
+
+    /// Whether the outcome of this try of a tenant's attempt is awaited.
+    #[tactic(auto, unfolding(crate::specs::Planned::plan_of))]
+    pub fn is_awaited(&self, tenant: &TenantName, number: u64, tries: u8) -> bool
+        ensures { result ≡ awaits_outcome tries (attempt_at number (plan_of tenant.now self.now).desk.open_ones) }
+    {
+        self.attempts.is_awaited(tenant, number, tries)
+    }
+
     /// Puts an alert in the place of any of the tenant that has its labels and is in the same groups.
     pub fn put(
         &mut self,
@@ -106,7 +144,6 @@ impl Agenda {
     ) -> Result<(), AllocError>
         requires { IfSome (lookup (is_set labels.now) (plan_of tenant.now self.old).grouped.alerts) (λ held. held.groups ≡ known.groups) }
         ensures plans { OnOk result ((t : List ℕ) → plan_of t self.new ≡ (if same t tenant.now then with_alert labels.now known (plan_of t self.old) else plan_of t self.old)) }
-        ensures otherwise { self.new.paces.otherwise ≡ self.old.paces.otherwise }
         ensures err { OnErr result ((t : List ℕ) → plan_of t self.new ≡ no_plan (plan_of t self.new).paces) }
     {
         let paces = self.paces.of(tenant);
@@ -139,7 +176,6 @@ impl Agenda {
         labels: &LabelSet,
     ) -> Result<(), AllocError>
         ensures plans { OnOk result ((t : List ℕ) → plan_of t self.new ≡ (if same t tenant.now then without_alert labels.now (plan_of t self.old) else plan_of t self.old)) }
-        ensures otherwise { self.new.paces.otherwise ≡ self.old.paces.otherwise }
         ensures err { OnErr result ((t : List ℕ) → plan_of t self.new ≡ no_plan (plan_of t self.new).paces) }
     {
         let paces = self.paces.of(tenant);
@@ -173,7 +209,6 @@ impl Agenda {
     ) -> Result<(), AllocError>
         requires { IsStrictlySortedBy labels_cmp (keys_of list.items) }
         ensures plans { OnOk result ((t : List ℕ) → plan_of t self.new ≡ (if same t tenant.now then rebuilt paces list.items (plan_of t self.old) else plan_of t self.old)) }
-        ensures otherwise { self.new.paces.otherwise ≡ self.old.paces.otherwise }
         ensures err { OnErr result ((t : List ℕ) → plan_of t self.new ≡ no_plan (plan_of t self.new).paces) }
     {
         self.take_out(alloc, tenant)?;
@@ -184,7 +219,6 @@ impl Agenda {
     // Takes out all alerts of a tenant. The flushes stay.
     fn take_out(&mut self, alloc: Global, tenant: &TenantName) -> Result<(), AllocError>
         ensures plans { OnOk result ((t : List ℕ) → plan_of t self.new ≡ (if same t tenant.now then with_alerts [] (plan_of t self.old) else plan_of t self.old)) }
-        ensures otherwise { self.new.paces.otherwise ≡ self.old.paces.otherwise }
         ensures err { OnErr result ((t : List ℕ) → plan_of t self.new ≡ no_plan (plan_of t self.new).paces) }
     {
         let paces = self.paces.of(tenant);
@@ -211,7 +245,6 @@ impl Agenda {
         requires none { (plan_of tenant.now self.old).grouped.alerts ≡ [] }
         requires rising { IsStrictlySortedBy labels_cmp (keys_of list.items) }
         ensures plans { OnOk result ((t : List ℕ) → plan_of t self.new ≡ (if same t tenant.now then rebuilt paces list.items (plan_of t self.old) else plan_of t self.old)) }
-        ensures otherwise { self.new.paces.otherwise ≡ self.old.paces.otherwise }
         ensures err { OnErr result ((t : List ℕ) → plan_of t self.new ≡ no_plan (plan_of t self.new).paces) }
     {
         let put = put_all(
@@ -244,7 +277,6 @@ impl Agenda {
     ) -> Result<(), AllocError>
         requires { is_bare (members group.now (plan_of tenant.now self.old).grouped.alerts) ≡ false }
         ensures plans { OnOk result ((t : List ℕ) → plan_of t self.new ≡ (if same t tenant.now then with_flush group.now moment (plan_of t self.old) else plan_of t self.old)) }
-        ensures otherwise { self.new.paces.otherwise ≡ self.old.paces.otherwise }
         ensures err { OnErr result ((t : List ℕ) → plan_of t self.new ≡ no_plan (plan_of t self.new).paces) }
     {
         let paces = self.paces.of(tenant);
@@ -268,12 +300,11 @@ impl Agenda {
         flushed
     }
 
-    /// Forgets the flushes of a tenant's groups that have no members. It takes no memory.
-    pub fn forget_empty(&mut self, tenant: &TenantName)
-        ensures plans { (t : List ℕ) → plan_of t self.new ≡ (if same t tenant.now then with_living (plan_of t self.old) else plan_of t self.old) }
-        ensures otherwise { self.new.paces.otherwise ≡ self.old.paces.otherwise }
+    /// Forgets the flushes of all tenants' groups that have no members. It takes no memory.
+    pub fn sweep(&mut self)
+        ensures plans { (t : List ℕ) → plan_of t self.new ≡ with_living (plan_of t self.old) }
     {
-        self.groups.forget_empty(tenant);
+        self.groups.sweep();
     }
 
     /// What is due at the moment or before it, in order: by moment, tenant, then groups before attempts; groups by receiver,
@@ -293,7 +324,6 @@ impl Agenda {
     /// Closes the attempt of this key, if the tenant has one open. It takes no memory.
     pub fn drop_attempt(&mut self, tenant: &TenantName, key: &EntryKey)
         ensures plans { (t : List ℕ) → plan_of t self.new ≡ (if same t tenant.now then with_desk (without key.now (plan_of t self.old).desk) (plan_of t self.old) else plan_of t self.old) }
-        ensures otherwise { self.new.paces.otherwise ≡ self.old.paces.otherwise }
     {
         drop_attempt(&mut self.attempts, &mut self.timers, tenant, key);
     }
@@ -313,7 +343,6 @@ impl Agenda {
         ensures sending { IfOk result (λ sending. sending ≡ sending_of ((plan_of tenant.now self.old).desk.used + 1) 1 notice) }
         ensures started { OnOk result ((t : List ℕ) → plan_of t self.new ≡ (if same t tenant.now then with_desk (added notice (plan_of t self.old).desk) (plan_of t self.old) else plan_of t self.old)) }
         ensures fault { IsErrOf result Fault.CountsExhausted ↔ (2 ^ 62 ≤ (plan_of tenant.now self.old).desk.used) }
-        ensures otherwise { self.new.paces.otherwise ≡ self.old.paces.otherwise }
         ensures err { OnErr result ((t : List ℕ) → plan_of t self.new ≡ no_plan (plan_of t self.new).paces) }
     {
         let started = self.attempts.start(alloc, tenant, notice);
@@ -343,7 +372,6 @@ impl Agenda {
     ) -> Result<Outcome, AllocError>
         ensures outcome { IfOk result (λ outcome. outcome ≡ outcome_of number tries moment status (plan_of tenant.now self.old).desk.open_ones) }
         ensures each { OnOk result ((t : List ℕ) → plan_of t self.new ≡ (if same t tenant.now then with_desk (after_outcome number tries moment status (plan_of t self.old).desk) (plan_of t self.old) else plan_of t self.old)) }
-        ensures otherwise { self.new.paces.otherwise ≡ self.old.paces.otherwise }
         ensures err { OnErr result ((t : List ℕ) → plan_of t self.new ≡ no_plan (plan_of t self.new).paces) }
     {
         let outcome = take_outcome(
@@ -381,7 +409,6 @@ impl Agenda {
     ) -> Result<Option<Sending>, AllocError>
         ensures sending { IfOk result (λ sending. sending ≡ next_of number now (plan_of tenant.now self.old).desk) }
         ensures each { OnOk result ((t : List ℕ) → plan_of t self.new ≡ (if same t tenant.now then with_desk (after_tick number now (plan_of t self.old).desk) (plan_of t self.old) else plan_of t self.old)) }
-        ensures otherwise { self.new.paces.otherwise ≡ self.old.paces.otherwise }
         ensures err { OnErr result ((t : List ℕ) → plan_of t self.new ≡ plan_of t self.old) }
     {
         let sending = try_again(
@@ -405,4 +432,18 @@ fn reset(alloc: Global, groups: &mut Groups, attempts: &mut Attempts, timers: &m
     *groups = Groups::new(alloc);
     *attempts = Attempts::new(alloc);
     *timers = TimerQueue::new(alloc);
+}
+
+// The label sets of these alerts, each with the moment since which it is held.
+fn sinces_of(
+    alloc: Global,
+    alerts: &BTreeMap<LabelSet, Known>,
+) -> Result<Vec<(LabelSet, Moment)>, AllocError>
+    ensures { IfOk result (λ v. v.items ≡ map (λ a. (a.0, a.1.since)) alerts.now.entries) }
+{
+    let mut all = Vec::new(alloc);
+    for (labels, known) in alerts.iter() {
+        all.push((labels.copy()?, known.since))?;
+    }
+    Ok(all)
 }

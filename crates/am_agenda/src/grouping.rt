@@ -14,11 +14,11 @@ ghost use Rattle.am_agenda.specs.Paces.{paces_of};
 ghost use Rattle.am_agenda.specs.Plan.{all_groups};
 ghost use Rattle.am_agenda.specs.Planned.{flush_due_of, groups_known, is_for, is_for_one};
 
-use crate::pace::Pace;
 use crate::paces::Paces;
 use crate::refresh::{refresh, refresh_alerts, refresh_all};
 use am_labels::LabelSet;
 use am_members::{Group, Groups, Known};
+use am_planning::Pace;
 use am_tenant::TenantName;
 use am_text::{Listed, Moment};
 use am_timer::TimerQueue;
@@ -150,7 +150,6 @@ pub fn put_all(
     list: Vec<(LabelSet, Known)>,
 ) -> Result<(), AllocError>
     requires { IsStrictlySortedBy labels_cmp (keys_of list.items) }
-    ensures otherwise { book.new.otherwise ≡ book.old.otherwise }
     ensures paces { OnOk result ((t : List ℕ) → paces_of t book.new ≡ (if same t tenant.now then paces else paces_of t book.old)) }
     ensures alerts { OnOk result ((t : List ℕ) → (grouped_of t groups.new).alerts ≡ (if same t tenant.now then list.items else (grouped_of t groups.old).alerts)) }
     ensures flushes { (t : List ℕ) → (grouped_of t groups.new).flushes ≡ (grouped_of t groups.old).flushes }

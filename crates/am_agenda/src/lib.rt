@@ -5,10 +5,8 @@
 mod agenda;
 mod grouping;
 mod naming;
-mod pace;
 mod paces;
 mod refresh;
 mod trying;
 
 pub use agenda::Agenda;
-pub use pace::Pace;

@@ -3,8 +3,8 @@
 ghost use Rattle.std.specs.Prelude.{◌≡◌, IfOk};
 ghost use Rattle.am_agenda.specs.Planned.{flush_name, retry_name};
 
-use crate::pace::Pace;
 use am_members::Group;
+use am_planning::Pace;
 use am_tenant::TenantName;
 use am_timer::{GroupKey, TimerKey, TimerName};
 use std::alloc::{AllocError, Global};

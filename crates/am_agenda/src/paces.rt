@@ -1,10 +1,11 @@
 //! The paces of all tenants' routes.
 
-ghost use Rattle.std.specs.Prelude.{◌≡◌, ℕ, List, OnErr, OnOk, if◌then◌else◌};
+ghost use Rattle.std.specs.Prelude.{◌≡◌, ℕ, List, IfOk, OnErr, OnOk, if◌then◌else◌};
 ghost use Rattle.am_tenant.specs.Names.{same};
+ghost use Rattle.am_planning.specs.Planning.{default_paces};
 ghost use Rattle.am_agenda.specs.Paces.{paces_of};
 
-use crate::pace::Pace;
+use am_planning::{Pace, default_paces};
 use am_tenant::TenantName;
 use am_text::Listed;
 use std::alloc::{AllocError, Global};
@@ -20,23 +21,28 @@ pub struct Paces {
 }
 
 impl Model for Paces {
-    ghost use Rattle.am_agenda.specs.Paces.{PaceBook};
+    ghost use Rattle.std.specs.Prelude.{◌≡◌, ℕ, List};
+    ghost use Rattle.am_planning.specs.declared.pace.Pace.{Pace};
+    ghost use Rattle.am_planning.specs.Planning.{default_paces};
 
-    ghost Value = { PaceBook };
+    ghost Value = { List (List ℕ × List Pace) };
 
-    ghost view = { λ paces. record { own = paces.own.entries; otherwise = paces.otherwise } };
+    ghost view = { λ paces. paces.own.entries };
+
+    ghost invariant = { λ paces. paces.otherwise ≡ default_paces };
 }
 
 impl Paces {
-    /// These paces for every tenant.
-    pub fn new(alloc: Global, otherwise: Listed<Pace>) -> Paces
-        ensures own { (t : List ℕ) → paces_of t result ≡ otherwise }
-        ensures otherwise { result.otherwise ≡ otherwise }
+    /// For every tenant the paces that hold without a configuration.
+    ///
+    /// An error is out of memory.
+    pub fn new(alloc: Global) -> Result<Paces, AllocError>
+        ensures { IfOk result (λ paces. (t : List ℕ) → paces_of t paces ≡ default_paces) }
     {
-        Paces {
+        Ok(Paces {
             own: BTreeMap::new(alloc),
-            otherwise,
-        }
+            otherwise: default_paces(alloc)?,
+        })
     }
 
     /// The paces of a tenant's routes.
@@ -53,7 +59,6 @@ impl Paces {
     pub fn set(&mut self, tenant: &TenantName, paces: Listed<Pace>) -> Result<(), AllocError>
         ensures set { OnOk result ((t : List ℕ) → paces_of t self.new ≡ (if same t tenant.now then paces else paces_of t self.old)) }
         ensures err { OnErr result ((t : List ℕ) → paces_of t self.new ≡ paces_of t self.old) }
-        ensures otherwise { self.new.otherwise ≡ self.old.otherwise }
     {
         self.own.insert(*tenant, paces)?;
         Ok(())
@@ -61,8 +66,7 @@ impl Paces {
 
     /// Forgets what was set. It takes no memory.
     pub fn clear(&mut self)
-        ensures own { (t : List ℕ) → paces_of t self.new ≡ self.old.otherwise }
-        ensures otherwise { self.new.otherwise ≡ self.old.otherwise }
+        ensures { (t : List ℕ) → paces_of t self.new ≡ default_paces }
     {
         self.own.clear();
     }

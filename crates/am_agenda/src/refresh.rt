@@ -9,9 +9,9 @@ ghost use Rattle.am_agenda.specs.Plan.{all_groups, group_due};
 ghost use Rattle.am_agenda.specs.Planned.{flush_due_of, is_for, is_for_one};
 
 use crate::naming::flush_name;
-use crate::pace::Pace;
 use am_labels::LabelSet;
 use am_members::{Group, Groups, Known};
+use am_planning::Pace;
 use am_tenant::TenantName;
 use am_text::Moment;
 use am_timer::{Timer, TimerQueue};
@@ -90,7 +90,12 @@ pub fn refresh(
 }
 
 // When a group of this pace is due.
-fn due(groups: &Groups, pace: &Pace, tenant: &TenantName, group: &Group) -> Option<Moment>
+pub(crate) fn due(
+    groups: &Groups,
+    pace: &Pace,
+    tenant: &TenantName,
+    group: &Group,
+) -> Option<Moment>
     ensures { result ≡ group_due pace.now group.now (grouped_of tenant.now groups.now) }
 {
     let since = groups.least_since(tenant, group)?;

@@ -4,3 +4,4 @@ pub mod RowLemmas
 pub mod Told
 pub mod Lists
 pub mod Retiring
+pub mod Fewer

@@ -1,13 +1,14 @@
-ghost use Rattle.std.specs.Prelude.{◌≡◌, ◌+◌, ℕ, List, [], None, true, false, not, filter, IsSome, nat_le, IfErr, IfNone, IfSome, OnErr, OnOk, if◌then◌else◌};
+ghost use Rattle.std.specs.Prelude.{◌≡◌, ◌+◌, ℕ, List, [], None, length, true, false, not, filter, IsSome, nat_le, IfErr, IfNone, IfSome, OnErr, OnOk, if◌then◌else◌};
 ghost use Rattle.std.specs.BTreeMap.{IsOrdered};
 ghost use Rattle.std.specs.BTreeSet.{btree_set_len};
 ghost use Rattle.std.specs.Cmp.Lexicographic.{slice_cmp};
+ghost use Rattle.std.specs.Option.{option_map_or};
 ghost use Rattle.std.specs.Ordering.{nat_cmp};
 ghost use Rattle.am_tenant.specs.Names.{same};
 ghost use Rattle.am_item.specs.Best.{IsRising, all_joined, item_at, joined};
 ghost use Rattle.am_item.specs.Key.{has_key, key_of};
 ghost use Rattle.am_item.specs.Retirement.{is_retired, standing_of};
-ghost use Rattle.am_book.specs.Book.{AreHeld, held_of, items_of};
+ghost use Rattle.am_book.specs.Book.{AreHeld, held_of, items_of, pairs_of};
 ghost use Rattle.am_book.specs.Row.{has_row, is_row_of, same_row, tells};
 ghost use Rattle.am_book.specs.declared.row.Row.{Row};
 
@@ -96,9 +97,23 @@ impl Book {
     pub fn retire(&mut self, moment: Moment)
         ensures { (t : List ℕ) → items_of t self.new ≡ filter (λ item. not (is_retired moment item)) (items_of t self.old) }
     {
-        while let Some(row) = pop_retired(&mut self.rows, moment) {
+        while let Some(row) = pop_row(&mut self.rows, moment) {
             remove_of(&mut self.tenants, &row);
         }
+    }
+
+    /// Takes out the item that is retired first, where one is retired at the moment, and answers whose it was and its
+    /// key. It takes no memory, and looks at no more than that item and the one that retires next.
+    pub fn pop_retired(&mut self, moment: Moment) -> Option<(TenantName, ThingKey)>
+        ensures none { IfNone result ((t : List ℕ) → filter (λ item. not (is_retired moment item)) (items_of t self.old) ≡ items_of t self.old) }
+        ensures stays { IfNone result ((t : List ℕ) → items_of t self.new ≡ items_of t self.old) }
+        ensures retired { IfSome result (λ first. option_map_or (is_retired moment) (item_at first.1 (items_of first.0 self.old)) false ≡ true) }
+        ensures others { IfSome result (λ first. (t : List ℕ) → items_of t self.new ≡ (if same t first.0 then filter (λ item. not (has_key first.1 item)) (items_of t self.old) else items_of t self.old)) }
+        ensures fewer { IfSome result (λ first. length self.new + 1 ≡ length self.old) }
+    {
+        let row = pop_row(&mut self.rows, moment)?;
+        remove_of(&mut self.tenants, &row);
+        Some((row.tenant, row.key))
     }
 }
 
@@ -218,7 +233,7 @@ fn forget(rows: &mut BTreeSet<Row>, tenant: &TenantName, standing: Standing, key
 }
 
 // Takes the first row, where its item is retired at the moment.
-fn pop_retired(rows: &mut BTreeSet<Row>, moment: Moment) -> Option<Row>
+fn pop_row(rows: &mut BTreeSet<Row>, moment: Moment) -> Option<Row>
     ensures none { IfNone result ((row : Row) → has_row rows.new row ≡ true → nat_le row.retires_at moment ≡ false) }
     ensures stay { IfNone result (rows.new.keys ≡ rows.old.keys) }
     ensures due { IfSome result (λ first. nat_le first.retires_at moment ≡ true) }
@@ -242,6 +257,7 @@ fn pop_retired(rows: &mut BTreeSet<Row>, moment: Moment) -> Option<Row>
 fn remove_of(tenants: &mut BTreeMap<TenantName, Held>, row: &Row)
     requires { AreHeld tenants.old }
     ensures held { (t : List ℕ) → held_of t tenants.new ≡ (if same t row.now.tenant then filter (λ item. not (has_key row.now.key item)) (held_of t tenants.old) else held_of t tenants.old) }
+    ensures fewer { IsSome (item_at row.now.key (held_of row.now.tenant tenants.old)) → length (pairs_of tenants.new) + 1 ≡ length (pairs_of tenants.old) }
     ensures ordered { AreHeld tenants.new }
 {
     if let Some(held) = tenants.get_mut(&row.tenant) {

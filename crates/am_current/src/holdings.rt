@@ -1,9 +1,11 @@
-ghost use Rattle.std.specs.Prelude.{◌≡◌, ℕ, List, [], IfOk, OnErr, OnOk, false, filter, not, unwrap_or, if◌then◌else◌};
+ghost use Rattle.std.specs.Prelude.{◌≡◌, ◌+◌, ℕ, List, [], IfNone, IfOk, IfSome, OnErr, OnOk, false, filter, length, not, true, unwrap_or, if◌then◌else◌};
 ghost use Rattle.std.specs.Borrow.{sem};
 ghost use Rattle.std.specs.Io.BufRead.{Rests};
+ghost use Rattle.std.specs.Option.{option_map_or};
 ghost use Rattle.am_tenant.specs.Names.{same};
-ghost use Rattle.am_item.specs.Best.{IsRising, all_joined};
+ghost use Rattle.am_item.specs.Best.{IsRising, all_joined, item_at};
 ghost use Rattle.am_book.specs.Book.{items_of};
+ghost use Rattle.am_item.specs.Key.{has_key};
 ghost use Rattle.am_item.specs.Retirement.{is_retired};
 ghost use Rattle.am_current.specs.Current.{configuration_in, read_for};
 
@@ -11,7 +13,7 @@ use crate::reading::Readings;
 use crate::replacing::is_replaced;
 use am_book::Book;
 use am_config::Config;
-use am_item::{Held, Item};
+use am_item::{Held, Item, ThingKey};
 use am_tenant::TenantName;
 use am_text::Moment;
 use std::alloc::{AllocError, Global};
@@ -133,5 +135,18 @@ impl Holdings {
         ensures { (t : List ℕ) → items_of t self.new ≡ filter (λ item. not (is_retired moment item)) (items_of t self.old) }
     {
         self.parts.book.retire(moment);
+    }
+
+    /// Takes out the item that is retired first, where one is retired at the moment, and answers whose it was and its
+    /// key, which is never that of a configuration. It takes no memory, and looks at no more than that item and the one
+    /// that retires next.
+    pub fn pop_retired(&mut self, moment: Moment) -> Option<(TenantName, ThingKey)>
+        ensures none { IfNone result ((t : List ℕ) → filter (λ item. not (is_retired moment item)) (items_of t self.old) ≡ items_of t self.old) }
+        ensures stays { IfNone result ((t : List ℕ) → items_of t self.new ≡ items_of t self.old) }
+        ensures retired { IfSome result (λ first. option_map_or (is_retired moment) (item_at first.1 (items_of first.0 self.old)) false ≡ true) }
+        ensures others { IfSome result (λ first. (t : List ℕ) → items_of t self.new ≡ (if same t first.0 then filter (λ item. not (has_key first.1 item)) (items_of t self.old) else items_of t self.old)) }
+        ensures fewer { IfSome result (λ first. length self.new + 1 ≡ length self.old) }
+    {
+        self.parts.book.pop_retired(moment)
     }
 }

@@ -9,3 +9,4 @@ mod reading;
 mod replacing;
 
 pub use holdings::Holdings;
+pub use replacing::is_replaced;

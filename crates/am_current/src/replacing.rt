@@ -12,7 +12,7 @@ use am_item::{Held, Item, Stamped, Thing};
 use am_text::Text;
 
 /// Whether one of these items is a configuration newer than the one that is held.
-pub(crate) fn is_replaced(held: &Held, items: &[Item]) -> bool
+pub fn is_replaced(held: &Held, items: &[Item]) -> bool
     ensures { result ≡ list_any (replaces (item_at ConfigurationKey held.now)) items.now }
 {
     let configuration = held.configuration();

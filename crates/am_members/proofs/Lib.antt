@@ -6,3 +6,4 @@ pub mod Grouping
 pub mod Flushes
 pub mod Tenants
 pub mod Putting
+pub mod Sweeping

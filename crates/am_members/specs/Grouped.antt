@@ -1,10 +1,13 @@
 -- The groups of the alerts of a tenant, and of all tenants.
 use Rattle.std.specs.Prelude.{◌≡◌, ℕ, Bool, false, true, not, ◌&&◌, List, [], ◌∷◌, map, filter, Option, Some, None}
 use Rattle.std.specs.BTreeMap.{BTreeMap, insert_entry}
+use Rattle.std.specs.BTreeSet.{BTreeSet, contains}
+use Rattle.std.specs.Cmp.Lexicographic.{slice_cmp}
 use Rattle.std.specs.List.{list_any}
 use Rattle.std.specs.List.Sorted.{IsStrictlySortedBy}
 use Rattle.std.specs.Map.{keys_of, lookup}
 use Rattle.std.specs.Option.{unwrap_or}
+use Rattle.std.specs.Ordering.{nat_cmp}
 use Rattle.am_tenant.specs.Names.{same}
 use Rattle.am_labels.specs.declared.Label.{Label}
 use Rattle.am_labels.specs.Labels.{labels_cmp}
@@ -85,3 +88,11 @@ pub record IsIndex (alerts : List (List Label × Known)) (groups : List (Group �
 -- what is grouped of a tenant
 unfoldable pub grouped_of : List ℕ → List (List ℕ × Grouped) → Grouped
 grouped_of t pairs = unwrap_or (lookup (λ s. same t s) pairs) nothing
+
+-- a tenant is among these
+abbrev pub has_tenant : BTreeSet (List ℕ) → List ℕ → Bool
+has_tenant tenants t = contains (slice_cmp nat_cmp) tenants t
+
+-- of all tenants but these, only groups that have members have flushes
+pub record AreSweptBut (unswept : BTreeSet (List ℕ)) (pairs : List (List ℕ × Grouped)) : Type 0 where
+  pub swept : (t : List ℕ) → has_tenant unswept t ≡ false → living (grouped_of t pairs) ≡ (grouped_of t pairs).flushes

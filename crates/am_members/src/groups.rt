@@ -20,7 +20,7 @@ use am_share::{ShareRefusal, Shared};
 use am_tenant::TenantName;
 use am_text::{Failure, Moment};
 use std::alloc::{AllocError, Global};
-use std::collections::BTreeMap;
+use std::collections::{BTreeMap, BTreeSet};
 use std::marker::Model;
 
 /// The alerts of all tenants by label set, the members of their groups, and the last flush of each group.
@@ -29,15 +29,19 @@ use std::marker::Model;
 #[derive(Drop)]
 pub struct Groups {
     tenants: BTreeMap<TenantName, Index>,
+    // those of whom a group may have lost its members otherwise than by `remove`
+    unswept: BTreeSet<TenantName>,
 }
 
 impl Model for Groups {
     ghost use Rattle.std.specs.Prelude.{ℕ, List};
-    ghost use Rattle.am_members.specs.Grouped.{Grouped};
+    ghost use Rattle.am_members.specs.Grouped.{AreSweptBut, Grouped};
 
     ghost Value = { List (List ℕ × Grouped) };
 
     ghost view = { λ groups. groups.tenants.entries };
+
+    ghost invariant = { λ groups. AreSweptBut groups.unswept groups.tenants.entries };
 }
 
 impl Groups {
@@ -48,6 +52,7 @@ impl Groups {
     {
         Groups {
             tenants: BTreeMap::new(alloc),
+            unswept: BTreeSet::new(alloc),
         }
     }
 
@@ -88,7 +93,7 @@ impl Groups {
     }
 
     /// Puts an alert in the place of any of the tenant that has its labels. Flushes stay, also those of groups that have
-    /// no member now: [`Groups::forget_empty`] forgets them.
+    /// no member now: [`Groups::sweep`] forgets them.
     ///
     /// An error, which is out of memory, leaves all that was grouped of the tenant, or nothing.
     pub fn put(
@@ -103,6 +108,7 @@ impl Groups {
         ensures err { OnErr result ((grouped_of tenant.now self.new ≡ grouped_of tenant.now self.old) ⊎ (grouped_of tenant.now self.new ≡ nothing)) }
         ensures others { OnErr result ((t : List ℕ) → same t tenant.now ≡ false → grouped_of t self.new ≡ grouped_of t self.old) }
     {
+        self.unswept.insert(*tenant)?;
         let index = self.tenants.entry(*tenant)?.or_insert(Index::new(alloc));
         index.put(alloc, labels, known)
     }
@@ -136,7 +142,7 @@ impl Groups {
     }
 
     /// Puts these alerts, in the order of their labels, in the place of all that the tenant has, and answers those that
-    /// were there. Flushes stay, also those of groups that have no member now: [`Groups::forget_empty`] forgets them.
+    /// were there. Flushes stay, also those of groups that have no member now: [`Groups::sweep`] forgets them.
     ///
     /// An error, which is out of memory, leaves all as it was.
     pub fn rebuild(
@@ -151,17 +157,20 @@ impl Groups {
         ensures flushes { (t : List ℕ) → (grouped_of t self.new).flushes ≡ (grouped_of t self.old).flushes }
         ensures err { OnErr result ((t : List ℕ) → (grouped_of t self.new).alerts ≡ (grouped_of t self.old).alerts) }
     {
+        self.unswept.insert(*tenant)?;
         let index = self.tenants.entry(*tenant)?.or_insert(Index::new(alloc));
         index.rebuild(alloc, list)
     }
 
-    /// Forgets the flushes of a tenant's groups that have no members. It takes no memory, and goes over the flushes only
-    /// where a group can have lost its members otherwise than by [`Groups::remove`].
-    pub fn forget_empty(&mut self, tenant: &TenantName)
-        ensures flushes { (t : List ℕ) → (grouped_of t self.new).flushes ≡ (if same t tenant.now then living (grouped_of t self.old) else (grouped_of t self.old).flushes) }
+    /// Forgets the flushes of all tenants' groups that have no members. It takes no memory, and goes over the flushes of
+    /// those tenants alone of whom a group can have lost its members otherwise than by [`Groups::remove`].
+    pub fn sweep(&mut self)
+        ensures flushes { (t : List ℕ) → (grouped_of t self.new).flushes ≡ living (grouped_of t self.old) }
         ensures alerts { (t : List ℕ) → (grouped_of t self.new).alerts ≡ (grouped_of t self.old).alerts }
     {
-        sweep_of(&mut self.tenants, tenant);
+        while let Some(tenant) = self.unswept.pop_first() {
+            sweep_of(&mut self.tenants, &tenant);
+        }
     }
 
     /// Drops all that is grouped of a tenant. It takes no memory.

@@ -1,5 +1,6 @@
 ghost use Rattle.std.specs.Prelude.{◌≡◌, IfOk, IfSome, None, OnOk, []};
 ghost use Rattle.std.specs.BTreeMap.{insert_entry};
+ghost use Rattle.std.specs.List.Sorted.{IsStrictlySortedBy};
 ghost use Rattle.std.specs.Map.{keys_of, lookup};
 ghost use Rattle.am_labels.specs.Labels.{labels_cmp};
 ghost use Rattle.am_members.specs.Names.{is_set, without};
@@ -63,15 +64,12 @@ impl Members {
         self.sinces.is_empty()
     }
 
-    /// The label sets of the members, in order.
-    pub fn labels(&self, alloc: Global) -> Result<Vec<LabelSet>, AllocError>
-        ensures { IfOk result (λ v. v.items ≡ keys_of self.now) }
+    /// The members' label sets in order, each with the moment since which its alert is held.
+    pub fn sinces(&self) -> &BTreeMap<LabelSet, Moment>
+        ensures sinces { result.now.entries ≡ self.now }
+        ensures rising { IsStrictlySortedBy labels_cmp (keys_of self.now) }
     {
-        let mut all = Vec::new(alloc);
-        for labels in self.sinces.keys() {
-            all.push(labels.copy()?)?;
-        }
-        Ok(all)
+        &self.sinces
     }
 
     // Adds a member, unless it is one since then.

@@ -1,5 +1,5 @@
 -- What mutes the alert at each place.
-use Rattle.std.proofs.Common.{◌≡◌, ℕ, zero, suc, ◌+◌, ◌<◌, ◌≤◌, All, Fits, Vec, Global, w64, ◌==◌, ◌&&◌, true, false, List, [], ◌∷◌, ◌++◌, Bor, inl, inr, length, map, drop, get_or, refl, sym, ap, ap₂, ◌∙◌, arith, append-nil, length-append, length-drop, replicate, true≢false}
+use Rattle.std.proofs.Common.{◌≡◌, ℕ, zero, suc, ◌+◌, ◌<◌, ◌≤◌, All, Fits, Vec, Global, w64, ◌==◌, ◌&&◌, true, false, List, [], ◌∷◌, ◌++◌, Bor, inl, inr, length, map, drop, get_or, refl, sym, ap, ap₂, ◌∙◌, arith, append-nil, length-append, length-drop, true≢false, Bool, filter}
 use Rattle.std.specs.List.{zip}
 use Rattle.std.proofs.lemmas.Bool.{and_parts}
 use Rattle.std.proofs.lemmas.Bool.Decides.{eqb_tells}
@@ -19,7 +19,7 @@ use Rattle.am_inhibit.specs.Inhibits.{inhibitor_places, inhibitors}
 use Rattle.am_inhibit.proofs.InhibitorLemmas.{inhibitors_at}
 use Rattle.am_muting.specs.Asked.{sources_by, sources_of}
 use Rattle.am_muting.specs.Mutes.{AreEach, muting_at, mutings}
-use Rattle.am_muting.specs.Muting.{Muting, firing_sets, is_muted, muting_by, muting_of, nothing}
+use Rattle.am_muting.specs.Muting.{Muting, alert_sets, firing_sets, is_muted, muted_sets, muting_by, muting_of, nothing}
 
 -- ---- each place
 
@@ -167,10 +167,13 @@ not_muted c moment held labels quiet bare =
     ap (λ rules. inhibitors rules (firing_sets moment held) labels) (nil_from_length c.rules bare) ∙ none_inhibits (firing_sets moment held) labels in
     rw (silent, free) refl
 
-pub quiet_flags : (c : Configuration) (moment : ℕ) (held : List Item) (targets : List (Bor (List Label))) →
-    (length (active_among moment held) == 0 && length c.rules == 0) ≡ true →
-    replicate (length targets) false ≡ map (λ (set' : Bor (List Label)). is_muted (muting_of c moment held set'.now)) targets
-quiet_flags c moment held [] quiet = refl
-quiet_flags c moment held (t ∷ targets) quiet =
+none_kept : {X : Type 0} (p : X → Bool) (xs : List X) → ((x : X) → p x ≡ false) → filter p xs ≡ []
+none_kept p [] none = refl
+none_kept p (x ∷ xs) none = let first = none x in rw first (none_kept p xs none)
+
+-- nothing is muted then
+pub quiet_sets : (c : Configuration) (moment : ℕ) (held : List Item) → (length (active_among moment held) == 0 && length c.rules == 0) ≡ true → muted_sets c moment held ≡ []
+unfolding muted_sets
+quiet_sets c moment held quiet =
     let parts = quiet_parts (length (active_among moment held)) (length c.rules) quiet in
-    ap₂ (λ first rest. first ∷ rest) (sym (not_muted c moment held t.now parts.0 parts.1)) (quiet_flags c moment held targets quiet)
+    none_kept (λ labels. is_muted (muting_of c moment held labels)) (alert_sets held) (λ labels. not_muted c moment held labels parts.0 parts.1)

@@ -1,5 +1,5 @@
 -- Which silences and firing alerts are asked what they mute.
-use Rattle.std.specs.Prelude.{ℕ, List, [], ◌∷◌, filter}
+use Rattle.std.specs.Prelude.{ℕ, Bool, true, false, List, [], ◌∷◌, filter}
 use Rattle.am_labels.specs.declared.Label.{Label}
 use Rattle.am_item.specs.declared.item.Item.{Item}
 use Rattle.am_item.specs.declared.silence.SilenceDetails.{SilenceDetails}
@@ -22,3 +22,10 @@ sources_by (rule ∷ rules) sets = sets
 -- the same by a configuration: all that fire, unless it has no rule
 abbrev pub sources_of : Configuration → ℕ → List Item → List (List Label)
 sources_of c moment held = sources_by c.rules (firing_sets moment held)
+
+-- those label sets whose flag is true
+abbrev pub chosen : List Bool → List (List Label) → List (List Label)
+chosen (true ∷ flags) (set ∷ sets) = set ∷ chosen flags sets
+chosen (false ∷ flags) (set ∷ sets) = chosen flags sets
+chosen [] sets = []
+chosen (flag ∷ flags) [] = []

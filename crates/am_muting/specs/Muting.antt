@@ -1,11 +1,11 @@
 -- What mutes alerts.
-use Rattle.std.specs.Prelude.{ℕ, Bool, not, ◌||◌, ◌==◌, List, [], length, map}
+use Rattle.std.specs.Prelude.{ℕ, Bool, not, ◌||◌, ◌==◌, List, [], filter, length, map}
 use Rattle.am_labels.specs.declared.Label.{Label}
 use Rattle.am_item.specs.declared.item.Alert.{Alert}
 use Rattle.am_item.specs.declared.item.Item.{Item}
 use Rattle.am_item.specs.declared.stamp.Stamped.{Stamped}
 use Rattle.am_config.specs.Configuration.{Configuration}
-use Rattle.am_alert.specs.Held.{firing}
+use Rattle.am_alert.specs.Held.{alerts_among, firing}
 use Rattle.am_silence.specs.Held.{silencing}
 use Rattle.am_inhibit.specs.Inhibits.{inhibitors}
 
@@ -43,3 +43,11 @@ firing_sets moment held = map (λ (alert : Stamped Alert). alert.value.labels) (
 -- what mutes an alert with these labels at the moment, whether it fires or is resolved
 unfoldable pub muting_of : Configuration → ℕ → List Item → List Label → Muting
 muting_of c moment held labels = muting_by c moment held (firing_sets moment held) labels
+
+-- the label sets of all alerts, in their order
+abbrev pub alert_sets : List Item → List (List Label)
+alert_sets held = map (λ (alert : Stamped Alert). alert.value.labels) (alerts_among held)
+
+-- those of the alerts that something mutes at the moment
+unfoldable pub muted_sets : Configuration → ℕ → List Item → List (List Label)
+muted_sets c moment held = filter (λ labels. is_muted (muting_of c moment held labels)) (alert_sets held)

@@ -5,4 +5,4 @@ mod mutes;
 mod muting;
 
 pub use mutes::Mutes;
-pub use muting::{are_muted, label_sets, mutes_of, mutes_of_firing};
+pub use muting::{label_sets, muted_sets, mutes_of, mutes_of_firing};

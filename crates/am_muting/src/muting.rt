@@ -1,18 +1,20 @@
 ghost use Rattle.std.specs.Prelude.{◌≡◌, ◌&&◌, ◌==◌, [], IfErr, IfOk, length, map, not};
+ghost use Rattle.std.specs.List.Sorted.{IsStrictlySortedBy};
+ghost use Rattle.am_labels.specs.Labels.{labels_cmp};
 ghost use Rattle.am_text.specs.Outcome.{ForRefused};
 ghost use Rattle.am_pattern.specs.Asking.{Asked};
 ghost use Rattle.am_alert.specs.declared.held.HeldAlert.{HeldAlert};
 ghost use Rattle.am_silence.specs.Held.{active_among};
 ghost use Rattle.am_silence.specs.Silences.{is_active};
-ghost use Rattle.am_muting.specs.Asked.{active_in, sources_of};
+ghost use Rattle.am_muting.specs.Asked.{active_in, chosen, sources_of};
 ghost use Rattle.am_muting.specs.Failing.{HasUnanswered, patterns_muting};
-ghost use Rattle.am_muting.specs.Muting.{firing_sets, is_muted, muting_of};
+ghost use Rattle.am_muting.specs.Muting.{alert_sets, firing_sets, is_muted, muted_sets, muting_of};
 
 use crate::mutes::Mutes;
 use am_alert::{AlertBook, HeldAlert};
 use am_config::Config;
 use am_inhibit::inhibitors_of_each;
-use am_item::{Held, SilenceDetails, SilenceId, Stamped};
+use am_item::{Held, LabelSets, SilenceDetails, SilenceId, Stamped};
 use am_labels::LabelSet;
 use am_pattern::{PatternCache, PatternRefusal};
 use am_silence::{SilenceBook, SilenceState};
@@ -68,30 +70,31 @@ pub fn mutes_of_firing<'a>(
     Ok(Mutes::new(firing, silences, inhibited, 0))
 }
 
-/// For each of the alerts with these label sets whether anything mutes it at a moment. Where no silence is active and there
-/// is no inhibit rule, nothing is asked and no alert is looked at.
+/// The label sets of the alerts that are held and that something mutes at a moment, in their order. Where no silence is active
+/// and there is no inhibit rule, nothing is asked and no alert is looked at.
 ///
 /// # Errors
 /// Those of [`mutes_of`].
-pub fn are_muted(
+pub fn muted_sets(
     alloc: Global,
     held: &Held,
     config: &Config,
     moment: Moment,
-    targets: &[&LabelSet],
     cache: &mut PatternCache,
-) -> Result<Vec<bool>, Failure<PatternRefusal>>
-    ensures muted { IfOk result (λ v. v.items ≡ map (λ set. is_muted (muting_of config.now moment held.now set.now)) targets.now) }
+) -> Result<LabelSets, Failure<PatternRefusal>>
+    ensures muted { IfOk result (λ sets. sets ≡ muted_sets config.now moment held.now) }
     ensures quiet { active_among moment held.now ≡ [] → config.now.rules ≡ [] → cache.new ≡ cache.old }
     ensures asked { Asked result cache.old cache.new }
     ensures failure { IfErr result (λ failure. ForRefused failure
         (λ refusal. HasUnanswered cache.new.refused (patterns_muting config.now moment held.now))) }
 {
     if is_quiet(held, config, moment) {
-        return Ok(vec![in alloc; false; targets.len()]?);
+        return Ok(as_sets(Vec::new(alloc)));
     }
-    let mutes = mutes_of(alloc, held, config, moment, targets, cache)?;
-    Ok(flags_of(alloc, &mutes, targets.len())?)
+    let alerts = alert_sets(alloc, held)?;
+    let mutes = mutes_of(alloc, held, config, moment, &alerts, cache)?;
+    let muted = muted_of(alloc, &mutes, &alerts)?;
+    Ok(as_sets(muted))
 }
 
 /// The label sets of alerts, in their order.
@@ -157,14 +160,44 @@ fn is_active(silence: &SilenceDetails, moment: Moment) -> bool
     SilenceState::at(moment, silence.starts_at, silence.ends_at) == SilenceState::Active
 }
 
-// For each of so many alerts whether anything mutes it.
-fn flags_of(alloc: Global, mutes: &Mutes<'_>, count: usize) -> Result<Vec<bool>, AllocError>
-    requires { count ≡ length mutes.now }
-    ensures { IfOk result (λ v. v.items ≡ map is_muted mutes.now) }
+// The label sets of all alerts that are held, in their order.
+fn alert_sets<'a>(alloc: Global, held: &'a Held) -> Result<Vec<&'a LabelSet>, AllocError>
+    ensures sets { IfOk result (λ v. map (λ set. set.now) v.items ≡ alert_sets held.now) }
+    ensures rising { IfOk result (λ v. IsStrictlySortedBy labels_cmp (map (λ set. set.now) v.items)) }
 {
-    let mut flags = Vec::with_capacity(alloc, count)?;
-    for place in 0..count {
-        flags.push(mutes.is_muted(place))?;
+    let alerts = held.alerts();
+    let mut sets = Vec::with_capacity(alloc, alerts.len())?;
+    for (labels, _) in alerts {
+        sets.push(labels)?;
     }
-    Ok(flags)
+    Ok(sets)
+}
+
+// Those of some alerts' label sets that something mutes, copied.
+fn muted_of(
+    alloc: Global,
+    mutes: &Mutes<'_>,
+    alerts: &[&LabelSet],
+) -> Result<Vec<LabelSet>, AllocError>
+    requires { length mutes.now ≡ length alerts.now }
+    ensures { IfOk result (λ v. v.items ≡ chosen (map is_muted mutes.now) (map (λ set. set.now) alerts.now)) }
+{
+    let mut muted = Vec::new(alloc);
+    for (place, labels) in alerts.iter().enumerate() {
+        if mutes.is_muted(place) {
+            muted.push(labels.copy()?)?;
+        }
+    }
+    Ok(muted)
+}
+
+// Label sets that rise, as such.
+fn as_sets(sets: Vec<LabelSet>) -> LabelSets
+    requires { IsStrictlySortedBy labels_cmp sets.items }
+    ensures { result ≡ sets.items }
+{
+    match LabelSets::from_rising(sets) {
+        Some(sets) => sets,
+        None => unreachable!(),
+    }
 }

@@ -79,6 +79,11 @@ told_to (Some attempt) tries moment status = if awaits tries attempt then fate_o
 abbrev pub outcome_of : (number tries moment : ℕ) → Option ℕ → List (ℕ × Attempt) → Outcome
 outcome_of number tries moment status attempts = told_to (attempt_at number attempts) tries moment status
 
+-- whether an attempt that may be there awaits the outcome of this try
+abbrev pub awaits_outcome : (tries : ℕ) → Option Attempt → Bool
+awaits_outcome tries None = false
+awaits_outcome tries (Some attempt) = awaits tries attempt
+
 -- the attempts after an outcome of a try
 abbrev pub left_by : Outcome → (number tries : ℕ) → List (ℕ × Attempt) → List (ℕ × Attempt)
 left_by NotOpen number tries attempts = attempts

@@ -5,7 +5,7 @@ ghost use Rattle.std.specs.Cmp.Lexicographic.{slice_cmp};
 ghost use Rattle.std.specs.Ordering.{nat_cmp};
 ghost use Rattle.am_tenant.specs.Names.{same};
 ghost use Rattle.am_share.specs.Pairs.{Drops, LeavesOthers};
-ghost use Rattle.am_outlet.specs.Attempts.{after_outcome, after_tick, cleared, next_of, no_attempts, number_with, outcome_of, sending_of, started, without, without_key, without_number};
+ghost use Rattle.am_outlet.specs.Attempts.{after_outcome, after_tick, attempt_at, awaits_outcome, cleared, next_of, no_attempts, number_with, outcome_of, sending_of, started, without, without_key, without_number};
 ghost use Rattle.am_outlet.specs.Desks.{IsSameOrWithout, desk_of, desks_in};
 
 use crate::attempt::{Notice, Sending};
@@ -85,6 +85,16 @@ impl Attempts {
             return None;
         };
         desk.drop_key(key)
+    }
+
+    /// Whether the outcome of this try of a tenant's attempt is awaited.
+    pub fn is_awaited(&self, tenant: &TenantName, number: u64, tries: u8) -> bool
+        ensures { result ≡ awaits_outcome tries (attempt_at number (desk_of tenant.now self.now).open_ones) }
+    {
+        match self.desks.get(tenant) {
+            Some(desk) => desk.is_awaited(number, tries),
+            None => false,
+        }
     }
 
     /// Takes the outcome of a try: the status of the webhook's answer, or `None` where there was no answer. It counts

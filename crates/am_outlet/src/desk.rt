@@ -4,7 +4,7 @@ ghost use Rattle.std.specs.BTreeMap.{keys};
 ghost use Rattle.std.specs.List.Sorted.{IsStrictlySortedBy};
 ghost use Rattle.std.specs.Option.{option_map};
 ghost use Rattle.std.specs.Ordering.{is_eq, nat_cmp};
-ghost use Rattle.am_outlet.specs.Attempts.{AreTries, added, after_outcome, after_tick, attempt_at, cleared, is_due, next_of, no_attempts, number_with, outcome_of, sending_of, started, tried, with_tries, without, without_key, without_number};
+ghost use Rattle.am_outlet.specs.Attempts.{AreTries, added, after_outcome, after_tick, attempt_at, awaits_outcome, cleared, is_due, next_of, no_attempts, number_with, outcome_of, sending_of, started, tried, with_tries, without, without_key, without_number};
 
 use crate::attempt::{Attempt, Notice, Sending};
 use crate::outcome::{Outcome, awaits, is_delivered, next_due};
@@ -50,6 +50,16 @@ impl Desk {
     {
         self.attempts.clear();
         self.numbers.clear();
+    }
+
+    // Whether the outcome of this try of an attempt is awaited.
+    pub fn is_awaited(&self, number: u64, tries: u8) -> bool
+        ensures { result ≡ awaits_outcome tries (attempt_at number self.now.open_ones) }
+    {
+        match self.attempts.get(&number) {
+            Some(attempt) => awaits(tries, attempt),
+            None => false,
+        }
     }
 
     // Closes the attempt of this number.

@@ -1,13 +1,14 @@
 -- What a configuration plans for the alerts that are held of a tenant.
 use Rattle.std.specs.Prelude.{ℕ, ◌+◌, ◌*◌, List, [], map, Option, Some, None, slice_get}
-use Rattle.am_agenda.specs.declared.pace.Pace.{Pace}
 use Rattle.am_config.specs.Configuration.{Configuration}
+use Rattle.am_config.specs.Default.{default_configuration}
 use Rattle.am_config.specs.declared.parts.Receiver.{Receiver}
 use Rattle.am_config.specs.declared.parts.Route.{Route}
 use Rattle.am_config.specs.declared.parts.Settings.{Settings}
 use Rattle.am_group.specs.Grouping.{group_by, groups_of}
 use Rattle.am_labels.specs.declared.Label.{Label}
 use Rattle.am_members.specs.declared.known.Known.{Known}
+use Rattle.am_planning.specs.declared.pace.Pace.{Pace}
 use Rattle.am_text.specs.declared.tree.Node.{Node}
 
 -- how many milliseconds longer each further replica of a tenant waits before the first notice of a group
@@ -30,6 +31,10 @@ pace_of c position settings = record {
 -- the same of all routes, by their numbers
 unfoldable pub paces_of : Configuration → (position : ℕ) → List Pace
 paces_of c position = map (λ (node : Node Route). pace_of c position node.item.settings) c.routes
+
+-- the paces of a tenant without a configuration
+unfoldable pub default_paces : List Pace
+default_paces = paces_of default_configuration 0
 
 -- an alert that is held since a moment, with its groups
 abbrev pub planned : Configuration → List Label × ℕ → List Label × Known

@@ -2,7 +2,9 @@
 #![tactic(auto)]
 
 mod alerts;
+mod pace;
 mod paces;
 
 pub use alerts::plan_alerts;
-pub use paces::paces_of;
+pub use pace::Pace;
+pub use paces::{default_paces, paces_of};

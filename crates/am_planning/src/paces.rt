@@ -2,10 +2,10 @@
 
 ghost use Rattle.std.specs.Prelude.{◌≡◌, ◌<◌, ◌≤◌, IfOk, length};
 ghost use Rattle.am_config.specs.Configured.{HasSpans};
-ghost use Rattle.am_planning.specs.Planning.{pace_of, paces_of};
+ghost use Rattle.am_planning.specs.Planning.{default_paces, pace_of, paces_of};
 ghost use Rattle.am_config.specs.Configuration.{Configuration};
 
-use am_agenda::Pace;
+use crate::pace::Pace;
 use am_config::{Config, Receiver, Settings};
 use am_text::Listed;
 use std::alloc::{AllocError, Global};
@@ -29,6 +29,17 @@ pub fn paces_of(alloc: Global, config: &Config, position: u8) -> Result<Listed<P
         paces.push(pace_of(alloc, receivers, &node.item.settings, position)?)?;
     }
     Ok(Listed::from_vec(paces))
+}
+
+/// The paces of a tenant without a configuration.
+///
+/// An error is out of memory.
+#[tactic(auto, unfolding(crate::specs::Planning::default_paces))]
+pub fn default_paces(alloc: Global) -> Result<Listed<Pace>, AllocError>
+    ensures { IfOk result (λ paces. paces ≡ default_paces) }
+{
+    let config = Config::default_config(alloc)?;
+    paces_of(alloc, &config, 0)
 }
 
 // Whom the groups of a route tell and how long they wait.

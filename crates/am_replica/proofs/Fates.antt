@@ -2,12 +2,11 @@
 use Rattle.std.proofs.Common.{◌≡◌, ℕ, Bool, true, false, Option, Some, None, refl, inl, inr}
 use Rattle.std.specs.Prelude.{if◌then◌else◌}
 use Rattle.std.proofs.lemmas.Bool.{cases_Bool}
-use Rattle.am_outlet.specs.Attempts.{told_to}
+use Rattle.am_outlet.specs.Attempts.{awaits_outcome, told_to}
 use Rattle.am_outlet.specs.Outcomes.{again_or_never, awaits, fate_of, is_delivered, next_due}
 use Rattle.am_outlet.specs.declared.attempt.Attempt.{Attempt}
 use Rattle.am_outlet.specs.declared.outcome.Outcome.{Outcome}
 use Rattle.am_outlet.specs.declared.outcome.Outcome.TheVariants.{NotOpen, Delivered, Again, GivenUp}
-use Rattle.am_replica.specs.Delivery.{awaits_outcome}
 
 -- something came of it
 abbrev pub is_taken : Outcome → Bool

@@ -5,7 +5,7 @@ use Rattle.am_item.specs.declared.item.Item.{Item}
 use Rattle.am_limit.specs.Limits.{Count}
 use Rattle.am_tenant.specs.Names.{same}
 use Rattle.am_tenant.proofs.Same.{same_tells, same-refl}
-use Rattle.am_replica.specs.declared.replica.Replica.{Replica}
+use Rattle.am_replica.specs.declared.parts.Parts.{Parts}
 use Rattle.am_replica.specs.Held.{Does, local_of}
 use Rattle.am_replica.specs.Local.{Local, Reaction}
 
@@ -27,7 +27,7 @@ pub other : {A : Type 0} (t s : List ℕ) (x y z : A) → same t s ≡ false →
 other t s x y z apart is = is ∙ rw apart refl
 
 -- it is done for a tenant where the tenant has what it makes, and every other has what it had
-pub done : (tenant : List ℕ) (react : Local → Reaction) (before after : Replica) → local_of tenant after ≡ (react (local_of tenant before)).local →
+pub done : (tenant : List ℕ) (react : Local → Reaction) (before after : Parts) → local_of tenant after ≡ (react (local_of tenant before)).local →
     ((t : List ℕ) → same t tenant ≡ false → local_of t after ≡ local_of t before) → Does tenant react before after
 done tenant react before after own_one others t = elim (same_tells t tenant) [
   | inl is ↦ rw (is.0) (ap (λ s. local_of s after) (is.1) ∙ own_one ∙ sym (ap (λ s. (react (local_of s before)).local) (is.1)))

@@ -10,9 +10,7 @@ use Rattle.am_item.specs.Key.{SentEntryKey}
 use Rattle.am_alert.specs.Made.{greatest_count, stamp_moment}
 use Rattle.am_limit.specs.Allowances.{asked}
 use Rattle.am_limit.specs.Limits.{has_room, with_limit}
-use Rattle.am_outlet.specs.Attempts.{Desk, added, after_outcome, after_tick, attempt_at, next_of, outcome_of, sending_of, without_key}
-use Rattle.am_outlet.specs.Outcomes.{awaits}
-use Rattle.am_outlet.specs.declared.attempt.Attempt.{Attempt}
+use Rattle.am_outlet.specs.Attempts.{Desk, added, after_outcome, after_tick, attempt_at, awaits_outcome, next_of, outcome_of, sending_of, without_key}
 use Rattle.am_outlet.specs.declared.attempt.Notice.{Notice}
 use Rattle.am_outlet.specs.declared.attempt.Sending.{Sending}
 use Rattle.am_outlet.specs.declared.outcome.Outcome.{Outcome}
@@ -114,10 +112,6 @@ retried here number local = record {
 }
 
 -- the outcome of this try is awaited
-abbrev pub awaits_outcome : (tries : ℕ) → Option Attempt → Bool
-awaits_outcome tries None = false
-awaits_outcome tries (Some attempt) = awaits tries attempt
-
 unfoldable pub is_awaited : (number tries : ℕ) → Local → Bool
 is_awaited number tries local = awaits_outcome tries (attempt_at number local.plan.desk.open_ones)
 

@@ -1,25 +1,26 @@
 //! Notices on their way.
 
-ghost use Rattle.std.specs.Prelude.{◌≡◌, [], true, IfErr, IfOk, OnOk};
+ghost use Rattle.std.specs.Prelude.{◌≡◌, true, IfErr, IfOk, OnOk};
 ghost use Rattle.am_replica.specs.Delivery.{IsUntried, MayTell, is_awaited, notified, outcome, retried, tells, told};
 ghost use Rattle.am_replica.specs.Held.{Does, StopsFor, local_of};
 
 use crate::here::Here;
-use crate::replica::Replica;
-use am_item::{Fault, LabelSets};
+use crate::parts::Parts;
+use crate::sets::no_sets;
+use am_item::Fault;
 use am_outlet::{Notice, Outcome, Sending};
 use am_telling::Telling;
 use am_tenant::TenantName;
 use std::alloc::{AllocError, Global};
 
-impl Replica {
+impl Parts {
     /// Tells a webhook of a tenant what a flush says, and gives the first try of a notice that goes out: none where its minute
     /// has no notice left, or where it is recorded at once that there is nothing to tell. No attempt of the notice's key may be
     /// open.
     ///
     /// # Errors
     /// `CountsExhausted` where a count would pass 2^62, or out of memory.
-    pub fn tell(
+    pub(crate) fn tell(
         &mut self,
         alloc: Global,
         tenant: &TenantName,
@@ -35,7 +36,15 @@ impl Replica {
         match telling {
             Telling::Notify(notice) => self.notify(alloc, tenant, here, notice),
             Telling::Keep { key, span } => {
-                self.record(alloc, tenant, here, key, none(alloc), none(alloc), span)?;
+                self.record(
+                    alloc,
+                    tenant,
+                    here,
+                    key,
+                    no_sets(alloc),
+                    no_sets(alloc),
+                    span,
+                )?;
                 Ok(None)
             }
         }
@@ -71,7 +80,7 @@ impl Replica {
     ///
     /// # Errors
     /// `CountsExhausted` where the stamp of what is recorded would pass 2^62, or out of memory.
-    pub fn outcome(
+    pub(crate) fn outcome(
         &mut self,
         alloc: Global,
         tenant: &TenantName,
@@ -109,7 +118,7 @@ impl Replica {
     }
 
     /// The next try of a tenant's attempt, where it is due: then it goes out, with the same bytes. An error is out of memory.
-    pub fn retry(
+    pub(crate) fn retry(
         &mut self,
         alloc: Global,
         tenant: &TenantName,
@@ -121,15 +130,5 @@ impl Replica {
     {
         let sending = self.agenda.retry(alloc, tenant, number, here.moment)?;
         Ok(sending)
-    }
-}
-
-// No label sets.
-fn none(alloc: Global) -> LabelSets
-    ensures { result ≡ [] }
-{
-    match LabelSets::from_rising(Vec::new(alloc)) {
-        Some(sets) => sets,
-        None => unreachable!(),
     }
 }

@@ -6,7 +6,7 @@ ghost use Rattle.am_replica.specs.Delivery.{entry_stamped, recorded, seen};
 ghost use Rattle.am_replica.specs.Held.{Does, StopsFor, local_of};
 
 use crate::here::Here;
-use crate::replica::Replica;
+use crate::parts::Parts;
 use am_alert::stamp_moment;
 use am_current::Holdings;
 use am_group::recorded;
@@ -15,7 +15,7 @@ use am_tenant::TenantName;
 use am_text::Moment;
 use std::alloc::Global;
 
-impl Replica {
+impl Parts {
     /// Records that a webhook was told of these alerts that fire and of these resolved ones. The record is of use for so many
     /// milliseconds after its stamp.
     pub(crate) fn record(

@@ -1,55 +1,200 @@
-//! The parts of an instance that hold things of all tenants.
+//! What an instance has of all tenants.
 
-ghost use Rattle.std.specs.Prelude.{◌≡◌, ℕ, List, [], IfOk};
-ghost use Rattle.am_agenda.specs.Plan.{no_plan};
-ghost use Rattle.am_limit.specs.Limits.{fresh};
-ghost use Rattle.am_replica.specs.Held.{local_of};
+ghost use Rattle.std.specs.Prelude.{◌≡◌, ◌+◌, ◌<◌, ◌≤◌, ℕ, List, true, IfErr, IfOk, OnErr, OnOk, length, if◌then◌else◌};
+ghost use Rattle.std.specs.Borrow.{sem};
+ghost use Rattle.std.specs.Io.BufRead.{Rests};
+ghost use Rattle.am_alert.specs.Made.{greatest_count};
+ghost use Rattle.am_current.specs.Current.{configuration_in};
+ghost use Rattle.am_item.specs.Best.{IsRising};
+ghost use Rattle.am_pattern.specs.Asking.{Asked};
+ghost use Rattle.am_tenant.specs.Names.{same};
+ghost use Rattle.am_replica.specs.Accepting.{StopsAccepting, kept};
+ghost use Rattle.am_replica.specs.Delivery.{is_awaited, outcome};
+ghost use Rattle.am_replica.specs.Held.{Does, Makes, StopsFor, local_of};
+ghost use Rattle.am_replica.specs.Local.{blank};
+ghost use Rattle.am_replica.specs.Ticks.{StopsAt, TicksAll, here_for};
 
-use am_agenda::{Agenda, Pace};
-use am_current::Holdings;
-use am_item::Counts;
-use am_limit::Allowances;
-use am_text::Listed;
-use am_words::Places;
+use crate::dispatch::Dispatch;
+use crate::here::Here;
+use crate::parts::Parts;
+use am_config::Config;
+use am_item::{Fault, Held, Item};
+use am_limit::LimitBook;
+use am_pattern::PatternCache;
+use am_tenant::TenantName;
+use am_text::Moment;
+use am_words::Place;
 use std::alloc::{AllocError, Global};
+use std::marker::Model;
 
-/// What an instance has of all tenants. A call for one tenant leaves what it has of the others as it was; after an error it
-/// is of use only to be cleared.
+/// What an instance has of all tenants: what it holds, what it has planned for that, which notices are on their way, and what
+/// it counts. A call for one tenant leaves what it has of the others as it was; one that fails leaves nothing of any tenant.
 #[derive(Drop)]
 pub struct Replica {
-    pub(crate) holdings: Holdings,
-    pub(crate) agenda: Agenda,
-    pub(crate) allowances: Allowances,
-    pub(crate) counts: Counts,
-    pub(crate) places: Places,
+    parts: Parts,
+}
+
+impl Model for Replica {
+    ghost use Rattle.std.specs.Prelude.{ℕ, List};
+    ghost use Rattle.am_replica.specs.Held.{local_of};
+    ghost use Rattle.am_replica.specs.Plans.{IsPlanned};
+    ghost use Rattle.am_replica.specs.declared.parts.Parts.{Parts};
+
+    ghost Value = { Parts };
+
+    ghost view = { λ replica. replica.parts };
+
+    ghost invariant = { λ replica. (t : List ℕ) → IsPlanned (local_of t replica.parts) };
 }
 
 impl Replica {
-    /// Nothing of any tenant. The routes of a tenant without a configuration have these paces.
-    #[tactic(auto, unfolding(crate::specs::Held::local_of, am_book::specs::Book::items_of, am_item::specs::Counts::count_of, am_words::specs::Places::place_of))]
-    pub fn new(alloc: Global, paces: Listed<Pace>) -> Result<Replica, AllocError>
-        ensures { IfOk result (λ replica. (t : List ℕ) → local_of t replica
-            ≡ record { held = []; plan = no_plan paces; noticed = fresh 0; ledger = record { stamps = 0; drawn = 0 } }) }
+    ghost use Rattle.am_replica.specs.contracts.replica.Replica.{the_row};
+
+    /// Nothing of any tenant.
+    ///
+    /// An error is out of memory.
+    pub fn new(alloc: Global) -> Result<Replica, AllocError>
+        ensures { IfOk result (λ replica. (t : List ℕ) → local_of t replica ≡ blank) }
     {
-        Ok(Replica {
-            holdings: Holdings::new(alloc)?,
-            agenda: Agenda::new(alloc, paces),
-            allowances: Allowances::new(alloc),
-            counts: Counts::new(alloc),
-            places: Places::new(alloc),
-        })
+        let parts = Parts::new(alloc)?;
+        Ok(Replica { parts })
     }
 
     /// Forgets all that it has of all tenants, as a crash does. It takes no memory.
-    #[tactic(auto, unfolding(crate::specs::Held::local_of, am_book::specs::Book::items_of, am_item::specs::Counts::count_of, am_words::specs::Places::place_of))]
     pub fn clear(&mut self, alloc: Global)
-        ensures { (t : List ℕ) → local_of t self.new
-            ≡ record { held = []; plan = no_plan self.old.agenda.paces.otherwise; noticed = fresh 0; ledger = record { stamps = 0; drawn = 0 } } }
+        ensures { (t : List ℕ) → local_of t self.new ≡ blank }
     {
-        self.holdings.clear(alloc);
-        self.agenda.clear(alloc);
-        self.allowances.clear();
-        self.counts = Counts::new(alloc);
-        self.places = Places::new(alloc);
+        self.parts.clear(alloc);
+    }
+
+    /// How many stamps of a tenant it has counted.
+    #[tactic(auto, unfolding(crate::specs::Held::local_of))]
+    pub fn stamps(&self, tenant: &TenantName) -> u64
+        ensures { result ≡ (local_of tenant.now self.now).ledger.stamps }
+    {
+        self.parts.counts.used(tenant)
+    }
+
+    /// The place of a tenant's next word.
+    #[tactic(auto, unfolding(crate::specs::Held::local_of))]
+    pub fn place(&self, tenant: &TenantName) -> Place
+        ensures { result ≡ (local_of tenant.now self.now).ledger.drawn }
+    {
+        self.parts.places.place(tenant)
+    }
+
+    /// What is held of a tenant, and the configuration in use for it.
+    ///
+    /// An error is out of memory; nothing changes then.
+    #[tactic(auto, unfolding(crate::specs::Held::local_of))]
+    pub fn in_use(
+        &mut self,
+        alloc: Global,
+        tenant: &TenantName,
+    ) -> Result<(&Held, &Config), AllocError>
+        ensures* stays { sem 𝓛 (Rests the_row self.entry (λ new. (t : List ℕ) → local_of t new ≡ local_of t self.old)) }
+        ensures held { IfOk result (λ used. used.0.now ≡ (local_of tenant.now self.old).held) }
+        ensures rising { IfOk result (λ used. IsRising used.0.now) }
+        ensures configuration { IfOk result (λ used. used.1.now ≡ configuration_in (local_of tenant.now self.old).held) }
+    {
+        self.parts.holdings.in_use(alloc, tenant)
+    }
+
+    /// Accepts items of a tenant that the instance made at a moment, and counts their stamps: the best are held, and what is
+    /// planned goes by these. `drawn` is the place of the next word where words were drawn for them. No count may pass 2^62.
+    ///
+    /// # Errors
+    /// `PatternNotBuilt` where a pattern of the routes that are in use then gave no answer, or out of memory.
+    pub fn accept(
+        &mut self,
+        alloc: Global,
+        tenant: &TenantName,
+        moment: Moment,
+        items: Vec<Item>,
+        drawn: Option<Place>,
+        cache: &mut PatternCache,
+    ) -> Result<(), Fault>
+        requires fits { 0 < length items.items → (local_of tenant.now self.old).ledger.stamps + length items.items ≤ greatest_count }
+        ensures does { OnOk result (Makes tenant.now (kept moment items.items drawn) self.old self.new) }
+        ensures lost { OnErr result ((t : List ℕ) → local_of t self.new ≡ blank) }
+        ensures asked { Asked result cache.old cache.new }
+        ensures fault { IfErr result (StopsAccepting cache.new.refused items.items (local_of tenant.now self.old)) }
+    {
+        let parts = &mut self.parts;
+        match parts.keep(alloc, tenant, moment, items, drawn, cache) {
+            Ok(()) => Ok(()),
+            Err(fault) => {
+                self.parts.clear(alloc);
+                Err(fault)
+            }
+        }
+    }
+
+    /// A tick, of all tenants: what is retired at the moment goes, and then what is due is done once, in order: by when it is
+    /// due, by tenant, groups before attempts. Gives the tries that go out. A tick costs what is due and what goes.
+    ///
+    /// # Errors
+    /// `CountsExhausted` where a count of a tenant would pass 2^62, `PatternNotBuilt` where a pattern that may mute alerts of a
+    /// group gave no answer, or out of memory.
+    pub fn tick(
+        &mut self,
+        alloc: Global,
+        instance: u8,
+        incarnation: u32,
+        moment: Moment,
+        limits: &LimitBook,
+        cache: &mut PatternCache,
+    ) -> Result<Vec<Dispatch>, Fault>
+        ensures ticks { IfOk result (λ all. TicksAll (here_for instance incarnation moment limits.now) (λ t. local_of t self.old) (λ t. local_of t self.new) all.items) }
+        ensures lost { OnErr result ((t : List ℕ) → local_of t self.new ≡ blank) }
+        ensures asked { Asked result cache.old cache.new }
+        ensures fault { IfErr result (StopsAt (here_for instance incarnation moment limits.now) (λ t. local_of t self.old) cache.new.refused) }
+    {
+        let parts = &mut self.parts;
+        match parts.tick(alloc, instance, incarnation, moment, limits, cache) {
+            Ok(all) => Ok(all),
+            Err(fault) => {
+                self.parts.clear(alloc);
+                Err(fault)
+            }
+        }
+    }
+
+    /// Whether the outcome of this try of a tenant's attempt is awaited.
+    #[tactic(auto, unfolding(crate::specs::Held::local_of, crate::specs::Delivery::is_awaited))]
+    pub fn is_awaited(&self, tenant: &TenantName, number: u64, tries: u8) -> bool
+        ensures { result ≡ is_awaited number tries (local_of tenant.now self.now) }
+    {
+        self.parts.agenda.is_awaited(tenant, number, tries)
+    }
+
+    /// Takes the outcome of a try of a tenant's attempt: the status of the webhook's answer, or `None` where there was none.
+    /// `false`, and nothing changes, where no outcome of that try is awaited.
+    ///
+    /// # Errors
+    /// `CountsExhausted` where the stamp of what is recorded would pass 2^62, or out of memory.
+    pub fn outcome(
+        &mut self,
+        alloc: Global,
+        tenant: &TenantName,
+        here: &Here,
+        number: u64,
+        tries: u8,
+        status: Option<u16>,
+    ) -> Result<bool, Fault>
+        ensures does { OnOk result (Does tenant.now (outcome here.now number tries status) self.old self.new) }
+        ensures awaited { IfOk result (λ awaited. awaited ≡ is_awaited number tries (local_of tenant.now self.old)) }
+        ensures fits { IfOk result (λ _. (outcome here.now number tries status (local_of tenant.now self.old)).fits ≡ true) }
+        ensures lost { OnErr result ((t : List ℕ) → local_of t self.new ≡ blank) }
+        ensures fault { IfErr result (StopsFor (outcome here.now number tries status (local_of tenant.now self.old))) }
+    {
+        let parts = &mut self.parts;
+        match parts.outcome(alloc, tenant, here, number, tries, status) {
+            Ok(awaited) => Ok(awaited),
+            Err(fault) => {
+                self.parts.clear(alloc);
+                Err(fault)
+            }
+        }
     }
 }

@@ -1,5 +1,5 @@
 -- What the webhooks of a receiver are told at the flush of a group: each notice with its body and with what records it.
-use Rattle.std.specs.Prelude.{ℕ, ◌+◌, ◌-◌, ◌==◌, Bool, length, List, [], map, take, Option, Some, None, option_map, slice_get, if◌then◌else◌}
+use Rattle.std.specs.Prelude.{ℕ, ◌+◌, ◌-◌, ◌==◌, Bool, length, List, [], ◌∷◌, map, take, Option, Some, None, option_map, slice_get, if◌then◌else◌}
 use Rattle.std.specs.List.{filter_map}
 use Rattle.am_item.specs.declared.entry.EntryDetails.{EntryDetails}
 use Rattle.am_item.specs.declared.entry.EntryKey.{EntryKey}
@@ -79,3 +79,17 @@ unfoldable pub tellings : Configuration → Group → List (EntryKey × Stamped 
     (moment : ℕ) → List Telling
 tellings c group sent alerts moment =
     tellings_by (receiver_of c group.route) (settings_at c group.route) group sent alerts moment
+
+-- the keys of webhooks of a group's receiver, of which the first has this number
+abbrev pub keys_from : (receiver : List ℕ) → Group → ℕ → List Webhook → List EntryKey
+keys_from receiver group number [] = []
+keys_from receiver group number (webhook ∷ webhooks) =
+    key_for receiver group number ∷ keys_from receiver group (number + 1) webhooks
+
+abbrev pub keys_by : Group → Option Receiver → List EntryKey
+keys_by group None = []
+keys_by group (Some receiver) = keys_from receiver.name group 0 receiver.webhooks
+
+-- the keys under which it is recorded what the webhooks of a group's receiver were told, in their order
+unfoldable pub webhook_keys : Configuration → Group → List EntryKey
+webhook_keys c group = keys_by group (receiver_of c group.route)

@@ -3,4 +3,4 @@
 
 mod telling;
 
-pub use telling::{Telling, tell};
+pub use telling::{Telling, tell, webhook_keys};

@@ -10,7 +10,7 @@ ghost use Rattle.am_group.specs.Deeds.{deed};
 ghost use Rattle.am_group.specs.Notices.{deeds_from};
 ghost use Rattle.am_payload.specs.Told.{told_alerts};
 ghost use Rattle.am_payload.specs.Webhook.{group_key as key_of_group};
-ghost use Rattle.am_telling.specs.Tellings.{body_for, key_for, notice_for, shown, span_of, telling_of, tellings, with_state};
+ghost use Rattle.am_telling.specs.Tellings.{body_for, key_for, notice_for, shown, span_of, telling_of, tellings, webhook_keys, with_state};
 
 use am_alert::HeldAlert;
 use am_config::{Config, Receiver, Settings, Webhook};
@@ -19,7 +19,7 @@ use am_item::{EntryDetails, EntryKey, Stamped};
 use am_members::Group;
 use am_outlet::Notice;
 use am_payload::{ToldAlert, WebhookBody, group_key, webhook_json};
-use am_text::{Listed, Moment, Octets};
+use am_text::{Listed, Moment, Octets, Text};
 use am_url::WebhookUrl;
 use std::alloc::{AllocError, Global};
 use std::collections::BTreeMap;
@@ -76,6 +76,30 @@ pub fn tell<'a>(
     tell_webhooks(alloc, &flushed, sent, alerts)
 }
 
+/// The keys under which it is recorded what the webhooks of a group's receiver were told, in the order of the webhooks.
+///
+/// An error is out of memory.
+#[tactic(auto, unfolding(crate::specs::Tellings::webhook_keys))]
+pub fn webhook_keys(
+    alloc: Global,
+    config: &Config,
+    group: &Group,
+) -> Result<Vec<EntryKey>, AllocError>
+    requires route { group.now.route < length config.now.routes }
+    ensures { IfOk result (λ v. v.items ≡ webhook_keys config.now group.now) }
+{
+    // a receiver of a route has few webhooks
+    let routes = config.routes();
+    prove!(group.route < routes.len());
+    let receiver = config.receiver_of(group.route);
+    let webhooks = receiver.webhooks.as_slice();
+    let mut keys = Vec::with_capacity(alloc, webhooks.len())?;
+    for (place, _) in webhooks.iter().enumerate() {
+        keys.push(key_for(alloc, &receiver.name, group, place as u8)?)?;
+    }
+    Ok(keys)
+}
+
 // What is done for the webhooks of the receiver.
 fn tell_webhooks<'a>(
     alloc: Global,
@@ -124,7 +148,7 @@ fn telling_of<'a>(
 {
     match act {
         Act::Keep(webhook) => Ok(Some(Telling::Keep {
-            key: key_for(alloc, flushed, webhook)?,
+            key: key_for(alloc, &flushed.receiver.name, flushed.group, webhook)?,
             span: span_of(&flushed.settings),
         })),
         Act::Notify(told) => {
@@ -151,7 +175,7 @@ fn notice_for<'a>(
         flushed.now.moment (map held_alert told.entry.alerts) told.entry.firing told.entry.resolved) }
 {
     let body = body_for(alloc, flushed, webhook, told.alerts.as_slice())?;
-    let key = key_for(alloc, flushed, told.webhook)?;
+    let key = key_for(alloc, &flushed.receiver.name, flushed.group, told.webhook)?;
     let url = copy_of(alloc, &webhook.url)?;
     Ok(Notice {
         key,
@@ -164,12 +188,17 @@ fn notice_for<'a>(
 }
 
 // The key under which it is recorded what a webhook was told.
-fn key_for(alloc: Global, flushed: &Flushed<'_>, webhook: u8) -> Result<EntryKey, AllocError>
-    ensures { IfOk result (λ key. key ≡ key_for flushed.now.receiver.now.name flushed.now.group.now webhook) }
+fn key_for(
+    alloc: Global,
+    receiver: &Text,
+    group: &Group,
+    webhook: u8,
+) -> Result<EntryKey, AllocError>
+    ensures { IfOk result (λ key. key ≡ key_for receiver.now group.now webhook) }
 {
     Ok(EntryKey {
-        receiver: flushed.receiver.name.copy(alloc)?,
-        group: group_key(alloc, flushed.group.route, &flushed.group.labels)?,
+        receiver: receiver.copy(alloc)?,
+        group: group_key(alloc, group.route, &group.labels)?,
         webhook,
     })
 }

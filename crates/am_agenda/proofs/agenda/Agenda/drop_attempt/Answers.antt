@@ -11,7 +11,9 @@ invariant_of-self c =
     kept_dropped c.self.inside.paces c.self.inside.groups c.self.inside.attempts c.drop_attempt.new.attempts c.args.tenant.now c.args.key.now c.drop_attempt.result
     c.self.inside.timers.timers c.drop_attempt.new.timers.timers c.self.invariant c.drop_attempt.ensures.each c.drop_attempt.ensures.one c.drop_attempt.ensures.none c.drop_attempt.ensures.timers
 
-pub returns-clause-plans : goal.returns-clause-plans
-returns-clause-plans c = λ t.
-    desk_changed c.self.inside.paces c.self.inside.groups c.self.inside.attempts c.drop_attempt.new.attempts c.args.tenant.now (without c.args.key.now) c.drop_attempt.ensures.each t
-    ∙ ap (λ p. cond (same t c.args.tenant.now) (with_desk (without c.args.key.now (plan_of t p).desk) (plan_of t p)) (plan_of t p)) c.self.view_is
+pub returns : goal.returns
+returns c = record {
+  plans = λ t.
+      desk_changed c.self.inside.paces c.self.inside.groups c.self.inside.attempts c.drop_attempt.new.attempts c.args.tenant.now (without c.args.key.now) c.drop_attempt.ensures.each t
+      ∙ ap (λ p. cond (same t c.args.tenant.now) (with_desk (without c.args.key.now (plan_of t p).desk) (plan_of t p)) (plan_of t p)) c.self.view_is;
+}

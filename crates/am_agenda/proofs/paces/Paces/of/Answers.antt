@@ -5,10 +5,10 @@ use Rattle.am_agenda.proofs.paces.Paces.of.Goals as goal
 
 pub returns-in-Some : goal.returns-in-Some
 returns-in-Some c =
-    c.as_slice.ensures ∙ paces_there c.args.tenant.now c.self.inside.own.entries c.self.inside.otherwise c.in-Some.paces.now c.in-Some.ensures.value
+    c.as_slice.ensures ∙ paces_there c.args.tenant.now c.self.inside.own.entries c.in-Some.paces.now c.in-Some.ensures.value
     ∙ ap (paces_of c.args.tenant.now) c.self.view_is
 
 pub returns-in-None : goal.returns-in-None
 returns-in-None c =
-    c.as_slice-in-None.ensures ∙ paces_none c.args.tenant.now c.self.inside.own.entries c.self.inside.otherwise c.in-None.ensures.value
+    c.as_slice-in-None.ensures ∙ c.self.invariant ∙ paces_none c.args.tenant.now c.self.inside.own.entries c.in-None.ensures.value
     ∙ ap (paces_of c.args.tenant.now) c.self.view_is

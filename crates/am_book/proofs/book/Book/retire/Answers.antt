@@ -9,22 +9,22 @@ loop-row-init c =
 pub loop-row-preserved-in-Some : goal.loop-row-preserved-in-Some
 loop-row-preserved-in-Some c =
     let h = c.loop-row.self-inside in
-    left_next c.args.moment c.args.self.now h.tenants h.rows h.nothing c.loop-row.invariant c.remove_of.new.tenants c.pop_retired.new.rows
+    left_next c.args.moment c.args.self.now h.tenants h.rows h.nothing c.loop-row.invariant c.remove_of.new.tenants c.pop_row.new.rows
     c.in-Some.row c.in-Some.ensures.there c.in-Some.ensures.due c.in-Some.ensures.others c.remove_of.ensures.held c.remove_of.ensures.ordered
 
 pub loop-row-preserved-in-Some-2 : goal.loop-row-preserved-in-Some-2
 loop-row-preserved-in-Some-2 c =
     let h = c.loop-row.self-inside in
-    left_next c.args.moment c.args.self.now h.tenants h.rows h.nothing c.loop-row.invariant c.remove_of.new.tenants c.pop_retired.new.rows
+    left_next c.args.moment c.args.self.now h.tenants h.rows h.nothing c.loop-row.invariant c.remove_of.new.tenants c.pop_row.new.rows
     c.in-Some.row c.in-Some.ensures.there c.in-Some.ensures.due c.in-Some.ensures.others c.remove_of.ensures.held c.remove_of.ensures.ordered
 
 pub loop-row-preserved : goal.loop-row-preserved
 loop-row-preserved c =
     let h = c.loop-row.self-inside in
-    left_next c.args.moment c.args.self.now h.tenants h.rows h.nothing c.loop-row.invariant c.remove_of.new.tenants c.pop_retired.new.rows
+    left_next c.args.moment c.args.self.now h.tenants h.rows h.nothing c.loop-row.invariant c.remove_of.new.tenants c.pop_row.new.rows
     c.in-Some.row c.in-Some.ensures.there c.in-Some.ensures.due c.in-Some.ensures.others c.remove_of.ensures.held c.remove_of.ensures.ordered
 
 pub returns : goal.returns
 returns c =
     let h = c.loop-row.self-inside in
-    left_last c.args.moment c.args.self.now h.tenants h.rows h.nothing c.loop-row.invariant h.tenants c.pop_retired.new.rows c.in_default.ensures.none c.in_default.ensures.stay
+    left_last c.args.moment c.args.self.now h.tenants h.rows h.nothing c.loop-row.invariant h.tenants c.pop_row.new.rows c.in_default.ensures.none c.in_default.ensures.stay

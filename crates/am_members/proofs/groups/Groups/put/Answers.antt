@@ -4,6 +4,7 @@ use Rattle.std.specs.Option.{unwrap_or}
 use Rattle.std.proofs.lemmas.Result.{on_err_weaker, on_ok_weaker}
 use Rattle.am_members.specs.Grouped.{grouped_of, put_in}
 use Rattle.am_members.proofs.Tenants.{at_error, grouped_or, grouped_own, grouped_same, others_kept, part_changed, part_kept}
+use Rattle.am_members.proofs.Sweeping.{more_unswept}
 use Rattle.am_members.proofs.groups.Groups.put.Goals as goal
 
 pub returns-clause-alerts : goal.returns-clause-alerts
@@ -57,3 +58,17 @@ returns-clause-err c =
     on_err_weaker c.put.result
     (λ gone. inr (grouped_same (λ x. x) own _ after.entries _ (grouped_own m after own now _ (entry.update.0 now) gone) (search rules)))
     c.put.ensures.err
+
+pub invariant_of-self-in_err-self-inside : goal.invariant_of-self-in_err-self-inside
+invariant_of-self-in_err-self-inside c =
+    more_unswept c.self.inside.unswept c.insert.new.self c.args.tenant.now c.in_ok-insert.ensures.updates c.self.inside.tenants.entries _ c.self.invariant (λ t other. ap (grouped_of t) (search rules))
+
+pub invariant_of-self-2 : goal.invariant_of-self-2
+invariant_of-self-2 c =
+    let entry = c.in_ok-self-inside.ensures in
+    let m = c.self.inside.tenants in
+    let own = c.args.tenant.now in
+    let now = c.put.new.self in
+    let after = map_with_value c.in_ok-self-inside.field-0 now in
+    more_unswept c.self.inside.unswept c.insert.new.self own c.in_ok-insert.ensures.updates m.entries _ c.self.invariant
+    (λ t other. grouped_same (λ x. x) t _ after.entries _ (others_kept m after own now (entry.update.0 now) t other) (search rules))

@@ -1,0 +1,61 @@
+-- What is done for one timer.
+use Rattle.std.proofs.Common.{◌≡◌, ◌∙◌, ℕ, Bool, true, false, List, Option, Some, None, refl, sym, inl, inr, if◌then◌else◌}
+use Rattle.am_agenda.specs.Plan.{flush_due, group_in}
+use Rattle.am_labels.specs.declared.Label.{Label}
+use Rattle.am_outlet.specs.Attempts.{is_due}
+use Rattle.am_tenant.specs.Names.{same}
+use Rattle.am_tenant.proofs.Same.{same_tells}
+use Rattle.am_timer.specs.declared.key.GroupKey.{GroupKey}
+use Rattle.am_timer.specs.declared.key.TimerKey.TheVariants.{Operation, Group, Retry, Push}
+use Rattle.am_replica.specs.declared.here.Here.{Here}
+use Rattle.am_replica.specs.declared.parts.Parts.{Parts}
+use Rattle.am_replica.specs.Delivery.{retried}
+use Rattle.am_replica.specs.Flushing.{flushed}
+use Rattle.am_replica.specs.Held.{Does, local_of}
+use Rattle.am_replica.specs.Local.{Local, Reaction, stays}
+use Rattle.am_replica.specs.Ticking.{handled}
+
+-- what is done of a tenant is told by what it is to the tenant
+pub does_as : (tenant : List ℕ) (one other : Local → Reaction) (old new : Parts) → one (local_of tenant old) ≡ other (local_of tenant old) → Does tenant one old new → Does tenant other old new
+does_as tenant one other old new is does t = elim (same_tells t tenant) [
+  | inl own ↦ does t ∙ rw (own.0, own.1, is) refl
+  | inr apart ↦ does t ∙ rw (apart.0) refl
+]
+
+pub does_nothing : (tenant : List ℕ) (react : Local → Reaction) (parts : Parts) → react (local_of tenant parts) ≡ stays (local_of tenant parts) → Does tenant react parts parts
+does_nothing tenant react parts is = does_as tenant stays react parts parts (sym is) (λ t. kept (same t tenant) (local_of t parts))
+  where
+    kept : (b : Bool) (l : Local) → l ≡ (if b then l else l)
+    kept true l = refl
+    kept false l = refl
+
+-- what is due some time, where it is due
+pub due_some : (moment : ℕ) (o : Option ℕ) → is_due moment o ≡ true → (d : ℕ) × (o ≡ Some d)
+due_some moment None due = cc
+due_some moment (Some d) due = (d, refl)
+
+pub flushes : (here : Here) (muted : List (List Label)) (key : GroupKey) (l : Local) → is_due here.moment (flush_due l.plan.paces l.plan.grouped key) ≡ true →
+    handled here muted (Group key) l ≡ flushed here muted (group_in key) l
+unfolding handled
+flushes here muted key l due = rw due refl
+
+pub passes_over : (here : Here) (muted : List (List Label)) (key : GroupKey) (l : Local) → is_due here.moment (flush_due l.plan.paces l.plan.grouped key) ≡ false →
+    handled here muted (Group key) l ≡ stays l
+unfolding handled
+passes_over here muted key l due = rw due refl
+
+pub no_operation : (here : Here) (muted : List (List Label)) (number : ℕ) (l : Local) → handled here muted (Operation number) l ≡ stays l
+unfolding handled
+no_operation here muted number l = refl
+
+pub no_push : (here : Here) (muted : List (List Label)) (instance : ℕ) (l : Local) → handled here muted (Push instance) l ≡ stays l
+unfolding handled
+no_push here muted instance l = refl
+
+pub try_fits : (here : Here) (number : ℕ) (l : Local) → (retried here number l).fits ≡ true
+unfolding retried
+try_fits here number l = refl
+
+pub tries : (here : Here) (muted : List (List Label)) (number : ℕ) (l : Local) → handled here muted (Retry number) l ≡ retried here number l
+unfolding handled
+tries here muted number l = refl

@@ -1,0 +1,104 @@
+-- What is known to be muted, timer by timer.
+use Rattle.std.proofs.Common.{◌≡◌, ◌∙◌, ℕ, Bool, true, false, not, ◌&&◌, ◌||◌, List, [], ◌∷◌, ◌++◌, Option, Some, None, IfSome, is_some, unwrap_or, refl, sym, ap, inl, inr, if◌then◌else◌}
+use Rattle.std.specs.List.{list_any}
+use Rattle.std.specs.Map.{lookup}
+use Rattle.am_item.specs.declared.item.Item.{Item}
+use Rattle.am_labels.specs.declared.Label.{Label}
+use Rattle.am_tenant.specs.Names.{same}
+use Rattle.am_tenant.proofs.Same.{same_tells, same-refl}
+use Rattle.am_timer.specs.Timer.{Timer}
+use Rattle.am_replica.specs.Ticks.{AreMuted, has_muted, is_flush, muted_at, muted_for, some_flush}
+
+abbrev pub Muteds : Type 0
+Muteds = List (List ℕ × List (List Label))
+
+-- what is found is right
+pub found_right : (moment : ℕ) (held : List ℕ → List Item) (muted : Muteds) (t : List ℕ) → AreMuted moment held muted → has_muted t muted ≡ true →
+    muted_for t muted ≡ muted_at moment (held t)
+unfolding muted_for
+found_right moment held muted t right there = by (lookup (λ s. same t s) muted) (right t) there
+  where
+    by : (found : Option (List (List Label))) → IfSome found (λ sets. sets ≡ muted_at moment (held t)) → is_some found ≡ true → unwrap_or found [] ≡ muted_at moment (held t)
+    by None is there = cc
+    by (Some sets) is there = is
+
+-- what isn't known is as nothing
+pub found_as : (muted : Muteds) (t : List ℕ) (found : Option (List (List Label))) → lookup (λ s. same t s) muted ≡ found → muted_for t muted ≡ unwrap_or found []
+unfolding muted_for
+found_as muted t found is = ap (λ o. unwrap_or o []) is
+
+-- what is put
+pub put_right : (moment : ℕ) (held : List ℕ → List Item) (old new : Muteds) (tenant : List ℕ) (sets : List (List Label)) → AreMuted moment held old →
+    ((t : List ℕ) → lookup (λ s. same t s) new ≡ (if same t tenant then Some sets else lookup (λ s. same t s) old)) → sets ≡ muted_at moment (held tenant) →
+    AreMuted moment held new
+put_right moment held old new tenant sets right put is t = by (same t tenant) refl (put t)
+  where
+    by : (b : Bool) → same t tenant ≡ b → lookup (λ s. same t s) new ≡ (if b then Some sets else lookup (λ s. same t s) old) →
+        IfSome (lookup (λ s. same t s) new) (λ sets. sets ≡ muted_at moment (held t))
+    by false other put_is = rw put_is (right t)
+    by true own put_is = rw put_is (elim (same_tells t tenant) [
+      | inl yours ↦ is ∙ ap (λ s. muted_at moment (held s)) (sym (yours.1))
+      | inr apart ↦ absurd (conflict (sym own ∙ apart.0))
+    ])
+      where
+        conflict : true ≡ false → ⊥
+        conflict both = cc
+
+pub put_kept : (old new : Muteds) (tenant : List ℕ) (sets : List (List Label)) →
+    ((t : List ℕ) → lookup (λ s. same t s) new ≡ (if same t tenant then Some sets else lookup (λ s. same t s) old)) → (t : List ℕ) → has_muted t old ≡ true → has_muted t new ≡ true
+put_kept old new tenant sets put t there = by (same t tenant) (put t)
+  where
+    by : (b : Bool) → lookup (λ s. same t s) new ≡ (if b then Some sets else lookup (λ s. same t s) old) → is_some (lookup (λ s. same t s) new) ≡ true
+    by false is = rw is there
+    by true is = rw is refl
+
+pub put_there : (old new : Muteds) (tenant : List ℕ) (sets : List (List Label)) →
+    ((t : List ℕ) → lookup (λ s. same t s) new ≡ (if same t tenant then Some sets else lookup (λ s. same t s) old)) → has_muted tenant new ≡ true
+put_there old new tenant sets put = rw (put tenant, same-refl tenant) refl
+
+-- a flush for which nothing is put has it already
+pub not_needed : (flush there : Bool) → (flush && not there) ≡ false → flush ≡ true → there ≡ true
+not_needed true true needless is = refl
+not_needed true false needless is = cc
+not_needed false there needless is = cc
+
+pub none_right : (moment : ℕ) (held : List ℕ → List Item) → AreMuted moment held []
+none_right moment held t = tt
+
+pub none_flush : (t : List ℕ) → some_flush t [] ≡ true → ⊥
+unfolding some_flush
+none_flush t some = cc
+
+any_append : {A : Type 0} (p : A → Bool) (xs : List A) (x : A) → list_any p (xs ++ x ∷ []) ≡ (list_any p xs || p x)
+any_append p [] x = or_false (p x)
+  where
+    or_false : (b : Bool) → (b || false) ≡ b
+    or_false true = refl
+    or_false false = refl
+any_append p (y ∷ xs) x = rw (any_append p xs x) (or_assoc (p y) (list_any p xs) (p x))
+  where
+    or_assoc : (a b c : Bool) → (a || (b || c)) ≡ ((a || b) || c)
+    or_assoc true b c = refl
+    or_assoc false b c = refl
+
+-- one timer more
+pub flush_more : (old new : Muteds) (xs : List Timer) (x : Timer) → ((t : List ℕ) → some_flush t xs ≡ true → has_muted t old ≡ true) →
+    ((t : List ℕ) → has_muted t old ≡ true → has_muted t new ≡ true) → (is_flush x.name.key ≡ true → has_muted x.name.tenant new ≡ true) →
+    (t : List ℕ) → some_flush t (xs ++ x ∷ []) ≡ true → has_muted t new ≡ true
+unfolding some_flush
+flush_more old new xs x before kept found t some =
+    split (list_any (λ (y : Timer). same t y.name.tenant && is_flush y.name.key) xs) refl (sym (any_append _ xs x) ∙ some)
+  where
+    by_same : (b : Bool) → same t x.name.tenant ≡ b → (b && is_flush x.name.key) ≡ true → has_muted t new ≡ true
+    by_same false is flush = cc
+    by_same true is flush = elim (same_tells t x.name.tenant) [
+      | inl own ↦ ap (λ s. has_muted s new) (own.1) ∙ found flush
+      | inr apart ↦ absurd (conflict (sym is ∙ apart.0))
+    ]
+      where
+        conflict : true ≡ false → ⊥
+        conflict both = cc
+
+    split : (b : Bool) → list_any (λ (y : Timer). same t y.name.tenant && is_flush y.name.key) xs ≡ b → (b || (same t x.name.tenant && is_flush x.name.key)) ≡ true → has_muted t new ≡ true
+    split true is any = kept t (before t is)
+    split false is any = by_same (same t x.name.tenant) refl any

@@ -1,0 +1,35 @@
+use Rattle.std.proofs.Common.{ap, ◌∙◌}
+use Rattle.std.proofs.lemmas.Result.{on_ok_weaker}
+use Rattle.am_agenda.specs.Plan.{Plan}
+use Rattle.am_agenda.specs.Planned.{plan_of}
+use Rattle.am_replica.specs.Accepting.{followed}
+use Rattle.am_replica.specs.Plans.{planned_by, sinces_in}
+use Rattle.am_replica.proofs.Followed.{met_anew, met_by}
+use Rattle.am_replica.proofs.Locals.{other, own}
+use Rattle.am_replica.proofs.Changes.{one_changes}
+use Rattle.am_replica.proofs.accepting.follow.Goals as goal
+
+pub returns-then-is_new-clause-plans : goal.returns-then-is_new-clause-plans
+returns-then-is_new-clause-plans c =
+    let s = c.args.tenant.now in
+    let m = c.args.moment in
+    let k = c.args.config.now in
+    let sets = c.args.sets.items in
+    let plan = plan_of s c.args.agenda.now in
+    on_ok_weaker c.plan_all.result
+    (λ all.
+    one_changes s (followed k m sets) (λ t. plan_of t c.args.agenda.now) (λ t. plan_of t c.plan_all.new.agenda)
+    (own s _ _ _ (all s) ∙ ap (λ (p : Plan). planned_by k (sinces_in p) p) (own s _ _ _ (c.in_ok-meet.ensures.plans s)) ∙ met_anew k m sets plan c.requires.rising)
+    (λ t apart. other t s _ _ _ apart (all t) ∙ other t s _ _ _ apart (c.in_ok-meet.ensures.plans t)))
+    c.plan_all.ensures.plans
+
+pub returns-else-is_new-clause-plans : goal.returns-else-is_new-clause-plans
+returns-else-is_new-clause-plans c =
+    let s = c.args.tenant.now in
+    let m = c.args.moment in
+    let k = c.args.config.now in
+    let sets = c.args.sets.items in
+    let plan = plan_of s c.args.agenda.now in
+    one_changes s (followed k m sets) (λ t. plan_of t c.args.agenda.now) (λ t. plan_of t c.meet.new.agenda)
+    (own s _ _ _ (c.in_ok-meet.ensures.plans s) ∙ met_by k m sets plan c.requires.rising (c.requires.planned c.if-is_new.false))
+    (λ t apart. other t s _ _ _ apart (c.in_ok-meet.ensures.plans t))

@@ -1,0 +1,31 @@
+use Rattle.std.proofs.Common.{◌∙◌, refl, take}
+use Rattle.std.proofs.lemmas.List.{take_more, take_all}
+use Rattle.am_book.specs.Book.{items_of}
+use Rattle.am_replica.proofs.Muteds.{flush_more, found_right, none_flush, none_right}
+use Rattle.am_replica.proofs.muted.Muted.of.Goals as goal
+
+pub loop-timer-init : goal.loop-timer-init
+loop-timer-init c = record {
+  right = rw c.new-muted.ensures (none_right c.args.moment (λ t. items_of t c.args.holdings.now));
+  found = λ t some. absurd (none_flush t some);
+  stays = refl;
+  asked = record { refused = refl; capacity = refl };
+}
+
+pub loop-timer-preserved : goal.loop-timer-preserved
+loop-timer-preserved c =
+    let known = c.loop-timer.invariant in
+    let i = c.loop-timer.timer-index in
+    let x = c.timer-item.result in
+    let more = take_more c.args.due.now i x c.loop-timer-test.true in
+    record {
+      right = rw known.stays at c.in_ok-add.ensures.right;
+      found = rw (more, ← c.timer-item.is) (flush_more c.loop-timer.muted c.add.new.self (take i c.args.due.now) x known.found c.in_ok-add.ensures.kept c.in_ok-add.ensures.found);
+      stays = c.add.ensures.stays ∙ known.stays;
+      asked = record { refused = c.in_ok-add.ensures.asked.refused ∙ known.asked.refused; capacity = c.in_ok-add.ensures.asked.capacity ∙ known.asked.capacity };
+    }
+
+pub returns-clause-right : goal.returns-clause-right
+returns-clause-right c = λ t some.
+    found_right c.args.moment (λ s. items_of s c.args.holdings.now) c.loop-timer.muted t c.loop-timer.invariant.right
+    (c.loop-timer.invariant.found t (rw (take_all c.loop-timer.timer-index c.args.due.now c.loop-timer-test.false) some))

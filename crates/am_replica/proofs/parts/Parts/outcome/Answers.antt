@@ -1,0 +1,130 @@
+use Rattle.std.proofs.Common.{refl, sym, ap, ◌∙◌, subst}
+use Rattle.am_outlet.specs.Attempts.{after_outcome}
+use Rattle.am_outlet.specs.declared.outcome.Outcome.TheVariants.{NotOpen, Delivered, Again, GivenUp}
+use Rattle.am_replica.specs.Delivery.{outcome}
+use Rattle.am_replica.specs.Local.{Reaction}
+use Rattle.am_replica.proofs.Outcomes.{awaited, delivered, unsettled}
+use Rattle.am_agenda.specs.Plan.{with_desk}
+use Rattle.am_agenda.specs.Planned.{plan_of}
+use Rattle.am_book.specs.Book.{items_of}
+use Rattle.am_item.specs.Counts.{count_of}
+use Rattle.am_limit.specs.Allowances.{allowance_of}
+use Rattle.am_words.specs.Places.{place_of}
+use Rattle.am_replica.specs.Held.{StopsFor, local_of}
+use Rattle.am_replica.proofs.Locals.{done, other, own, parts}
+use Rattle.am_replica.proofs.parts.Parts.outcome.Goals as goal
+
+pub returns-in-NotOpen-clause-does : goal.returns-in-NotOpen-clause-does
+unfolding local_of
+returns-in-NotOpen-clause-does c =
+    let s = c.args.tenant.now in
+    let r = c.args.self.now in
+    let plan = plan_of s r.agenda in
+    done s (outcome c.args.here.now c.args.number c.args.tries c.args.status) r _
+    (ap (λ (x : Reaction). x.local) (unsettled c.args.here.now c.args.number c.args.tries c.args.status (local_of s r) _ (NotOpen) (sym c.in-NotOpen.is ∙ c.in_ok-outcome.ensures.outcome)
+    (parts (items_of s r.holdings) _ (plan_of s c.outcome.new.self) (with_desk (after_outcome c.args.number c.args.tries c.args.here.now.moment c.args.status plan.desk) plan)
+    (allowance_of s r.allowances) _ (count_of s r.counts) _ (place_of s r.places) refl (own s _ _ _ (c.in_ok-outcome.ensures.each s)) refl refl) (λ l. refl)))
+    (λ t apart. parts (items_of t r.holdings) _ (plan_of t c.outcome.new.self) _ (allowance_of t r.allowances) _ (count_of t r.counts) _ (place_of t r.places) refl
+    (other t s _ _ _ apart (c.in_ok-outcome.ensures.each t)) refl refl)
+
+pub returns-in-NotOpen-clause-awaited : goal.returns-in-NotOpen-clause-awaited
+unfolding local_of
+returns-in-NotOpen-clause-awaited c =
+    awaited c.args.here.now c.args.number c.args.tries c.args.status (local_of c.args.tenant.now c.args.self.now) _ (NotOpen) (sym c.in-NotOpen.is ∙ c.in_ok-outcome.ensures.outcome) refl
+
+pub returns-in-NotOpen-clause-fits : goal.returns-in-NotOpen-clause-fits
+unfolding local_of
+returns-in-NotOpen-clause-fits c =
+    ap (λ (x : Reaction). x.fits)
+    (sym (unsettled c.args.here.now c.args.number c.args.tries c.args.status (local_of c.args.tenant.now c.args.self.now) _ (NotOpen) (sym c.in-NotOpen.is ∙ c.in_ok-outcome.ensures.outcome) refl (λ l. refl)))
+
+pub returns-in-Again-clause-does : goal.returns-in-Again-clause-does
+unfolding local_of
+returns-in-Again-clause-does c =
+    let s = c.args.tenant.now in
+    let r = c.args.self.now in
+    let plan = plan_of s r.agenda in
+    done s (outcome c.args.here.now c.args.number c.args.tries c.args.status) r _
+    (ap (λ (x : Reaction). x.local) (unsettled c.args.here.now c.args.number c.args.tries c.args.status (local_of s r) _ (Again c.in-Again.field-0) (sym c.in-Again.is ∙ c.in_ok-outcome.ensures.outcome)
+    (parts (items_of s r.holdings) _ (plan_of s c.outcome.new.self) (with_desk (after_outcome c.args.number c.args.tries c.args.here.now.moment c.args.status plan.desk) plan)
+    (allowance_of s r.allowances) _ (count_of s r.counts) _ (place_of s r.places) refl (own s _ _ _ (c.in_ok-outcome.ensures.each s)) refl refl) (λ l. refl)))
+    (λ t apart. parts (items_of t r.holdings) _ (plan_of t c.outcome.new.self) _ (allowance_of t r.allowances) _ (count_of t r.counts) _ (place_of t r.places) refl
+    (other t s _ _ _ apart (c.in_ok-outcome.ensures.each t)) refl refl)
+
+pub returns-in-Again-clause-awaited : goal.returns-in-Again-clause-awaited
+unfolding local_of
+returns-in-Again-clause-awaited c =
+    awaited c.args.here.now c.args.number c.args.tries c.args.status (local_of c.args.tenant.now c.args.self.now) _ (Again c.in-Again.field-0) (sym c.in-Again.is ∙ c.in_ok-outcome.ensures.outcome) refl
+
+pub returns-in-Again-clause-fits : goal.returns-in-Again-clause-fits
+unfolding local_of
+returns-in-Again-clause-fits c =
+    ap (λ (x : Reaction). x.fits)
+    (sym (unsettled c.args.here.now c.args.number c.args.tries c.args.status (local_of c.args.tenant.now c.args.self.now) _ (Again c.in-Again.field-0) (sym c.in-Again.is ∙ c.in_ok-outcome.ensures.outcome) refl (λ l. refl)))
+
+pub returns-in-GivenUp-clause-does : goal.returns-in-GivenUp-clause-does
+unfolding local_of
+returns-in-GivenUp-clause-does c =
+    let s = c.args.tenant.now in
+    let r = c.args.self.now in
+    let plan = plan_of s r.agenda in
+    done s (outcome c.args.here.now c.args.number c.args.tries c.args.status) r _
+    (ap (λ (x : Reaction). x.local) (unsettled c.args.here.now c.args.number c.args.tries c.args.status (local_of s r) _ (GivenUp) (sym c.in-GivenUp.is ∙ c.in_ok-outcome.ensures.outcome)
+    (parts (items_of s r.holdings) _ (plan_of s c.outcome.new.self) (with_desk (after_outcome c.args.number c.args.tries c.args.here.now.moment c.args.status plan.desk) plan)
+    (allowance_of s r.allowances) _ (count_of s r.counts) _ (place_of s r.places) refl (own s _ _ _ (c.in_ok-outcome.ensures.each s)) refl refl) (λ l. refl)))
+    (λ t apart. parts (items_of t r.holdings) _ (plan_of t c.outcome.new.self) _ (allowance_of t r.allowances) _ (count_of t r.counts) _ (place_of t r.places) refl
+    (other t s _ _ _ apart (c.in_ok-outcome.ensures.each t)) refl refl)
+
+pub returns-in-GivenUp-clause-awaited : goal.returns-in-GivenUp-clause-awaited
+unfolding local_of
+returns-in-GivenUp-clause-awaited c =
+    awaited c.args.here.now c.args.number c.args.tries c.args.status (local_of c.args.tenant.now c.args.self.now) _ (GivenUp) (sym c.in-GivenUp.is ∙ c.in_ok-outcome.ensures.outcome) refl
+
+pub returns-in-GivenUp-clause-fits : goal.returns-in-GivenUp-clause-fits
+unfolding local_of
+returns-in-GivenUp-clause-fits c =
+    ap (λ (x : Reaction). x.fits)
+    (sym (unsettled c.args.here.now c.args.number c.args.tries c.args.status (local_of c.args.tenant.now c.args.self.now) _ (GivenUp) (sym c.in-GivenUp.is ∙ c.in_ok-outcome.ensures.outcome) refl (λ l. refl)))
+
+pub returns-in-Ok-clause-does : goal.returns-in-Ok-clause-does
+unfolding local_of
+returns-in-Ok-clause-does c =
+    let s = c.args.tenant.now in
+    let r = c.args.self.now in
+    let plan = plan_of s r.agenda in
+    let made = delivered c.args.here.now c.args.number c.args.tries c.args.status (local_of s r) _ c.in-Delivered.notice (sym c.in-Delivered.is ∙ c.in_ok-outcome.ensures.outcome)
+    (parts (items_of s r.holdings) _ (plan_of s c.outcome.new.self) (with_desk (after_outcome c.args.number c.args.tries c.args.here.now.moment c.args.status plan.desk) plan)
+    (allowance_of s r.allowances) _ (count_of s r.counts) _ (place_of s r.places) refl (own s _ _ _ (c.in_ok-outcome.ensures.each s)) refl refl) in
+    done s (outcome c.args.here.now c.args.number c.args.tries c.args.status) r _
+    (own s _ _ _ (c.in-Ok.ensures.does s) ∙ ap (λ (x : Reaction). x.local) made)
+    (λ t apart. other t s _ _ _ apart (c.in-Ok.ensures.does t)
+    ∙ parts (items_of t r.holdings) _ (plan_of t c.outcome.new.self) _ (allowance_of t r.allowances) _ (count_of t r.counts) _ (place_of t r.places) refl
+    (other t s _ _ _ apart (c.in_ok-outcome.ensures.each t)) refl refl)
+
+pub returns-in-Ok-clause-awaited : goal.returns-in-Ok-clause-awaited
+unfolding local_of
+returns-in-Ok-clause-awaited c =
+    awaited c.args.here.now c.args.number c.args.tries c.args.status (local_of c.args.tenant.now c.args.self.now) _ (Delivered c.in-Delivered.notice) (sym c.in-Delivered.is ∙ c.in_ok-outcome.ensures.outcome) refl
+
+pub returns-in-Ok-clause-fits : goal.returns-in-Ok-clause-fits
+unfolding local_of
+returns-in-Ok-clause-fits c =
+    let s = c.args.tenant.now in
+    let r = c.args.self.now in
+    let plan = plan_of s r.agenda in
+    ap (λ (x : Reaction). x.fits) (sym (delivered c.args.here.now c.args.number c.args.tries c.args.status (local_of s r) _ c.in-Delivered.notice (sym c.in-Delivered.is ∙ c.in_ok-outcome.ensures.outcome)
+    (parts (items_of s r.holdings) _ (plan_of s c.outcome.new.self) (with_desk (after_outcome c.args.number c.args.tries c.args.here.now.moment c.args.status plan.desk) plan)
+    (allowance_of s r.allowances) _ (count_of s r.counts) _ (place_of s r.places) refl (own s _ _ _ (c.in_ok-outcome.ensures.each s)) refl refl)))
+    ∙ c.in-Ok.ensures.fits
+
+pub returns-clause-fault : goal.returns-clause-fault
+unfolding local_of
+returns-clause-fault c =
+    let s = c.args.tenant.now in
+    let r = c.args.self.now in
+    let plan = plan_of s r.agenda in
+    subst (λ (x : Reaction). StopsFor x c.in-Err.fault)
+    (delivered c.args.here.now c.args.number c.args.tries c.args.status (local_of s r) _ c.in-Delivered.notice (sym c.in-Delivered.is ∙ c.in_ok-outcome.ensures.outcome)
+    (parts (items_of s r.holdings) _ (plan_of s c.outcome.new.self) (with_desk (after_outcome c.args.number c.args.tries c.args.here.now.moment c.args.status plan.desk) plan)
+    (allowance_of s r.allowances) _ (count_of s r.counts) _ (place_of s r.places) refl (own s _ _ _ (c.in_ok-outcome.ensures.each s)) refl refl))
+    c.in-Err.ensures.fault

@@ -1,0 +1,14 @@
+use Rattle.am_replica.specs.Held.{local_of}
+use Rattle.am_replica.specs.Ticks.{here_for}
+use Rattle.am_replica.proofs.Kept.{blank_planned}
+use Rattle.am_replica.proofs.Planned.{all_blank}
+use Rattle.am_replica.proofs.Ticks.{all_keep}
+use Rattle.am_replica.proofs.replica.Replica.tick.Goals as goal
+
+pub invariant_of-self : goal.invariant_of-self
+invariant_of-self c =
+    all_keep (here_for c.args.instance c.args.incarnation c.args.moment c.args.limits.now) (λ t. local_of t c.self.inside.parts) (λ t. local_of t c.tick.new.self) c.in-Ok.all.items
+    c.in-Ok.ensures.ticks c.self.invariant
+
+pub invariant_of-self-in-Err : goal.invariant_of-self-in-Err
+invariant_of-self-in-Err c = all_blank c.clear.new.self blank_planned c.clear.ensures

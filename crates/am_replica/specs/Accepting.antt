@@ -1,0 +1,96 @@
+-- What becomes of items that an instance accepts.
+use Rattle.std.specs.Prelude.{◌≡◌, ℕ, ◌+◌, Bool, min, not, List, [], ◌∷◌, filter, length, map, Option, Some, None, is_some, unwrap_or, if◌then◌else◌}
+use Rattle.std.specs.BTreeMap.{insert_entry}
+use Rattle.std.specs.List.{list_any}
+use Rattle.std.specs.Map.{lookup}
+use Rattle.am_config.specs.Configuration.{Configuration}
+use Rattle.am_current.specs.Current.{configuration_in}
+use Rattle.am_item.specs.Best.{all_joined}
+use Rattle.am_item.specs.declared.fault.Fault.{Fault}
+use Rattle.am_item.specs.declared.fault.Fault.TheVariants.{OutOfMemory, CountsExhausted, PatternNotBuilt}
+use Rattle.am_item.specs.declared.item.Item.{Item}
+use Rattle.am_labels.specs.declared.Label.{Label}
+use Rattle.am_labels.specs.Labels.{labels_cmp}
+use Rattle.am_match.specs.Matchers.{patterns_of}
+use Rattle.am_members.specs.declared.known.Known.{Known}
+use Rattle.am_members.specs.Grouped.{put_all}
+use Rattle.am_members.specs.Names.{is_set, without as absent}
+use Rattle.am_muting.specs.Failing.{HasUnanswered}
+use Rattle.am_muting.specs.Muting.{alert_sets}
+use Rattle.am_planning.specs.Planning.{paces_of, planned_alerts}
+use Rattle.am_route.specs.Asked.{route_matchers}
+use Rattle.am_agenda.specs.Plan.{Plan, with_alerts}
+use Rattle.am_replica.specs.Local.{Local}
+use Rattle.am_replica.specs.Plans.{planned_by, sinces_in}
+
+-- the moment since which an alert is held that comes now: the least at which it came
+abbrev pub since_by : ℕ → Option ℕ → ℕ
+since_by moment None = moment
+since_by moment (Some since) = min moment since
+
+-- the moments since which alerts are held, once that of a label set came at this moment
+abbrev pub came : ℕ → List Label → List (List Label × ℕ) → List (List Label × ℕ)
+came moment labels sinces =
+    insert_entry labels_cmp (absent labels sinces) labels (since_by moment (lookup (is_set labels) sinces))
+
+-- .. once those of several did
+abbrev pub all_came : ℕ → List (List Label) → List (List Label × ℕ) → List (List Label × ℕ)
+all_came moment [] sinces = sinces
+all_came moment (labels ∷ sets) sinces = all_came moment sets (came moment labels sinces)
+
+-- items are accepted at a moment: the best are held, and what is planned goes by these
+unfoldable pub accepted : ℕ → List Item → Local → Local
+accepted moment items local = record local {
+  held = all_joined local.held items;
+  plan = planned_by (configuration_in (all_joined local.held items))
+      (all_came moment (alert_sets items) (sinces_in local.plan)) local.plan;
+}
+
+-- items that the instance made are accepted: they are counted, and where words were drawn for them, the place of the next
+-- one is kept
+unfoldable pub kept : ℕ → List Item → (drawn : Option ℕ) → Local → Local
+kept moment items drawn local = record (accepted moment items local) {
+  ledger = record { stamps = local.ledger.stamps + length items; drawn = unwrap_or drawn local.ledger.drawn };
+}
+
+-- why it stops: a pattern of the routes of the configuration that is in use then gave no answer, or memory ran out
+abbrev pub StopsAccepting : (refused : List (List ℕ)) → List Item → Local → Fault → Type 0
+StopsAccepting refused items local OutOfMemory = Unit {0}
+StopsAccepting refused items local CountsExhausted = ⊥
+StopsAccepting refused items local PatternNotBuilt =
+    HasUnanswered refused (patterns_of (route_matchers (configuration_in (all_joined local.held items)).routes))
+
+-- ---- how it is done
+
+-- a plan goes by a configuration
+pub record IsPlannedBy (c : Configuration) (plan : Plan) : Type 0 where
+  pub paces : plan.paces ≡ paces_of c 0
+  pub groups : plan.grouped.alerts ≡ planned_alerts c (sinces_in plan)
+
+-- an alert of this label set is known
+abbrev pub is_known : List Label → List (List Label × Known) → Bool
+is_known labels alerts = is_some (lookup (is_set labels) alerts)
+
+-- what is kept of an alert that came at this moment, if it did: it is held since then at the latest
+abbrev pub sooner : ℕ → Bool → Known → Known
+sooner moment b known = record { since = if b then min moment known.since else known.since; groups = known.groups }
+
+-- alerts that are known, once those of these label sets came
+unfoldable pub all_sooner : ℕ → List (List Label) → List (List Label × Known) → List (List Label × Known)
+all_sooner moment sets alerts = map (λ a. (a.0, sooner moment (list_any (is_set a.0) sets) a.1)) alerts
+
+-- those of the label sets of which no alert is known, each with the moment at which it came
+unfoldable pub unknown_of : ℕ → List (List Label) → List (List Label × Known) → List (List Label × ℕ)
+unknown_of moment sets alerts = map (λ labels. (labels, moment)) (filter (λ labels. not (is_known labels alerts)) sets)
+
+-- alerts once those of these label sets came: those that aren't known are in their groups by the configuration
+unfoldable pub met : Configuration → ℕ → List (List Label) → List (List Label × Known) → List (List Label × Known)
+met c moment sets alerts = put_all (planned_alerts c (unknown_of moment sets alerts)) (all_sooner moment sets alerts)
+
+-- the same of a plan
+abbrev pub with_met : Configuration → ℕ → List (List Label) → Plan → Plan
+with_met c moment sets plan = with_alerts (met c moment sets plan.grouped.alerts) plan
+
+-- a plan once alerts of these label sets came, where it goes by the configuration from then on
+abbrev pub followed : Configuration → ℕ → List (List Label) → Plan → Plan
+followed c moment sets plan = planned_by c (all_came moment sets (sinces_in plan)) plan

@@ -1,0 +1,27 @@
+-- What is planned goes by what is held: by the configuration that is in use, for the alerts that are held.
+use Rattle.std.specs.Prelude.{◌≡◌, ℕ, List, map}
+use Rattle.std.specs.Map.{keys_of}
+use Rattle.am_agenda.specs.Plan.{Plan, rebuilt}
+use Rattle.am_config.specs.Configuration.{Configuration}
+use Rattle.am_current.specs.Current.{configuration_in}
+use Rattle.am_item.specs.Best.{IsRising}
+use Rattle.am_labels.specs.declared.Label.{Label}
+use Rattle.am_muting.specs.Muting.{alert_sets}
+use Rattle.am_planning.specs.Planning.{paces_of, planned_alerts}
+use Rattle.am_replica.specs.Local.{Local}
+
+-- the label sets of the alerts, each with the moment since which it is held
+abbrev pub sinces_in : Plan → List (List Label × ℕ)
+sinces_in plan = map (λ a. (a.0, a.1.since)) plan.grouped.alerts
+
+-- the plan by a configuration, where alerts are held since these moments; flushes and attempts stay
+abbrev pub planned_by : Configuration → List (List Label × ℕ) → Plan → Plan
+planned_by c sinces plan = rebuilt (paces_of c 0) (planned_alerts c sinces) plan
+
+-- what is held is in the order of keys; the routes wait and the alerts have their groups by the configuration in use, and
+-- they are all alerts that are held
+pub record IsPlanned (local : Local) : Type 0 where
+  pub rising : IsRising local.held
+  pub paces : local.plan.paces ≡ paces_of (configuration_in local.held) 0
+  pub groups : local.plan.grouped.alerts ≡ planned_alerts (configuration_in local.held) (sinces_in local.plan)
+  pub alerts : keys_of local.plan.grouped.alerts ≡ alert_sets local.held

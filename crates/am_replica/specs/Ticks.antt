@@ -1,0 +1,126 @@
+-- A tick of all tenants: what each has afterwards and what is said of it are those of its own tick.
+use Rattle.std.specs.Prelude.{◌≡◌, ℕ, Bool, true, false, ◌&&◌, List, [], filter, map, IfSome, is_some, unwrap_or}
+use Rattle.std.specs.List.{list_any}
+use Rattle.std.specs.Map.{lookup}
+use Rattle.am_current.specs.Current.{configuration_in}
+use Rattle.am_item.specs.declared.fault.Fault.{Fault}
+use Rattle.am_item.specs.declared.fault.Fault.TheVariants.{OutOfMemory, CountsExhausted, PatternNotBuilt}
+use Rattle.am_item.specs.declared.item.Item.{Item}
+use Rattle.am_labels.specs.declared.Label.{Label}
+use Rattle.am_limit.specs.Books.{limits_of}
+use Rattle.am_limit.specs.declared.limits.Limits.{Limits}
+use Rattle.am_muting.specs.Failing.{HasUnanswered, patterns_muting}
+use Rattle.am_muting.specs.Muting.{muted_sets}
+use Rattle.am_tenant.specs.Names.{same}
+use Rattle.am_timer.specs.Timer.{Key, Timer}
+use Rattle.am_timer.specs.declared.key.TimerKey.TheVariants.{Operation, Group, Retry, Push}
+use Rattle.am_replica.specs.declared.dispatch.Dispatch.{Dispatch}
+use Rattle.am_replica.specs.declared.here.Here.{Here}
+use Rattle.am_replica.specs.Local.{Local, Reaction, Said, Tells, each}
+use Rattle.am_replica.specs.Retiring.{retired}
+use Rattle.am_replica.specs.Ticking.{done_by, handled, ticked}
+
+-- what an instance goes by at a moment, for each tenant, by the limits of all
+abbrev pub here_for : (instance incarnation moment : ℕ) → List (List ℕ × Limits) → List ℕ → Here
+here_for instance incarnation moment limits t =
+    record { instance = instance; incarnation = incarnation; moment = moment; limits = limits_of t limits }
+
+-- what is said of a tenant, in order
+unfoldable pub said_of : List ℕ → List Dispatch → List Said
+said_of t all = map (λ d. Tells d.sending) (filter (λ d. same t d.tenant) all)
+
+-- ---- the tick
+
+-- each tenant has what its own tick makes of what it had, that is said of it in order, and no count of it passes the greatest
+pub record IsTicked (here : Here) (t : List ℕ) (before after : Local) (says : List Said) : Type 0 where
+  pub local : after ≡ (ticked t here before).local
+  pub said : says ≡ (ticked t here before).said
+  pub fits : (ticked t here before).fits ≡ true
+
+abbrev pub TicksAll : (List ℕ → Here) → (before after : List ℕ → Local) → List Dispatch → Type 0
+TicksAll here before after all = (t : List ℕ) → IsTicked (here t) t (before t) (after t) (said_of t all)
+
+-- a pattern that may mute alerts of a tenant gave no answer
+abbrev pub HasUnmuted : (refused : List (List ℕ)) → ℕ → (List ℕ → List Item) → Type 0
+HasUnmuted refused moment held =
+    (t : List ℕ) × HasUnanswered refused (patterns_muting (configuration_in (held t)) moment (held t))
+
+-- why it stops at a tick: a count of a tenant would have passed the greatest, a pattern gave no answer, or memory ran out
+abbrev pub StopsAt : (List ℕ → Here) → (before : List ℕ → Local) → (refused : List (List ℕ)) → Fault → Type 0
+StopsAt here before refused OutOfMemory = Unit {0}
+StopsAt here before refused CountsExhausted = (t : List ℕ) × ((ticked t (here t) (before t)).fits ≡ false)
+StopsAt here before refused PatternNotBuilt =
+    (t : List ℕ) × HasUnanswered refused (patterns_muting (configuration_in (retired (here t).moment (before t)).held)
+    (here t).moment (retired (here t).moment (before t)).held)
+
+-- ---- what is due
+
+-- what came of a reaction: what the tenant has afterwards, what was said, and no count passes the greatest
+pub record IsDone (reaction : Reaction) (after : Local) (says : List Said) : Type 0 where
+  pub local : after ≡ reaction.local
+  pub said : says ≡ reaction.said
+  pub fits : reaction.fits ≡ true
+
+abbrev pub DoesDue : (List ℕ → Here) → (before after : List ℕ → Local) → List Dispatch → Type 0
+DoesDue here before after all = (t : List ℕ) → IsDone (done_by t (here t) (before t)) (after t) (said_of t all)
+
+abbrev pub StopsDoing : (List ℕ → Here) → (before : List ℕ → Local) → (refused : List (List ℕ)) → Fault → Type 0
+StopsDoing here before refused OutOfMemory = Unit {0}
+StopsDoing here before refused CountsExhausted = (t : List ℕ) × ((done_by t (here t) (before t)).fits ≡ false)
+StopsDoing here before refused PatternNotBuilt =
+    (t : List ℕ) × HasUnanswered refused (patterns_muting (configuration_in (before t).held) (here t).moment (before t).held)
+
+-- ---- its timers
+
+-- the keys of a tenant's timers among those of all, in order
+unfoldable pub keys_for : List ℕ → List Timer → List Key
+keys_for t timers = map (λ x. x.name.key) (filter (λ x. same t x.name.tenant) timers)
+
+-- what is muted of a tenant, where that is known
+unfoldable pub muted_for : List ℕ → List (List ℕ × List (List Label)) → List (List Label)
+muted_for t muted = unwrap_or (lookup (λ s. same t s) muted) []
+
+-- what is done for a tenant where these timers are due
+unfoldable pub done_for : (List ℕ → Here) → List (List ℕ × List (List Label)) → List ℕ → List Timer → Local → Reaction
+done_for here muted t due local = each (handled (here t) (muted_for t muted)) (keys_for t due) local
+
+abbrev pub AreHandled : (List ℕ → Here) → List (List ℕ × List (List Label)) → List Timer → (before after : List ℕ → Local) → List Dispatch → Type 0
+AreHandled here muted due before after all =
+    (t : List ℕ) → IsDone (done_for here muted t due (before t)) (after t) (said_of t all)
+
+abbrev pub StopsHandling : (List ℕ → Here) → List (List ℕ × List (List Label)) → List Timer → (before : List ℕ → Local) → Fault → Type 0
+StopsHandling here muted due before OutOfMemory = Unit {0}
+StopsHandling here muted due before CountsExhausted =
+    (t : List ℕ) × ((done_for here muted t due (before t)).fits ≡ false)
+StopsHandling here muted due before PatternNotBuilt = ⊥
+
+-- ---- what is muted
+
+-- the key is that of a group's flush
+abbrev pub is_flush : Key → Bool
+is_flush (Operation number) = false
+is_flush (Group key) = true
+is_flush (Retry number) = false
+is_flush (Push instance) = false
+
+-- one of the timers is the flush of a group of a tenant
+unfoldable pub some_flush : List ℕ → List Timer → Bool
+some_flush t due = list_any (λ x. same t x.name.tenant && is_flush x.name.key) due
+
+-- what is muted at a moment where these items are held
+abbrev pub muted_at : ℕ → List Item → List (List Label)
+muted_at moment held = muted_sets (configuration_in held) moment held
+
+-- it is known of the tenant
+abbrev pub has_muted : List ℕ → List (List ℕ × List (List Label)) → Bool
+has_muted t muted = is_some (lookup (λ s. same t s) muted)
+
+-- what is known is right
+abbrev pub AreMuted : ℕ → (List ℕ → List Item) → List (List ℕ × List (List Label)) → Type 0
+AreMuted moment held muted =
+    (t : List ℕ) → IfSome (lookup (λ s. same t s) muted) (λ sets. sets ≡ muted_at moment (held t))
+
+abbrev pub StopsMuting : (refused : List (List ℕ)) → ℕ → (List ℕ → List Item) → Fault → Type 0
+StopsMuting refused moment held OutOfMemory = Unit {0}
+StopsMuting refused moment held CountsExhausted = ⊥
+StopsMuting refused moment held PatternNotBuilt = HasUnmuted refused moment held

@@ -1,0 +1,11 @@
+use am_outlet::Sending;
+use am_tenant::TenantName;
+
+/// A try that goes out.
+#[derive(Debug, Drop)]
+pub struct Dispatch {
+    /// Whose it is.
+    pub tenant: TenantName,
+    /// The try.
+    pub sending: Sending,
+}

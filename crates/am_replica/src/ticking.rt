@@ -1,0 +1,215 @@
+//! Ticks.
+
+ghost use Rattle.std.specs.Prelude.{◌≡◌, ◌++◌, ℕ, List, [], true, IfErr, IfOk, OnOk, map, if◌then◌else◌};
+ghost use Rattle.am_tenant.specs.Names.{same};
+ghost use Rattle.am_agenda.specs.Plan.{flush_due};
+ghost use Rattle.am_outlet.specs.Attempts.{is_due};
+ghost use Rattle.am_pattern.specs.Asking.{Asked};
+ghost use Rattle.am_timer.specs.declared.key.TimerKey.TheVariants.{Group as GroupTimer};
+ghost use Rattle.am_replica.specs.Delivery.{tells};
+ghost use Rattle.am_replica.specs.Held.{Does, StopsFor, local_of};
+ghost use Rattle.am_replica.specs.Local.{Tells};
+ghost use Rattle.am_replica.specs.Plans.{IsPlanned};
+ghost use Rattle.am_replica.specs.Ticking.{due_keys, handled};
+ghost use Rattle.am_replica.specs.Ticks.{AreHandled, DoesDue, StopsAt, StopsDoing, StopsHandling, StopsMuting, TicksAll, here_for, keys_for, muted_at, muted_for, said_of, some_flush};
+
+use crate::dispatch::Dispatch;
+use crate::here::Here;
+use crate::muted::Muted;
+use crate::parts::Parts;
+use am_item::Fault;
+use am_limit::LimitBook;
+use am_members::Group;
+use am_outlet::Sending;
+use am_pattern::PatternCache;
+use am_tenant::TenantName;
+use am_text::{Moment, Text};
+use am_timer::{GroupKey, Timer, TimerKey};
+use std::alloc::{AllocError, Global};
+
+impl Parts {
+    /// A tick, of all tenants: what is retired at the moment goes, and then what is due is done once, in order: by when it is
+    /// due, by tenant, groups before attempts. Gives the tries that go out. A tick costs what is due and what goes.
+    ///
+    /// # Errors
+    /// `CountsExhausted` where a count of a tenant would pass 2^62, `PatternNotBuilt` where a pattern that may mute alerts of a
+    /// group gave no answer, or out of memory.
+    pub(crate) fn tick(
+        &mut self,
+        alloc: Global,
+        instance: u8,
+        incarnation: u32,
+        moment: Moment,
+        limits: &LimitBook,
+        cache: &mut PatternCache,
+    ) -> Result<Vec<Dispatch>, Fault>
+        requires planned { (t : List ℕ) → IsPlanned (local_of t self.old) }
+        ensures ticks { IfOk result (λ all. TicksAll (here_for instance incarnation moment limits.now) (λ t. local_of t self.old) (λ t. local_of t self.new) all.items) }
+        ensures asked { Asked result cache.old cache.new }
+        ensures fault { IfErr result (StopsAt (here_for instance incarnation moment limits.now) (λ t. local_of t self.old) cache.new.refused) }
+    {
+        self.retire(alloc, moment)?;
+        self.do_due(alloc, instance, incarnation, moment, limits, cache)
+    }
+
+    // Does all that is due at a moment, of all tenants.
+    fn do_due(
+        &mut self,
+        alloc: Global,
+        instance: u8,
+        incarnation: u32,
+        moment: Moment,
+        limits: &LimitBook,
+        cache: &mut PatternCache,
+    ) -> Result<Vec<Dispatch>, Fault>
+        requires planned { (t : List ℕ) → IsPlanned (local_of t self.old) }
+        ensures done { IfOk result (λ all. DoesDue (here_for instance incarnation moment limits.now) (λ t. local_of t self.old) (λ t. local_of t self.new) all.items) }
+        ensures asked { Asked result cache.old cache.new }
+        ensures fault { IfErr result (StopsDoing (here_for instance incarnation moment limits.now) (λ t. local_of t self.old) cache.new.refused) }
+    {
+        let (due, muted) = self.due(alloc, moment, cache)?;
+        self.handle_all(alloc, instance, incarnation, moment, limits, &due, &muted)
+    }
+
+    // The timers that are due at a moment, and what is muted of the tenants that have a group to flush.
+    #[tactic(auto, unfolding(crate::specs::Held::local_of))]
+    fn due(
+        &mut self,
+        alloc: Global,
+        moment: Moment,
+        cache: &mut PatternCache,
+    ) -> Result<(Vec<Timer>, Muted), Fault>
+        ensures due { IfOk result (λ found. (t : List ℕ) → keys_for t found.0.items ≡ due_keys t moment (local_of t self.old).plan) }
+        ensures muted { IfOk result (λ found. (t : List ℕ) → some_flush t found.0.items ≡ true → muted_for t found.1 ≡ muted_at moment (local_of t self.old).held) }
+        ensures stays { self.new ≡ self.old }
+        ensures asked { Asked result cache.old cache.new }
+        ensures fault { IfErr result (StopsMuting cache.new.refused moment (λ t. (local_of t self.old).held)) }
+    {
+        let due = self.agenda.due(alloc, moment)?;
+        let muted = Muted::of(alloc, &mut self.holdings, &due, moment, cache)?;
+        Ok((due, muted))
+    }
+
+    // Does what these timers are for, in their order.
+    fn handle_all(
+        &mut self,
+        alloc: Global,
+        instance: u8,
+        incarnation: u32,
+        moment: Moment,
+        limits: &LimitBook,
+        due: &[Timer],
+        muted: &Muted,
+    ) -> Result<Vec<Dispatch>, Fault>
+        requires planned { (t : List ℕ) → IsPlanned (local_of t self.old) }
+        ensures handled { IfOk result (λ all. AreHandled (here_for instance incarnation moment limits.now) muted.now due.now (λ t. local_of t self.old) (λ t. local_of t self.new) all.items) }
+        ensures fault { IfErr result (StopsHandling (here_for instance incarnation moment limits.now) muted.now due.now (λ t. local_of t self.old)) }
+    {
+        let mut all = Vec::new(alloc);
+        for timer in due {
+            let tenant = &timer.name.tenant;
+            let here = Here {
+                instance,
+                incarnation,
+                moment,
+                limits: limits.of(tenant),
+            };
+            let sendings = self.handle(alloc, tenant, &here, &timer.name.key, muted)?;
+            add_all(&mut all, tenant, sendings)?;
+        }
+        Ok(all)
+    }
+
+    // Does what a timer of a tenant is for, where it is still due.
+    fn handle(
+        &mut self,
+        alloc: Global,
+        tenant: &TenantName,
+        here: &Here,
+        key: &TimerKey,
+        muted: &Muted,
+    ) -> Result<Vec<Sending>, Fault>
+        requires planned { IsPlanned (local_of tenant.now self.old) }
+        ensures does { OnOk result (Does tenant.now (handled here.now (muted_for tenant.now muted.now) key.now) self.old self.new) }
+        ensures said { IfOk result (λ v. map (λ s. Tells s) v.items ≡ (handled here.now (muted_for tenant.now muted.now) key.now (local_of tenant.now self.old)).said) }
+        ensures fits { IfOk result (λ _. (handled here.now (muted_for tenant.now muted.now) key.now (local_of tenant.now self.old)).fits ≡ true) }
+        ensures fault { IfErr result (StopsFor (handled here.now (muted_for tenant.now muted.now) key.now (local_of tenant.now self.old))) }
+    {
+        match key {
+            TimerKey::Group(group) => self.flush_due(alloc, tenant, here, group, muted),
+            TimerKey::Retry(number) => {
+                let sending = self.retry(alloc, tenant, here, *number)?;
+                let sendings = one_of(alloc, sending)?;
+                Ok(sendings)
+            }
+            TimerKey::Operation(_) => Ok(Vec::new(alloc)),
+            TimerKey::Push(_) => Ok(Vec::new(alloc)),
+        }
+    }
+
+    // Flushes a group of a tenant, where its flush is due.
+    fn flush_due(
+        &mut self,
+        alloc: Global,
+        tenant: &TenantName,
+        here: &Here,
+        key: &GroupKey,
+        muted: &Muted,
+    ) -> Result<Vec<Sending>, Fault>
+        requires planned { IsPlanned (local_of tenant.now self.old) }
+        ensures does { OnOk result (Does tenant.now (handled here.now (muted_for tenant.now muted.now) (GroupTimer key.now)) self.old self.new) }
+        ensures said { IfOk result (λ v. map (λ s. Tells s) v.items ≡ (handled here.now (muted_for tenant.now muted.now) (GroupTimer key.now) (local_of tenant.now self.old)).said) }
+        ensures fits { IfOk result (λ _. (handled here.now (muted_for tenant.now muted.now) (GroupTimer key.now) (local_of tenant.now self.old)).fits ≡ true) }
+        ensures fault { IfErr result (StopsFor (handled here.now (muted_for tenant.now muted.now) (GroupTimer key.now) (local_of tenant.now self.old))) }
+    {
+        let group = Group {
+            route: key.route,
+            labels: key.labels.copy()?,
+        };
+        if !self.is_due(tenant, here.moment, &key.receiver, &group) {
+            return Ok(Vec::new(alloc));
+        }
+        self.flush(alloc, tenant, here, &group, muted.find(tenant))
+    }
+
+    // The flush of a tenant's group to this receiver is due.
+    #[tactic(auto, unfolding(crate::specs::Held::local_of))]
+    fn is_due(&self, tenant: &TenantName, moment: Moment, receiver: &Text, group: &Group) -> bool
+        ensures { result ≡ is_due moment (flush_due (local_of tenant.now self.now).plan.paces (local_of tenant.now self.now).plan.grouped
+            (record { receiver = receiver.now; labels = group.now.labels; route = group.now.route })) }
+    {
+        match self.agenda.flush_due(tenant, receiver, group) {
+            Some(due) => due <= moment,
+            None => false,
+        }
+    }
+}
+
+// What goes out, where something does.
+fn one_of(alloc: Global, sending: Option<Sending>) -> Result<Vec<Sending>, AllocError>
+    ensures { IfOk result (λ v. map (λ s. Tells s) v.items ≡ tells sending) }
+{
+    let mut sendings = Vec::new(alloc);
+    if let Some(sending) = sending {
+        sendings.push(sending)?;
+    }
+    Ok(sendings)
+}
+
+// Adds what goes out of a tenant.
+fn add_all(
+    all: &mut Vec<Dispatch>,
+    tenant: &TenantName,
+    sendings: Vec<Sending>,
+) -> Result<(), AllocError>
+    ensures { OnOk result ((t : List ℕ) → said_of t all.new.items
+        ≡ said_of t all.old.items ++ (if same t tenant.now then map (λ s. Tells s) sendings.items else [])) }
+{
+    for sending in sendings {
+        all.push(Dispatch {
+            tenant: *tenant,
+            sending,
+        })?;
+    }
+    Ok(())
+}
