@@ -27,8 +27,7 @@ Makes tenant change old new =
 
 -- it did this for one tenant
 abbrev pub Does : List ℕ → (Local → Reaction) → Parts → Parts → Type 0
-Does tenant react old new =
-    (t : List ℕ) → local_of t new ≡ (if same t tenant then (react (local_of t old)).local else local_of t old)
+Does tenant react old new = Makes tenant (λ local. (react local).local) old new
 
 -- why it stops: a count would have passed the greatest, or memory ran out
 abbrev pub StopsFor : Reaction → Fault → Type 0

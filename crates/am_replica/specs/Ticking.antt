@@ -37,7 +37,7 @@ handled here muted (Push instance) local = stays local
 abbrev pub muted_of : Here → Local → List (List Label)
 muted_of here local = muted_sets (configuration_in local.held) here.moment local.held
 
--- all that is due at a moment is done once, in order; what is set meanwhile is due later
+-- all that is due at a moment is done once, in order; what is set meanwhile waits for another tick
 abbrev pub done_by : List ℕ → Here → Local → Reaction
 done_by tenant here local =
     each (handled here (muted_of here local)) (due_keys tenant here.moment local.plan) local

@@ -15,7 +15,7 @@ use std::alloc::{AllocError, Global};
 
 impl Parts {
     /// Drops what is retired at the moment, of all tenants: items, the alerts among them from their groups, and the last
-    /// flushes of groups that have no members. It looks at no more than what goes.
+    /// flushes of groups that have no members. It looks at what goes, and at the item that retires next.
     pub(crate) fn retire(&mut self, alloc: Global, moment: Moment) -> Result<(), AllocError>
         ensures { OnOk result ((t : List ℕ) → local_of t self.new ≡ retired moment (local_of t self.old)) }
     {
