@@ -23,9 +23,16 @@ use Rattle.rand_chacha.specs.ChaCha.{ChaCha}
 use Rattle.am_world.specs.declared.event.Output.{Output}
 use Rattle.am_world.specs.declared.event.Output.TheVariants.{Reply}
 use Rattle.am_world.specs.declared.instance.Instance.{Instance}
-use Rattle.am_world.specs.Places.{here_of, local_in}
-use Rattle.am_world.specs.Reaction.{Here, Local, MayDecide, StopsFor, Terms, decision_at, maker, refusal_reply, words}
+use Rattle.am_pattern.specs.Asking.{Asked, Grows}
+use Rattle.am_pattern.specs.Cache.{Cache}
+use Rattle.am_pattern.proofs.AskingLemmas.{grows-asked, has_text-grows}
+use Rattle.am_query.specs.Patterns.{HasRefused}
+use Rattle.am_replica.specs.Accepting.{StopsAccepting}
+use Rattle.am_replica.specs.Local.{Local}
+use Rattle.am_world.specs.Places.{HasMore, here_of, local_in}
+use Rattle.am_world.specs.Reaction.{Here, MayDecide, StopsFor, Terms, decision_at, maker, refusal_reply, words}
 use Rattle.am_world.specs.Taking.{Brings}
+use Rattle.am_world.proofs.Built.{more_then}
 
 -- a refusal for a pattern has no items
 no_items : (d : Decision) → IsUnbuilt d → d.items ≡ []
@@ -79,7 +86,32 @@ pub stops_for : (refused : List (List ℕ)) (result : Result Decided Fault) (req
 stops_for refused (Ok d) request here local returned = tt
 stops_for refused (Err OutOfMemory) request here local returned = tt
 stops_for refused (Err CountsExhausted) request here local returned = returned
-stops_for refused (Err PatternNotBuilt) request here local returned = returned
+stops_for refused (Err PatternNotBuilt) request here local returned = inl returned
+
+-- ---- what it brings is accepted
+
+-- what was refused stays refused
+refused_grows : (old new : Cache) (texts : List (List ℕ)) → Grows old new → HasRefused old.refused texts → HasRefused new.refused texts
+refused_grows old new texts grows (text, (among, (is_pattern, found))) =
+    (text, (among, (is_pattern, has_text-grows old new text grows found)))
+
+-- why an instance stops that accepts what was decided
+pub stops_accepting : (old new : Cache) (request : Request) (here : Here) (local after : Local) (fault : Fault) (d : Decision) →
+    Grows old new → MayDecide old.refused request (decision_at here request local) d → after ≡ local →
+    StopsAccepting new.refused d.items after fault → StopsFor fault request here local new.refused
+stops_accepting old new request here local after OutOfMemory d grows may same stops = tt
+stops_accepting old new request here local after CountsExhausted d grows may same stops = absurd stops
+stops_accepting old new request here local after PatternNotBuilt d grows (inl right) same stops =
+    inr (d, inl right, rw same at stops)
+stops_accepting old new request here local after PatternNotBuilt d grows (inr (unbuilt, has)) same stops =
+    inr (d, inr (unbuilt, refused_grows old new (patterns_of_request request) grows has), rw same at stops)
+
+-- no pattern that was refused is forgotten
+pub more_asked : {X E : Type 0} (result : Result X E) (texts : List (List ℕ)) (old new : Cache) → HasMore texts old.refused →
+    Asked result old new → HasMore texts new.refused
+more_asked result texts old new more asked =
+    let grows = grows-asked result old new asked in
+    more_then texts old.refused new.refused more (grows.more, grows.refused)
 
 -- ---- what bytes that are no request of a tenant bring
 

@@ -10,9 +10,10 @@ use Rattle.am_world.specs.declared.event.Event.TheVariants.{Limits}
 use Rattle.am_world.specs.declared.instance.Instance.{Instance}
 use Rattle.am_world.specs.declared.world.World.{World}
 use Rattle.am_world.specs.Moments.{clock_after}
-use Rattle.am_world.specs.Places.{IsDownAt, KeepRefused, SameElsewhere, cause_at, incarnation_at, instance_at, incarnation_where, numbers, roster_of}
+use Rattle.am_world.specs.Places.{IsDownAt, KeepRefused, SameElsewhere, cause_at, incarnation_at, instance_at, incarnation_where, roster_of}
 use Rattle.am_world.specs.Refusal.{refusal}
 use Rattle.am_world.specs.Roster.{roster_after}
+use Rattle.am_world.specs.Setup.{numbers}
 use Rattle.am_world.specs.Simulation.{Faulted, fault_count, faults_of, put_out, works}
 use Rattle.am_world.proofs.Built.{keep_equal}
 use Rattle.am_world.proofs.InstancesLemmas.{CountsFrom}

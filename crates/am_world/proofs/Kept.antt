@@ -12,12 +12,7 @@ use Rattle.am_world.specs.declared.world.World.{World}
 use Rattle.am_world.specs.Moments.{clock_after, last_moment}
 use Rattle.am_world.specs.Outputs.{front_told}
 use Rattle.am_world.specs.Places.{IsReadOnce, SameElsewhere, bytes_at, incarnation_at, local_at, refused_at, roster_of, up_at}
-use Rattle.am_item.specs.declared.item.Item.{Item}
-use Rattle.am_item.specs.Best.{best}
-use Rattle.am_item.specs.Key.{key_of}
-use Rattle.am_item.specs.Retirement.{is_retired}
-use Rattle.am_world.specs.PrivateCluster.{Accepted, Course, Limited, PrivateCluster, PrivateInstance, Ticked, after_all, course, fits_all, items_in, local_of, retired, ticked, told_all, unchanged}
-use Rattle.am_world.specs.Reaction.{Local, output_of, retired_if, retired_local}
+use Rattle.am_world.specs.PrivateCluster.{Course, Limited, PrivateCluster, Ticked, after_all, course, fits_all, ticks, told_all, unchanged}
 use Rattle.am_world.specs.Roster.{IsSameRoster, Roster, roster_after}
 use Rattle.am_limit.specs.Books.{limits_of}
 use Rattle.am_limit.specs.declared.limits.Limits as limit
@@ -25,10 +20,7 @@ use Rattle.am_tenant.specs.Names.{same}
 use Rattle.am_world.specs.Simulation.{Follows, Kept, Premises, Stands, bytes_read, fault_count, limits_after, put_out}
 use Rattle.am_world.specs.View.{Reading, Seen, AskedAs, FrontAnswered, Shut, Watch, adds, look, watch}
 use Rattle.am_world.proofs.Built.{keep_equal, keep_same}
-use Rattle.am_book.proofs.Sifting.{best-dropped}
-use Rattle.am_book.specs.Retired.{is_key_retired}
 use Rattle.am_world.proofs.Faults.{incarnations_stay}
-use Rattle.am_world.proofs.Retiring.{Retires}
 
 pub same_again : (r : Roster) → IsSameRoster r r
 same_again r = record { up = λ i. refl; incarnation = λ i. refl }
@@ -146,13 +138,13 @@ kept_late_bytes w c m piece late = kept_nothing w (Bytes c m piece) (λ v f. rw 
     (same_again (roster_of w.instances)) refl (λ t limits. refl)
 
 -- what a tick is to a private cluster
-tick_course : (b : Bool) (p : PrivateCluster) (m : ℕ) → (nat_lt last_moment m || nat_lt m p.clock) ≡ b →
-    course p (Ticked m) ≡ (if b then unchanged p else unchanged (ticked m p))
+pub tick_course : (b : Bool) (p : PrivateCluster) (m : ℕ) → (nat_lt last_moment m || nat_lt m p.clock) ≡ b →
+    course p (Ticked m) ≡ (if b then unchanged p else ticks m p)
 unfolding course
 tick_course true p m e =
-    ap (λ b. if is_some (let o : Option Refused = if b then Some MomentRefused else None in o) then unchanged p else unchanged (ticked m p)) e
+    ap (λ b. if is_some (let o : Option Refused = if b then Some MomentRefused else None in o) then unchanged p else ticks m p) e
 tick_course false p m e =
-    ap (λ b. if is_some (let o : Option Refused = if b then Some MomentRefused else None in o) then unchanged p else unchanged (ticked m p)) e
+    ap (λ b. if is_some (let o : Option Refused = if b then Some MomentRefused else None in o) then unchanged p else ticks m p) e
 
 -- a tick that is refused changes no private cluster either
 pub kept_refused_tick : (w : World) (m : ℕ) → (nat_lt last_moment m || nat_lt m w.clock) ≡ true → Kept w (Tick m) w
@@ -160,67 +152,12 @@ unfolding watch adds front_told
 kept_refused_tick w m refused = kept_nothing w (Tick m) (λ v f. refl)
     (λ t v p given.
     let same : course p (Ticked m) ≡ unchanged p = tick_course true p m (rw (← given.stands.clock) refused) in
-    (ap (λ (q : Course). q.cluster) same, ap (λ (q : Course). map (output_of p.tenant) q.said ++ []) same, ap (λ (q : Course). q.fits && true) same))
+    (ap (λ (q : Course). q.cluster) same, ap (λ (q : Course). q.outputs ++ []) same, ap (λ (q : Course). q.fits && true) same))
     (λ v f. refl) (same_again (roster_of w.instances)) (rw refused refl) (λ t limits. refl)
 
 -- the later of two moments
 pub max_later : (m clock : ℕ) → clock ≤ m → max m clock ≡ m
 max_later m clock h = omega arith
-
--- the items of what was accepted, where it passes a test by its item
-items-filter : (p : Item → Bool) (accepted : List Accepted) → items_in (filter (λ (a : Accepted). p a.item) accepted) ≡ filter p (items_in accepted)
-items-filter p [] = refl
-items-filter p (a ∷ accepted) = elim (cases_Bool (p a.item)) [
-  | inl h ↦ rw h (ap (λ items. a.item ∷ items) (items-filter p accepted))
-  | inr h ↦ rw h (items-filter p accepted)
-]
-
--- what is retired is gone of what the private instance holds
-local_of-retired : (m : ℕ) (own : PrivateInstance) → local_of (retired m own) ≡ retired_local m (local_of own)
-unfolding retired_local
-local_of-retired m own =
-    let items = items_in own.accepted in
-    ap (λ held. (let l : Local = record { held = held; ledger = own.ledger } in l))
-    (ap best (items-filter (λ item. not (is_key_retired m (best items) (key_of item))) own.accepted) ∙ sym (best-dropped (is_retired m) items))
-
-local_ticked : (up : Bool) (m : ℕ) (own : PrivateInstance) → local_of (if up then retired m own else own) ≡ retired_if up m (local_of own)
-local_ticked true m own = local_of-retired m own
-local_ticked false m own = refl
-
-stands_ticked : (t : List ℕ) (w w' : World) (p : PrivateCluster) (m : ℕ) → w'.clock ≡ m → w'.limits ≡ w.limits →
-    w'.service_key ≡ w.service_key → Retires m w.instances w'.instances → Stands t w p → Stands t w' (ticked m p)
-stands_ticked t w w' p m clock limits service_key retires s = record {
-  tenant = s.tenant;
-  clock = clock;
-  limits = ap (limits_of t) limits ∙ s.limits;
-  service_key = service_key ∙ s.service_key;
-  roster = roster_then _ _ _ retires.roster s.roster;
-  local = λ i. retires.local t i ∙ rw (s.roster.up i, s.local i) (sym (local_ticked (p.roster.up i) m (p.at i)));
-}
-
-pub kept_tick : (w w' : World) (m : ℕ) → (nat_lt last_moment m || nat_lt m w.clock) ≡ false → w'.clock ≡ m →
-    Retires m w.instances w'.instances → w'.limits ≡ w.limits → w'.service_key ≡ w.service_key → put_out w' ≡ put_out w → fault_count w' ≡ fault_count w → Kept w (Tick m) w'
-unfolding watch adds front_told
-kept_tick w w' m allowed clock retires limits service_key outputs faults = record {
-  follows = λ v f. record { reading = λ c i. retires.reading c i ∙ f.reading c i; roster = roster_then _ _ _ retires.roster f.roster };
-  outs = [];
-  appended = outputs ∙ sym (append-nil (put_out w));
-  tenants = λ t v p given.
-      let course_is : course p (Ticked m) ≡ unchanged (ticked m p) = tick_course false p m (rw (← given.stands.clock) allowed) in
-      record {
-        stands = rw (ap (λ (q : Course). q.cluster) course_is) (stands_ticked t w w' p m clock limits service_key retires given.stands);
-        told = λ u later. sym (ap (λ (q : Course). map (output_of p.tenant) q.said ++ []) course_is);
-        fits = ap (λ (q : Course). q.fits && true) course_is;
-      };
-  front = λ v f u later. refl;
-  owned = λ v f u later. refl;
-  roster = retires.roster;
-  clock = rw allowed clock;
-  limits = λ t. ap (limits_of t) limits;
-  service_key = service_key;
-  refused = keep_same _ _ retires.refused;
-  faults = faults;
-}
 
 -- what new limits of a tenant are to a private cluster
 limited_course : (p : PrivateCluster) (limits : limit.Limits) → course p (Limited limits) ≡ unchanged (record p { limits = limits })
@@ -230,7 +167,7 @@ limited_course p limits = refl
 -- the tenant's cluster gets them, and no other
 limited_alone : (b : Bool) (t : List ℕ) (w' : World) (p : PrivateCluster) (limits : limit.Limits) →
     limits_of t w'.limits ≡ (if b then limits else p.limits) → w'.service_key ≡ p.service_key → p.tenant ≡ t → w'.clock ≡ p.clock →
-    IsSameRoster (roster_of w'.instances) p.roster → ((i : ℕ) → local_at t i w'.instances ≡ local_of (p.at i)) →
+    IsSameRoster (roster_of w'.instances) p.roster → ((i : ℕ) → local_at t i w'.instances ≡ p.at i) →
     Stands t w' (after_all p (if b then Limited limits ∷ [] else []))
     × (told_all p (if b then Limited limits ∷ [] else []) ≡ []) × (fits_all p (if b then Limited limits ∷ [] else []) ≡ true)
 unfolding course

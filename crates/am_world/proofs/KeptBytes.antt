@@ -3,7 +3,6 @@ use Rattle.std.proofs.Common.{◌≡◌, inl, inr, ◌∙◌, ℕ, ◌==◌, ◌
 use Rattle.std.proofs.lemmas.List.{append-nil, append_assoc}
 use Rattle.std.proofs.lemmas.Bool.{cases_Bool}
 use Rattle.std.proofs.lemmas.Bool.Decides.{nat_tests}
-use Rattle.am_item.proofs.BestLaws.{best-push}
 use Rattle.am_http.specs.Connections.{left_open}
 use Rattle.am_http.specs.Verdict.{verdict}
 use Rattle.am_http.specs.Replies.{reply}
@@ -13,7 +12,6 @@ use Rattle.am_api.specs.Replied.{Decision}
 use Rattle.am_http.specs.declared.request.Fed.{Fed}
 use Rattle.am_http.specs.declared.request.Fed.TheVariants as fed
 use Rattle.am_http.specs.declared.request.Request.{Request}
-use Rattle.am_item.specs.declared.item.Item.{Item}
 use Rattle.am_limit.specs.Books.{limits_of}
 use Rattle.am_tenant.specs.Names.{same}
 use Rattle.am_tenant.proofs.Same.{same_tells}
@@ -25,9 +23,9 @@ use Rattle.am_world.specs.declared.world.World.{World}
 use Rattle.am_world.specs.Moments.{effective, last_moment}
 use Rattle.am_world.specs.Outputs.{answered_by, answered_on, are_owned, front_outputs, front_told, outputs_of, owner}
 use Rattle.am_world.specs.Places.{AreBuilt, KeepRefused, SameElsewhere, bytes_at, bytes_where, here_in, incarnation_at, incarnation_where, instance_at, local_at, local_where, refused_at, roster_of, up_at, up_where}
-use Rattle.am_world.specs.PrivateCluster.{Accepted, Asked, Course, PrivateCluster, PrivateInstance, accepted_at, after, after_all, course, fits_all, here_at, items_in, local_of, own_after, patterns_in, terms_at, told, told_all}
-use Rattle.am_item.specs.Best.{all_joined, best}
-use Rattle.am_world.specs.Reaction.{Brought, Here, MayDecide, Reaction, Terms, asked, brought, carried_out, decision_at, local_after, terms_of, terms_with}
+use Rattle.am_world.specs.PrivateCluster.{Asked, Course, PrivateCluster, after, after_all, course, fits_all, here_at, patterns_in, put_out_at, terms_at, told, told_all}
+use Rattle.am_replica.specs.Local.{Reaction}
+use Rattle.am_world.specs.Reaction.{Brought, Here, MayDecide, Terms, asked, brought, carried_out, decision_at, terms_of, terms_with}
 use Rattle.am_world.specs.Roster.{IsSameRoster, put_at}
 use Rattle.am_world.specs.Simulation.{Follows, Kept, Later, Stands, bytes_read, fault_count, put_out, refused_by}
 use Rattle.am_world.specs.Taking.{Takes, taken_at}
@@ -171,45 +169,20 @@ reading_after told n c v before bytes xs ys reading seen here others d j = elim 
   ]
 ]
 
--- ---- the private instance
-
-items-accepted_at : (m : ℕ) (ys : List Item) → items_in (accepted_at m ys) ≡ ys
-items-accepted_at m [] = refl
-items-accepted_at m (y ∷ ys) = ap (λ zs. y ∷ zs) (items-accepted_at m ys)
-
-items-append : (xs zs : List Accepted) → items_in (xs ++ zs) ≡ items_in xs ++ items_in zs
-items-append [] zs = refl
-items-append (x ∷ xs) zs = ap (λ ys. x.item ∷ ys) (items-append xs zs)
-
-best-all_joined : (xs ys : List Item) → best (xs ++ ys) ≡ all_joined (best xs) ys
-best-all_joined xs [] = ap best (append-nil xs)
-best-all_joined xs (y ∷ ys) =
-    ap best (sym (append_assoc xs (y ∷ []) ys)) ∙ best-all_joined (xs ++ y ∷ []) ys ∙ ap (λ held. all_joined held ys) (best-push xs y)
-
--- what an instance has after a reaction is what the private one has
-pub local_of-own_after : (m : ℕ) (reaction : Reaction) (own : PrivateInstance) → local_of (own_after m reaction own) ≡ local_after reaction (local_of own)
-unfolding local_after
-local_of-own_after m reaction own =
-    rw (
-      items-append own.accepted (accepted_at m reaction.accepts),
-      items-accepted_at m reaction.accepts,
-      best-all_joined (items_in own.accepted) reaction.accepts,
-    ) refl
-
 -- ---- what stands afterwards
 
 -- of the tenant, the world at every place has what these local parts say
 pub record Reacts (t : List ℕ) (n : ℕ) (w w' : World) (reaction : Reaction) : Type 0 where
-  pub here : local_at t n w'.instances ≡ local_after reaction (local_at t n w.instances)
+  pub here : local_at t n w'.instances ≡ reaction.local
   pub others : (j : ℕ) → nat_eq j n ≡ false → local_at t j w'.instances ≡ local_at t j w.instances
   pub clock : w'.clock ≡ w.clock
   pub limits : w'.limits ≡ w.limits
   pub service_key : w'.service_key ≡ w.service_key
   pub roster : IsSameRoster (roster_of w'.instances) (roster_of w.instances)
 
-stands_reacts : (t : List ℕ) (n m : ℕ) (w w' : World) (p : PrivateCluster) (reaction : Reaction) → Reacts t n w w' reaction → Stands t w p →
-    Stands t w' (record p { at = put_at p.at n (own_after m reaction (p.at n)) })
-stands_reacts t n m w w' p reaction r s = record {
+pub stands_reacts : (t : List ℕ) (n : ℕ) (w w' : World) (p : PrivateCluster) (reaction : Reaction) → Reacts t n w w' reaction → Stands t w p →
+    Stands t w' (record p { at = put_at p.at n reaction.local })
+stands_reacts t n w w' p reaction r s = record {
   tenant = s.tenant;
   clock = r.clock ∙ s.clock;
   limits = ap (limits_of t) r.limits ∙ s.limits;
@@ -218,18 +191,18 @@ stands_reacts t n m w w' p reaction r s = record {
   local = λ j. elim (cases_Bool (nat_eq j n)) [
     | inl h ↦
         let number : j ≡ n = grind (arith, nat_tests) in
-        rw h (ap (λ k. local_at t k w'.instances) number ∙ r.here ∙ ap (local_after reaction) (s.local n) ∙ sym (local_of-own_after m reaction (p.at n)))
+        rw h (ap (λ k. local_at t k w'.instances) number ∙ r.here)
     | inr h ↦ rw h (r.others j h ∙ s.local j)
   ];
 }
 
 -- the private cluster's reaction is that of what the world has
-terms_same : (t : List ℕ) (w : World) (p : PrivateCluster) → Stands t w p → terms_at p ≡ terms_of w.service_key w.limits t
+pub terms_same : (t : List ℕ) (w : World) (p : PrivateCluster) → Stands t w p → terms_at p ≡ terms_of w.service_key w.limits t
 terms_same t w p s =
     ap (λ name. terms_with p.service_key p.limits name) s.tenant ∙ ap (λ limits. terms_with p.service_key limits t) (sym s.limits)
     ∙ ap (λ key. terms_with key (limits_of t w.limits) t) (sym s.service_key)
 
-here_same : (t : List ℕ) (n m : ℕ) (w : World) (p : PrivateCluster) → Stands t w p →
+pub here_same : (t : List ℕ) (n m : ℕ) (w : World) (p : PrivateCluster) → Stands t w p →
     here_at p (effective m p.clock) n ≡ here_in (effective m w.clock) (terms_of w.service_key w.limits t) n w.instances
 here_same t n m w p s =
     ap (λ clock. (let h : Here = record { instance = n; incarnation = p.roster.incarnation n; moment = effective m clock; terms = terms_at p } in h)) (sym s.clock)
@@ -245,13 +218,13 @@ decision_in t n m r w =
 -- a request of the tenant, on the world and on its cluster
 asked_course : (t : List ℕ) (n c m : ℕ) (r : Request) (w : World) (p : PrivateCluster) → Stands t w p →
     course p (Asked c n m r) ≡
-    (let reaction : Reaction = carried_out c (decision_in t n m r w) (local_at t n w.instances).ledger in
-    record { cluster = record p { at = put_at p.at n (own_after (effective m p.clock) reaction (p.at n)) }; said = reaction.said; fits = reaction.fits })
+    (let reaction : Reaction = carried_out (effective m w.clock) c (decision_in t n m r w) (local_at t n w.instances) in
+    record { cluster = record p { at = put_at p.at n reaction.local }; outputs = put_out_at p n reaction.said; fits = reaction.fits })
 unfolding course asked
-asked_course t n c m r w p s = rw (← here_same t n m w p s, s.local n) refl
+asked_course t n c m r w p s = rw (← here_same t n m w p s, s.clock, s.local n) refl
 
 -- a tenant of whom nothing changed
-stands_kept : (t : List ℕ) (w w' : World) (p : PrivateCluster) → w'.clock ≡ w.clock → w'.limits ≡ w.limits → w'.service_key ≡ w.service_key →
+pub stands_kept : (t : List ℕ) (w w' : World) (p : PrivateCluster) → w'.clock ≡ w.clock → w'.limits ≡ w.limits → w'.service_key ≡ w.service_key →
     IsSameRoster (roster_of w'.instances) (roster_of w.instances) →
     ((j : ℕ) → local_at t j w'.instances ≡ local_at t j w.instances) → Stands t w p → Stands t w' p
 stands_kept t w w' p clock limits service_key roster local s = record {
@@ -263,7 +236,7 @@ stands_kept t w w' p clock limits service_key roster local s = record {
   local = λ j. local j ∙ s.local j;
 }
 
-local_everywhere : (t : List ℕ) (n : ℕ) (xs ys : List Instance) → local_at t n ys ≡ local_at t n xs → SameElsewhere n xs ys → (j : ℕ) → local_at t j ys ≡ local_at t j xs
+pub local_everywhere : (t : List ℕ) (n : ℕ) (xs ys : List Instance) → local_at t n ys ≡ local_at t n xs → SameElsewhere n xs ys → (j : ℕ) → local_at t j ys ≡ local_at t j xs
 unfolding local_at
 local_everywhere t n xs ys here others j = elim (cases_Bool (nat_eq j n)) [
   | inl h ↦ let number : j ≡ n = grind (arith, nat_tests) in ap (λ k. local_at t k ys) number ∙ here ∙ ap (λ k. local_at t k xs) (sym number)
@@ -284,8 +257,8 @@ unfolding owner
 of_tenant t s u c bytes seen = rw seen (elim (same t s) [ true ↦ refl | false ↦ refl ])
 
 -- what a piece brings to the world, where this is decided on requests, and what its table says afterwards
-abbrev pub brings : Fed → (Request → Decision) → (n c : ℕ) → World → Brought
-brings told decide n c w = brought told decide c (λ s. local_at s n w.instances)
+abbrev pub brings : Fed → (Request → Decision) → (n c m : ℕ) → World → Brought
+brings told decide n c m w = brought told decide (effective m w.clock) c (λ s. local_at s n w.instances)
 
 abbrev pub then_seen : Fed → ℕ → ℕ → List ℕ → Watch → Watch
 then_seen told n c bytes v = record { table = (c, seen_as n bytes told) ∷ v.table; roster = v.roster }
@@ -296,17 +269,17 @@ IsRight t n m w told decide = (r : Request) → told ≡ fed.Request r → t ≡
 
 -- the tenant that asked
 asked_alone : (t : List ℕ) (n c m : ℕ) (r : Request) (w w' : World) (p : PrivateCluster) → Stands t w p →
-    local_at t n w'.instances ≡ local_after (carried_out c (decision_in t n m r w) (local_at t n w.instances).ledger) (local_at t n w.instances) →
+    local_at t n w'.instances ≡ (carried_out (effective m w.clock) c (decision_in t n m r w) (local_at t n w.instances)).local →
     SameElsewhere n w.instances w'.instances → w'.clock ≡ w.clock → w'.limits ≡ w.limits → w'.service_key ≡ w.service_key →
     IsSameRoster (roster_of w'.instances) (roster_of w.instances) → Stands t w' (after p (Asked c n m r))
 unfolding local_at
 asked_alone t n c m r w w' p s here others clock limits service_key roster =
-    let reaction : Reaction = carried_out c (decision_in t n m r w) (local_at t n w.instances).ledger in
+    let reaction : Reaction = carried_out (effective m w.clock) c (decision_in t n m r w) (local_at t n w.instances) in
     let reacts : Reacts t n w w' reaction = record { here = here; others = λ j h. ap (local_where t) (others j h); clock = clock; limits = limits; service_key = service_key; roster = roster } in
-    rw (ap (λ (q : Course). q.cluster) (asked_course t n c m r w p s)) (stands_reacts t n (effective m p.clock) w w' p reaction reacts s)
+    rw (ap (λ (q : Course). q.cluster) (asked_course t n c m r w p s)) (stands_reacts t n w w' p reaction reacts s)
 
 stands_bytes : (told : Fed) (decide : Request → Decision) (t : List ℕ) (n c m : ℕ) (w w' : World) (p : PrivateCluster) → Stands t w p →
-    IsRight t n m w told decide → ((s : List ℕ) → local_at s n w'.instances ≡ (brings told decide n c w).local s) →
+    IsRight t n m w told decide → ((s : List ℕ) → local_at s n w'.instances ≡ (brings told decide n c m w).local s) →
     SameElsewhere n w.instances w'.instances → w'.clock ≡ w.clock → w'.limits ≡ w.limits → w'.service_key ≡ w.service_key →
     IsSameRoster (roster_of w'.instances) (roster_of w.instances) → Stands t w' (after_all p (asked_by t c n m told))
 stands_bytes fed.Waits decide t n c m w w' p s right local others clock limits service_key roster =
@@ -318,8 +291,7 @@ stands_bytes fed.Ready decide t n c m w w' p s right local others clock limits s
 stands_bytes (fed.Request r) decide t n c m w w' p s right local others clock limits service_key roster = elim (same_tells t r.tenant) [
   | inl e ↦
       let here = rw (e.0) at (local t)
-      ∙ ap (λ k. local_after (carried_out c (decide r) (local_at k n w.instances).ledger) (local_at t n w.instances)) (sym e.1)
-      ∙ ap (λ d. local_after (carried_out c d (local_at t n w.instances).ledger) (local_at t n w.instances)) (right r refl e.1) in
+      ∙ ap (λ d. (carried_out (effective m w.clock) c d (local_at t n w.instances)).local) (right r refl e.1) in
       rw (e.0) (asked_alone t n c m r w w' p s here others clock limits service_key roster)
   | inr e ↦
       let here = rw (e.0) at (local t) in
@@ -328,11 +300,11 @@ stands_bytes (fed.Request r) decide t n c m w w' p s right local others clock li
 
 told_asked : (t : List ℕ) (n c m : ℕ) (r : Request) (w : World) (p : PrivateCluster) → Stands t w p →
     Reply c (reply (decision_in t n m r w).status (decision_in t n m r w).body) ∷ [] ≡ told p (Asked c n m r)
-told_asked t n c m r w p s = rw (ap (λ (q : Course). q.said) (asked_course t n c m r w p s)) refl
+told_asked t n c m r w p s = rw (ap (λ (q : Course). q.outputs) (asked_course t n c m r w p s)) refl
 
 told_bytes : (told : Fed) (decide : Request → Decision) (t : List ℕ) (n c m : ℕ) (bytes : List ℕ) (v u : Watch) (w : World) (p : PrivateCluster) →
     Stands t w p → IsRight t n m w told decide → Later (then_seen told n c bytes v) u →
-    outputs_of t u (brings told decide n c w).outputs ≡ told_all p (asked_by t c n m told)
+    outputs_of t u (brings told decide n c m w).outputs ≡ told_all p (asked_by t c n m told)
 told_bytes fed.Waits decide t n c m bytes v u w p s right later = refl
 told_bytes (fed.Refused reason) decide t n c m bytes v u w p s right later = not_of_tenant t u c _ (later.answered c (look_here c FrontAnswered v.table))
 told_bytes fed.Ready decide t n c m bytes v u w p s right later = not_of_tenant t u c _ (later.answered c (look_here c FrontAnswered v.table))
@@ -345,7 +317,7 @@ told_bytes (fed.Request r) decide t n c m bytes v u w p s right later =
     ]
 
 fits_bytes : (told : Fed) (decide : Request → Decision) (t : List ℕ) (n c m : ℕ) (w : World) (p : PrivateCluster) → Stands t w p →
-    IsRight t n m w told decide → (brings told decide n c w).fits ≡ true → fits_all p (asked_by t c n m told) ≡ true
+    IsRight t n m w told decide → (brings told decide n c m w).fits ≡ true → fits_all p (asked_by t c n m told) ≡ true
 fits_bytes fed.Waits decide t n c m w p s right fit = refl
 fits_bytes (fed.Refused reason) decide t n c m w p s right fit = refl
 fits_bytes fed.Ready decide t n c m w p s right fit = refl
@@ -365,12 +337,12 @@ not_of_front : (t : List ℕ) (u : Watch) (c : ℕ) (bytes : List ℕ) → look 
 unfolding owner
 not_of_front t u c bytes seen = rw seen refl
 
-front_bytes : (told : Fed) (decide : Request → Decision) (n c : ℕ) (bytes : List ℕ) (v u : Watch) (w : World) →
-    Later (then_seen told n c bytes v) u → front_outputs u (brings told decide n c w).outputs ≡ answered_by c told
-front_bytes fed.Waits decide n c bytes v u w later = refl
-front_bytes (fed.Refused reason) decide n c bytes v u w later = of_front u c _ (later.answered c (look_here c FrontAnswered v.table))
-front_bytes fed.Ready decide n c bytes v u w later = of_front u c _ (later.answered c (look_here c FrontAnswered v.table))
-front_bytes (fed.Request r) decide n c bytes v u w later =
+front_bytes : (told : Fed) (decide : Request → Decision) (n c m : ℕ) (bytes : List ℕ) (v u : Watch) (w : World) →
+    Later (then_seen told n c bytes v) u → front_outputs u (brings told decide n c m w).outputs ≡ answered_by c told
+front_bytes fed.Waits decide n c m bytes v u w later = refl
+front_bytes (fed.Refused reason) decide n c m bytes v u w later = of_front u c _ (later.answered c (look_here c FrontAnswered v.table))
+front_bytes fed.Ready decide n c m bytes v u w later = of_front u c _ (later.answered c (look_here c FrontAnswered v.table))
+front_bytes (fed.Request r) decide n c m bytes v u w later =
     not_of_front r.tenant u c _ (later.asked c r.tenant (look_here c (AskedAs r.tenant) v.table))
 
 owned_answer : (u : Watch) (c : ℕ) (bytes : List ℕ) → look c u.table ≡ Some FrontAnswered → are_owned u (Reply c bytes ∷ []) ≡ true
@@ -381,12 +353,12 @@ owned_reply : (t : List ℕ) (u : Watch) (c : ℕ) (bytes : List ℕ) → look c
 unfolding owner
 owned_reply t u c bytes seen = rw seen refl
 
-owned_bytes : (told : Fed) (decide : Request → Decision) (n c : ℕ) (bytes : List ℕ) (v u : Watch) (w : World) →
-    Later (then_seen told n c bytes v) u → are_owned u (brings told decide n c w).outputs ≡ true
-owned_bytes fed.Waits decide n c bytes v u w later = refl
-owned_bytes (fed.Refused reason) decide n c bytes v u w later = owned_answer u c _ (later.answered c (look_here c FrontAnswered v.table))
-owned_bytes fed.Ready decide n c bytes v u w later = owned_answer u c _ (later.answered c (look_here c FrontAnswered v.table))
-owned_bytes (fed.Request r) decide n c bytes v u w later = owned_reply r.tenant u c _ (later.asked c r.tenant (look_here c (AskedAs r.tenant) v.table))
+owned_bytes : (told : Fed) (decide : Request → Decision) (n c m : ℕ) (bytes : List ℕ) (v u : Watch) (w : World) →
+    Later (then_seen told n c bytes v) u → are_owned u (brings told decide n c m w).outputs ≡ true
+owned_bytes fed.Waits decide n c m bytes v u w later = refl
+owned_bytes (fed.Refused reason) decide n c m bytes v u w later = owned_answer u c _ (later.answered c (look_here c FrontAnswered v.table))
+owned_bytes fed.Ready decide n c m bytes v u w later = owned_answer u c _ (later.answered c (look_here c FrontAnswered v.table))
+owned_bytes (fed.Request r) decide n c m bytes v u w later = owned_reply r.tenant u c _ (later.asked c r.tenant (look_here c (AskedAs r.tenant) v.table))
 
 -- ---- a piece
 
@@ -436,7 +408,7 @@ kept_bytes w w' n c m before piece allowed here takes refused clock limits servi
         reading = reading_after told n c v before bytes w.instances w'.instances f.reading (seen_reading v w n c before f here) takes.reading takes.others;
         roster = roster_then _ _ _ roster f.roster;
       });
-      outs = (taken_at n c bytes takes.decide w.instances).outputs;
+      outs = (taken_at n c bytes takes.decide (effective m w.clock) w.instances).outputs;
       appended = takes.outputs;
       tenants = λ t v p given.
           let adds_here = gives t v w n c m before piece allowed here given.follows in
@@ -448,8 +420,8 @@ kept_bytes w w' n c m before piece allowed here takes refused clock limits servi
             fits = rw adds_here (fits_bytes told takes.decide t n c m w p given.stands right takes.fits);
           };
       front = λ v f u later. rw (says v w n c m before piece allowed here f)
-          (front_bytes told takes.decide n c bytes v u w (rw (sees v w n c m before piece allowed here f) at later));
-      owned = λ v f u later. owned_bytes told takes.decide n c bytes v u w (rw (sees v w n c m before piece allowed here f) at later);
+          (front_bytes told takes.decide n c m bytes v u w (rw (sees v w n c m before piece allowed here f) at later));
+      owned = λ v f u later. owned_bytes told takes.decide n c m bytes v u w (rw (sees v w n c m before piece allowed here f) at later);
       roster = roster;
       clock = clock;
       limits = λ t. ap (limits_of t) limits;

@@ -5,10 +5,12 @@ mod InstancesLemmas
 mod Kept
 mod KeptBytes
 mod KeptClose
-mod LocalLemmas
+mod KeptOutcome
+mod KeptTick
 mod Opening
 mod RefusalSeen
-mod Retiring
 mod RingLemmas
 mod Run
 pub mod Steps
+mod Ticking
+mod Turns

@@ -3,13 +3,12 @@ use Rattle.std.proofs.Common.{◌≡◌, ◌∙◌, inl, inr, ℕ, nat_eq, Bool,
 use Rattle.std.proofs.lemmas.Bool.{cases_Bool}
 use Rattle.std.proofs.lemmas.Bool.Decides.{nat_tests}
 use Rattle.am_http.specs.Connections.{bytes_of}
-use Rattle.am_item.specs.Best.{best}
 use Rattle.am_limit.specs.Books.{limits_of}
 use Rattle.am_world.specs.declared.instance.Instance.{Instance}
 use Rattle.am_world.specs.declared.world.World.{World}
 use Rattle.am_world.specs.Places.{AreNumbered, bytes_at, bytes_where, incarnation_at, incarnation_where, instance_at, local_at, local_in, local_where, refused_at, refused_where, roster_of, up_at, up_where}
 use Rattle.am_world.specs.PrivateCluster.{opened}
-use Rattle.am_world.specs.Reaction.{blank}
+use Rattle.am_replica.specs.Local.{blank}
 use Rattle.am_world.specs.Roster.{IsSameRoster, opened_roster, serves}
 use Rattle.am_world.specs.Setup.{Origin, is_instance}
 use Rattle.am_world.specs.Simulation.{Follows, Stands}
@@ -99,6 +98,6 @@ follows_opening origin w roster unread = record { reading = λ c i. unread c i; 
 
 pub stands_opening : (origin : Origin) (t : List ℕ) (w : World) → w.clock ≡ 0 → w.limits ≡ [] → w.service_key ≡ origin.service_key →
     IsSameRoster (roster_of w.instances) (opened_roster origin) → ((s : List ℕ) (i : ℕ) → local_at s i w.instances ≡ blank) → Stands t w (opened origin t)
-unfolding best limits_of
+unfolding limits_of
 stands_opening origin t w clock limits service_key roster local =
     record { tenant = refl; clock = clock; limits = rw limits refl; service_key = service_key; roster = roster; local = λ i. local t i }

@@ -1,12 +1,14 @@
 -- in a world of which what is known is so, an event is refused as it says
-use Rattle.std.proofs.Common.{◌≡◌, ◌∙◌, ℕ, true, false, is_some, IsSome, Option, None, Some, option_map, refl, sym, find}
+use Rattle.std.proofs.Common.{◌≡◌, ◌∙◌, ℕ, List, true, false, is_some, IsSome, Option, None, Some, option_map, refl, sym, find}
 use Rattle.am_world.specs.declared.event.Event.{Event}
-use Rattle.am_world.specs.declared.event.Event.TheVariants.{Open, Bytes, Close, Limits, Tick}
+use Rattle.am_world.specs.declared.event.Event.TheVariants.{Open, Bytes, Close, Limits, Tick, Outcome}
 use Rattle.am_world.specs.declared.instance.Instance.{Instance}
 use Rattle.am_world.specs.declared.world.World.{World}
-use Rattle.am_world.specs.Places.{AreNumbered, reader_of, reads}
+use Rattle.am_world.specs.declared.event.AttemptName.{AttemptName}
+use Rattle.am_world.specs.Places.{AreNumbered, awaits_at, reader_of, reads}
+use Rattle.am_world.specs.PrivateCluster.{PrivateCluster, awaits}
 use Rattle.am_world.specs.Refusal.{is_read, refusal, refusal_seen}
-use Rattle.am_world.specs.Simulation.{Follows, bytes_read}
+use Rattle.am_world.specs.Simulation.{Follows, Stands, bytes_read}
 use Rattle.am_world.specs.View.{AskedAs, FrontAnswered, Reading, Seen, Shut, Watch, look}
 use Rattle.am_world.proofs.InstancesLemmas.{nobody_reads, reader_reads}
 use Rattle.am_world.proofs.Kept.{itself}
@@ -32,10 +34,19 @@ read_where v w c None found numbered f =
 read_where v w c (Some x) found numbered f =
     sym (some_read (look c v.table) x.number (rw (f.reading c x.number) at (reader_reads c w.instances x numbered found)))
 
-pub refusal_follows : (v : Watch) (w : World) (e : Event) → AreNumbered w.instances → Follows v w → refusal w e ≡ refusal_seen v w.clock e
+-- what the world awaits of a tenant, its cluster awaits
+pub awaits_same : (w : World) (attempt : AttemptName) (tries : ℕ) (p : PrivateCluster) → Stands attempt.tenant w p →
+    awaits_at attempt tries w.instances ≡ awaits p attempt.instance attempt.incarnation attempt.number tries
+unfolding awaits_at
+awaits_same w attempt tries p s = rw (s.roster.incarnation attempt.instance, s.local attempt.instance) refl
+
+pub refusal_follows : (v : Watch) (w : World) (alone : List ℕ → PrivateCluster) (e : Event) → AreNumbered w.instances → Follows v w →
+    ((t : List ℕ) → Stands t w (alone t)) → refusal w e ≡ refusal_seen v w.clock alone e
 unfolding reader_of
-refusal_follows v w (Open c i) numbered f = rw (f.roster.up i) refl
-refusal_follows v w (Bytes c moment piece) numbered f = rw (read_where v w c (find (reads c) w.instances) refl numbered f) refl
-refusal_follows v w (Close c) numbered f = rw (read_where v w c (find (reads c) w.instances) refl numbered f) refl
-refusal_follows v w (Limits tenant limits) numbered f = refl
-refusal_follows v w (Tick moment) numbered f = refl
+refusal_follows v w alone (Open c i) numbered f s = rw (f.roster.up i) refl
+refusal_follows v w alone (Bytes c moment piece) numbered f s = rw (read_where v w c (find (reads c) w.instances) refl numbered f) refl
+refusal_follows v w alone (Close c) numbered f s = rw (read_where v w c (find (reads c) w.instances) refl numbered f) refl
+refusal_follows v w alone (Limits tenant limits) numbered f s = refl
+refusal_follows v w alone (Tick moment) numbered f s = refl
+refusal_follows v w alone (Outcome attempt tries moment status) numbered f s =
+    rw (awaits_same w attempt tries (alone attempt.tenant) (s attempt.tenant)) refl

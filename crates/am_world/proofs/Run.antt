@@ -6,7 +6,7 @@ use Rattle.std.proofs.lemmas.List.{append-nil, append_assoc}
 use Rattle.std.proofs.lemmas.List.Elements.{filter-append}
 use Rattle.std.proofs.lemmas.List.Folds.{list_all-append}
 use Rattle.am_world.specs.declared.event.Event.{Event}
-use Rattle.am_world.specs.declared.event.Event.TheVariants.{Open, Bytes, Close, Limits, Tick}
+use Rattle.am_world.specs.declared.event.Event.TheVariants.{Open, Bytes, Close, Limits, Tick, Outcome}
 use Rattle.am_world.specs.declared.event.Output.{Output}
 use Rattle.am_world.specs.declared.world.World.{World}
 use Rattle.am_world.specs.Moments.{last_moment}
@@ -80,6 +80,7 @@ later_table v (Bytes c moment piece) new =
 later_table v (Close c) new = later_left v.table c (look c v.table) refl
 later_table v (Limits tenant limits) new = table_itself v.table
 later_table v (Tick moment) new = table_itself v.table
+later_table v (Outcome attempt tries moment status) new = table_itself v.table
 
 later_watch : (v : Watch) (e : Event) → opens_new v e → Later v (watch v e)
 unfolding watch

@@ -9,4 +9,5 @@ pub mod Runs
 pub mod Setup
 pub mod Simulation
 pub mod Taking
+pub mod Ticks
 pub mod View

@@ -1,7 +1,7 @@
 -- moments of events
 use Rattle.std.specs.Prelude.{ℕ, Bool, ◌||◌, nat_lt, max, if◌then◌else◌}
 use Rattle.am_world.specs.declared.event.Event.{Event}
-use Rattle.am_world.specs.declared.event.Event.TheVariants.{Open, Bytes, Close, Limits, Tick}
+use Rattle.am_world.specs.declared.event.Event.TheVariants.{Open, Bytes, Close, Limits, Tick, Outcome}
 
 -- the last moment that an event may tell, in milliseconds
 abbrev pub last_moment : ℕ
@@ -26,3 +26,4 @@ clock_after (Bytes c moment piece) clock = clock
 clock_after (Close c) clock = clock
 clock_after (Limits tenant limits) clock = clock
 clock_after (Tick moment) clock = if is_refused_tick moment clock then clock else moment
+clock_after (Outcome attempt tries moment status) clock = clock

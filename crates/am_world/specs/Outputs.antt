@@ -7,9 +7,9 @@ use Rattle.am_http.specs.declared.request.Fed.TheVariants as fed
 use Rattle.am_http.specs.Replies.{ready_reply}
 use Rattle.am_tenant.specs.Names.{same}
 use Rattle.am_world.specs.declared.event.Event.{Event}
-use Rattle.am_world.specs.declared.event.Event.TheVariants.{Open, Bytes, Close, Limits, Tick}
+use Rattle.am_world.specs.declared.event.Event.TheVariants.{Open, Bytes, Close, Limits, Tick, Outcome}
 use Rattle.am_world.specs.declared.event.Output.{Output}
-use Rattle.am_world.specs.declared.event.Output.TheVariants.{Reply}
+use Rattle.am_world.specs.declared.event.Output.TheVariants.{Reply, Notice}
 use Rattle.am_world.specs.Moments.{is_too_late}
 use Rattle.am_world.specs.Reaction.{refusal_reply}
 use Rattle.am_world.specs.View.{Seen, Reading, AskedAs, FrontAnswered, Shut, Watch, look, watch}
@@ -27,9 +27,10 @@ replier (Some (AskedAs tenant)) = Some (Tenant tenant)
 replier (Some FrontAnswered) = Some Front
 replier (Some Shut) = None
 
--- whose an output is, by what is known of its connection
+-- whose an output is: a reply by what is known of its connection, a notice by its attempt's name
 unfoldable pub owner : Watch → Output → Option Owner
 owner v (Reply c bytes) = replier (look c v.table)
+owner v (Notice attempt tries url bytes) = Some (Tenant attempt.tenant)
 
 abbrev pub is_tenant : List ℕ → Option Owner → Bool
 is_tenant t None = false
@@ -75,6 +76,7 @@ front_told v (Bytes c moment piece) = if is_too_late moment then [] else answere
 front_told v (Close c) = []
 front_told v (Limits tenant limits) = []
 front_told v (Tick moment) = []
+front_told v (Outcome attempt tries moment status) = []
 
 -- .. and at all events
 abbrev pub front_told_all : Watch → List Event → List Output

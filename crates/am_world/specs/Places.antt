@@ -1,18 +1,16 @@
 -- what stands at the place of an instance
-use Rattle.std.specs.Prelude.{◌≡◌, ℕ, ◌==◌, Bool, false, is_some, List, [], ◌∷◌, ◌++◌, map, find, Option, None, Some, IsSome, option_map}
+use Rattle.std.specs.Prelude.{◌≡◌, ℕ, ◌==◌, ◌&&◌, Bool, false, is_some, List, [], ◌∷◌, ◌++◌, map, find, Option, None, Some, IsSome, option_map}
 use Rattle.am_http.specs.Connections.{bytes_of}
-use Rattle.am_book.specs.Book.{items_of}
-use Rattle.am_item.specs.Counts.{count_of}
 use Rattle.am_item.specs.declared.fault.Fault.{Fault}
 use Rattle.am_match.specs.Checking.{AreRefusedRightly}
-use Rattle.am_words.specs.Places.{place_of}
+use Rattle.am_replica.specs.Delivery.{is_awaited}
+use Rattle.am_replica.specs.Held.{local_of}
+use Rattle.am_replica.specs.Local.{Local, blank}
+use Rattle.am_world.specs.declared.event.AttemptName.{AttemptName}
 use Rattle.am_world.specs.declared.instance.Instance.{Instance}
-use Rattle.am_world.specs.Reaction.{Local, Here, Terms, blank}
+use Rattle.am_world.specs.Reaction.{Here, Terms}
 use Rattle.am_world.specs.Roster.{Roster}
-
--- the numbers of all instances
-abbrev pub numbers : List ℕ
-numbers = 1 ∷ 2 ∷ 3 ∷ 4 ∷ 5 ∷ 6 ∷ 7 ∷ 8 ∷ []
+use Rattle.am_world.specs.Setup.{numbers}
 
 -- all eight instances, in order of number
 abbrev pub AreNumbered : List Instance → Type 0
@@ -24,10 +22,7 @@ instance_at i instances = find (λ (x : Instance). x.number == i) instances
 
 -- all that the instance has of the tenant
 unfoldable pub local_in : List ℕ → Instance → Local
-local_in t x = record {
-  held = items_of t x.holdings;
-  ledger = record { stamps = count_of t x.counts; drawn = place_of t x.places };
-}
+local_in t x = local_of t x.replica
 
 -- what the instance goes by at a moment, for a tenant on these terms
 abbrev pub here_of : Instance → ℕ → Terms → Here
@@ -71,6 +66,12 @@ up_at i instances = up_where (instance_at i instances)
 
 unfoldable pub incarnation_at : ℕ → List Instance → ℕ
 incarnation_at i instances = incarnation_where (instance_at i instances)
+
+-- an instance awaits the outcome of this try of an attempt
+unfoldable pub awaits_at : AttemptName → (tries : ℕ) → List Instance → Bool
+awaits_at attempt tries instances =
+    (incarnation_at attempt.instance instances == attempt.incarnation)
+    && is_awaited attempt.number tries (local_at attempt.tenant attempt.instance instances)
 
 -- the fault that stopped it
 abbrev pub cause_where : Option Instance → Option Fault

@@ -1,21 +1,19 @@
--- what one tenant would have if nobody else were there: lists and recomputation alone
-use Rattle.std.specs.Prelude.{ℕ, Bool, true, not, ◌&&◌, filter, List, [], ◌∷◌, ◌++◌, map, Option, Some, None, is_some, if◌then◌else◌}
-use Rattle.std.specs.List.{flat_map}
+-- what one tenant would have if nobody else were there: what is due is computed anew, with no queue
+use Rattle.std.specs.Prelude.{ℕ, Bool, true, ◌&&◌, ◌==◌, List, [], ◌∷◌, ◌++◌, map, Option, Some, None, is_some, if◌then◌else◌}
+use Rattle.std.specs.List.{flat_map, list_all}
 use Rattle.am_api.specs.Patterns.{patterns_of_request}
 use Rattle.am_http.specs.declared.request.Request.{Request}
-use Rattle.am_item.specs.declared.item.Item.{Item}
-use Rattle.am_book.specs.Retired.{is_key_retired}
-use Rattle.am_item.specs.Best.{best}
-use Rattle.am_item.specs.Key.{key_of}
 use Rattle.am_limit.specs.declared.limits.Limits.{Limits}
 use Rattle.am_limit.specs.Limits.{default_limits}
+use Rattle.am_replica.specs.Delivery.{is_awaited, outcome}
+use Rattle.am_replica.specs.Local.{Local, Reaction, Said, blank}
 use Rattle.am_world.specs.declared.event.Output.{Output}
 use Rattle.am_world.specs.declared.event.Refused.{Refused}
-use Rattle.am_world.specs.declared.event.Refused.TheVariants.{MomentRefused}
-use Rattle.am_world.specs.Moments.{effective, is_refused_tick}
-use Rattle.am_world.specs.Reaction.{Ledger, no_ledger, Local, Here, Terms, terms_with, Said, Reaction, asked, output_of}
+use Rattle.am_world.specs.declared.event.Refused.TheVariants.{MomentRefused, NotAwaited}
+use Rattle.am_world.specs.Moments.{effective, is_refused_tick, is_too_late}
+use Rattle.am_world.specs.Reaction.{Here, Terms, asked, in_replica, output_of, terms_with, tick_if}
 use Rattle.am_world.specs.Roster.{Roster, opened_roster, put_at}
-use Rattle.am_world.specs.Setup.{Origin}
+use Rattle.am_world.specs.Setup.{Origin, numbers}
 
 -- one thing that happens to the tenant
 pub data Happening : Type 0 where
@@ -25,16 +23,9 @@ pub data Happening : Type 0 where
   Limited : (limits : Limits) → Happening
   -- the clock was told this moment
   Ticked : (moment : ℕ) → Happening
-
--- an item, and the moment at which the instance accepted it
-pub record Accepted : Type 0 where
-  pub item : Item
-  pub moment : ℕ
-
--- one instance of the tenant's own: everything that it ever accepted, in order, and what it keeps beside
-pub record PrivateInstance : Type 0 where
-  pub accepted : List Accepted
-  pub ledger : Ledger
+  -- a try of the attempt of this number at the instance, in this incarnation, came to an end, at an event with this moment of
+  -- its own: with the status of an answer, or without one
+  Tried : (instance incarnation number tries moment : ℕ) (status : Option ℕ) → Happening
 
 -- whose it is and the service's key never change; instances go by their number
 pub record PrivateCluster : Type 0 where
@@ -43,12 +34,12 @@ pub record PrivateCluster : Type 0 where
   pub clock : ℕ
   pub limits : Limits
   pub roster : Roster
-  pub at : ℕ → PrivateInstance
+  pub at : ℕ → Local
 
--- what happened to the cluster: what it is afterwards, what was said, in order, and whether no count passed the greatest
+-- what happened to the cluster: what it is afterwards, what it put out, in order, and whether no count passed the greatest
 pub record Course : Type 0 where
   pub cluster : PrivateCluster
-  pub said : List Said
+  pub outputs : List Output
   pub fits : Bool
 
 -- the tenant's cluster as it is opened
@@ -59,27 +50,10 @@ opened origin tenant = record {
   clock = 0;
   limits = default_limits;
   roster = opened_roster origin;
-  at = λ i. record { accepted = []; ledger = no_ledger };
+  at = λ i. blank;
 }
 
 -- ---- one instance of it
-
--- the items of a list of what was accepted
-abbrev pub items_in : List Accepted → List Item
-items_in accepted = map (λ (a : Accepted). a.item) accepted
-
--- all these items, accepted at one moment
-abbrev pub accepted_at : ℕ → List Item → List Accepted
-accepted_at moment items = map (λ item. record { item = item; moment = moment }) items
-
--- what the instance can tell: it holds the best of all that it accepted
-abbrev pub local_of : PrivateInstance → Local
-local_of own = record { held = best (items_in own.accepted); ledger = own.ledger }
-
--- what the instance has after a reaction at this moment
-abbrev pub own_after : ℕ → Reaction → PrivateInstance → PrivateInstance
-own_after moment reaction own =
-    record { accepted = own.accepted ++ accepted_at moment reaction.accepts; ledger = reaction.ledger }
 
 -- the terms on which its instances serve the tenant
 abbrev pub terms_at : PrivateCluster → Terms
@@ -90,25 +64,34 @@ abbrev pub here_at : PrivateCluster → (moment i : ℕ) → Here
 here_at p moment i =
     record { instance = i; incarnation = p.roster.incarnation i; moment = moment; terms = terms_at p }
 
+-- what the instance says, as outputs
+abbrev pub put_out_at : PrivateCluster → ℕ → List Said → List Output
+put_out_at p i said = map (output_of p.tenant i (p.roster.incarnation i)) said
+
 abbrev pub unchanged : PrivateCluster → Course
-unchanged p = record { cluster = p; said = []; fits = true }
+unchanged p = record { cluster = p; outputs = []; fits = true }
 
 -- the instance reacts at this moment
 abbrev pub react : (Here → Local → Reaction) → (moment i : ℕ) → PrivateCluster → Course
 react reaction moment i p =
-    let r : Reaction = reaction (here_at p moment i) (local_of (p.at i)) in
-    record { cluster = record p { at = put_at p.at i (own_after moment r (p.at i)) }; said = r.said; fits = r.fits }
+    let r : Reaction = reaction (here_at p moment i) (p.at i) in
+    record { cluster = record p { at = put_at p.at i r.local }; outputs = put_out_at p i r.said; fits = r.fits }
 
--- at a moment, all items of every key of which the best is retired go
-abbrev pub retired : ℕ → PrivateInstance → PrivateInstance
-retired moment own =
-    let held = best (items_in own.accepted) in
-    record own { accepted = filter (λ (a : Accepted). not (is_key_retired moment held (key_of a.item))) own.accepted }
+-- the instance ticks where it is up
+abbrev pub tick_at : PrivateCluster → (moment i : ℕ) → Reaction
+tick_at p moment i = tick_if (p.roster.up i) p.tenant (in_replica (here_at p moment i)) (p.at i)
 
--- at a tick the clock is told, and they go at each instance that is up
-abbrev pub ticked : ℕ → PrivateCluster → PrivateCluster
-ticked moment p =
-    record p { clock = moment; at = λ i. if p.roster.up i then retired moment (p.at i) else p.at i }
+-- at a tick the clock is told, and all instances tick, in order of number
+abbrev pub ticks : ℕ → PrivateCluster → Course
+ticks moment p = record {
+  cluster = record p { clock = moment; at = λ i. (tick_at p moment i).local };
+  outputs = flat_map (λ i. put_out_at p i (tick_at p moment i).said) numbers;
+  fits = list_all (λ i. (tick_at p moment i).fits) numbers;
+}
+
+-- the instance awaits the outcome of this try
+abbrev pub awaits : PrivateCluster → (instance incarnation number tries : ℕ) → Bool
+awaits p i k number tries = (p.roster.incarnation i == k) && is_awaited number tries (p.at i)
 
 -- ---- one thing happens
 
@@ -117,13 +100,18 @@ abbrev pub refusal_of : PrivateCluster → Happening → Option Refused
 refusal_of p (Asked connection i moment request) = None
 refusal_of p (Limited limits) = None
 refusal_of p (Ticked moment) = if is_refused_tick moment p.clock then Some MomentRefused else None
+refusal_of p (Tried i k number tries moment status) =
+    if is_too_late moment then Some MomentRefused
+    else if awaits p i k number tries then None else Some NotAwaited
 
 -- what happens where it isn't refused
 abbrev pub handled : PrivateCluster → Happening → Course
 handled p (Asked connection i moment request) =
     react (λ here local. asked here connection request local) (effective moment p.clock) i p
 handled p (Limited limits) = unchanged (record p { limits = limits })
-handled p (Ticked moment) = unchanged (ticked moment p)
+handled p (Ticked moment) = ticks moment p
+handled p (Tried i k number tries moment status) =
+    react (λ here local. outcome (in_replica here) number tries status local) (effective moment p.clock) i p
 
 -- what is refused changes nothing
 unfoldable pub course : PrivateCluster → Happening → Course
@@ -134,7 +122,7 @@ abbrev pub after : PrivateCluster → Happening → PrivateCluster
 after p h = (course p h).cluster
 
 abbrev pub told : PrivateCluster → Happening → List Output
-told p h = map (output_of p.tenant) (course p h).said
+told p h = (course p h).outputs
 
 abbrev pub fits : PrivateCluster → Happening → Bool
 fits p h = (course p h).fits
@@ -159,6 +147,7 @@ abbrev pub patterns_brought : Happening → List (List ℕ)
 patterns_brought (Asked connection i moment request) = patterns_of_request request
 patterns_brought (Limited limits) = []
 patterns_brought (Ticked moment) = []
+patterns_brought (Tried i k number tries moment status) = []
 
 -- those that all happenings bring
 abbrev pub patterns_in : List Happening → List (List ℕ)

@@ -2,7 +2,7 @@
 use Rattle.std.specs.Prelude.{◌≡◌, ℕ, Bool, ◌==◌, if◌then◌else◌}
 use Rattle.am_world.specs.Setup.{Origin, is_instance}
 use Rattle.am_world.specs.declared.event.Event.{Event}
-use Rattle.am_world.specs.declared.event.Event.TheVariants.{Open, Bytes, Close, Limits, Tick}
+use Rattle.am_world.specs.declared.event.Event.TheVariants.{Open, Bytes, Close, Limits, Tick, Outcome}
 
 -- the instances that serve from the opening on: the first alone
 abbrev pub serves : ℕ → Bool
@@ -33,3 +33,4 @@ roster_after (Bytes c moment piece) roster = roster
 roster_after (Close c) roster = roster
 roster_after (Limits tenant limits) roster = roster
 roster_after (Tick moment) roster = roster
+roster_after (Outcome attempt tries moment status) roster = roster

@@ -11,6 +11,10 @@ all_differ (x ∷ xs) = not (list_any (nat_eq x) xs) && all_differ xs
 abbrev pub is_instance : ℕ → Bool
 is_instance i = nat_le 1 i && nat_le i 8
 
+-- the numbers of all instances
+abbrev pub numbers : List ℕ
+numbers = 1 ∷ 2 ∷ 3 ∷ 4 ∷ 5 ∷ 6 ∷ 7 ∷ 8 ∷ []
+
 -- 3 to 8 different numbers of 1 to 8
 abbrev pub is_ring : List ℕ → Bool
 is_ring ring = nat_le 3 (length ring) && nat_le (length ring) 8 && list_all is_instance ring && all_differ ring
@@ -33,4 +37,4 @@ pub record Settings : Type 0 where
 
 -- the numbers of a ring behind which zeros stand
 abbrev pub ring_in : List ℕ → List ℕ
-ring_in numbers = filter (nat_lt 0) numbers
+ring_in padded = filter (nat_lt 0) padded

@@ -9,11 +9,11 @@ use Rattle.am_limit.specs.declared.limits.Limits.{Limits}
 use Rattle.am_tenant.specs.Names.{same}
 use Rattle.am_world.specs.Moments.{clock_after}
 use Rattle.am_world.specs.Outputs.{outputs_of, front_outputs, front_told, are_owned}
-use Rattle.am_world.specs.Places.{numbers, instance_at, local_at, bytes_at, cause_at, up_at, incarnation_at, refused_at, roster_of, AreBuilt, IsDownAt, KeepRefused}
-use Rattle.am_world.specs.PrivateCluster.{PrivateCluster, local_of, opened, after_all, told_all, fits_all, patterns_in}
+use Rattle.am_world.specs.Places.{instance_at, local_at, bytes_at, cause_at, up_at, incarnation_at, refused_at, roster_of, AreBuilt, IsDownAt, KeepRefused}
+use Rattle.am_world.specs.PrivateCluster.{PrivateCluster, opened, after_all, told_all, fits_all, patterns_in}
 use Rattle.am_world.specs.Refusal.{refusal}
 use Rattle.am_world.specs.Roster.{IsSameRoster, roster_after}
-use Rattle.am_world.specs.Setup.{Origin}
+use Rattle.am_world.specs.Setup.{Origin, numbers}
 use Rattle.am_world.specs.View.{Seen, Reading, AskedAs, FrontAnswered, Shut, Watch, first_watch, look, watch, adds, opens_new}
 
 -- what a world has put out so far, and how many faults came
@@ -49,7 +49,7 @@ pub record Stands (t : List ℕ) (w : World) (p : PrivateCluster) : Type 0 where
   pub limits : limits_of t w.limits ≡ p.limits
   pub service_key : w.service_key ≡ p.service_key
   pub roster : IsSameRoster (roster_of w.instances) p.roster
-  pub local : (i : ℕ) → local_at t i w.instances ≡ local_of (p.at i)
+  pub local : (i : ℕ) → local_at t i w.instances ≡ p.at i
 
 -- a world as it is opened
 pub record Opens (origin : Origin) (w : World) : Type 0 where
@@ -89,6 +89,7 @@ limits_after (event.Bytes c moment piece) t limits = limits
 limits_after (event.Close c) t limits = limits
 limits_after (event.Limits tenant new) t limits = if same t tenant then new else limits
 limits_after (event.Tick moment) t limits = limits
+limits_after (event.Outcome attempt tries moment status) t limits = limits
 
 -- an event that was handled, or refused: for every tenant at once. What is put out is each tenant's, as its cluster says,
 -- or the front's, as the bytes of the connections say, and nobody else's
@@ -113,6 +114,7 @@ works w (event.Bytes c moment piece) j = is_some (bytes_at c j w.instances)
 works w (event.Close c) j = is_some (bytes_at c j w.instances)
 works w (event.Limits tenant limits) j = false
 works w (event.Tick moment) j = up_at j w.instances
+works w (event.Outcome attempt tries moment status) j = j == attempt.instance
 
 -- one fault for each instance that stopped, and one where an event asks work of none
 abbrev pub faults_of : (ℕ → Bool) → ℕ

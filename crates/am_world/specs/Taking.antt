@@ -17,13 +17,13 @@ pub record Brings (told : Fed) (c moment : ℕ) (terms : List ℕ → Terms) (x 
   pub decide : Request → Decision
   pub decided : (request : Request) → told ≡ fed.Request request → MayDecide x'.cache.refused request
       (decision_at (here_of x moment (terms request.tenant)) request (local_in request.tenant x)) (decide request)
-  pub outputs : after ≡ before ++ (brought told decide c (λ t. local_in t x)).outputs
-  pub fits : (brought told decide c (λ t. local_in t x)).fits ≡ true
-  pub local : (t : List ℕ) → local_in t x' ≡ (brought told decide c (λ s. local_in s x)).local t
+  pub outputs : after ≡ before ++ (brought told decide moment c (λ t. local_in t x)).outputs
+  pub fits : (brought told decide moment c (λ t. local_in t x)).fits ≡ true
+  pub local : (t : List ℕ) → local_in t x' ≡ (brought told decide moment c (λ s. local_in s x)).local t
 
--- what all these bytes of the connection bring to the instance of a number, where this is decided on requests
-abbrev pub taken_at : ℕ → ℕ → List ℕ → (Request → Decision) → List Instance → Brought
-taken_at i c bytes decide instances = brought (verdict bytes) decide c (λ t. local_at t i instances)
+-- what all these bytes of the connection bring to the instance of a number, where this is decided on requests at a moment
+abbrev pub taken_at : (i c : ℕ) → List ℕ → (Request → Decision) → (moment : ℕ) → List Instance → Brought
+taken_at i c bytes decide moment instances = brought (verdict bytes) decide moment c (λ t. local_at t i instances)
 
 -- the instance took them in and put this out, and all others are as they were
 pub record Takes (i c : ℕ) (bytes : List ℕ) (moment : ℕ) (terms : List ℕ → Terms) (before after : List Instance)
@@ -32,9 +32,9 @@ pub record Takes (i c : ℕ) (bytes : List ℕ) (moment : ℕ) (terms : List ℕ
   pub decided : (request : Request) → verdict bytes ≡ fed.Request request → MayDecide (refused_at i after) request
       (decision_at (here_in moment (terms request.tenant) i before) request (local_at request.tenant i before))
       (decide request)
-  pub outputs : outs' ≡ outs ++ (taken_at i c bytes decide before).outputs
-  pub fits : (taken_at i c bytes decide before).fits ≡ true
-  pub local : (t : List ℕ) → local_at t i after ≡ (taken_at i c bytes decide before).local t
+  pub outputs : outs' ≡ outs ++ (taken_at i c bytes decide moment before).outputs
+  pub fits : (taken_at i c bytes decide moment before).fits ≡ true
+  pub local : (t : List ℕ) → local_at t i after ≡ (taken_at i c bytes decide moment before).local t
   pub reading : (d : ℕ) →
       bytes_at d i after ≡ (if d == c then left_open (verdict bytes) bytes else bytes_at d i before)
   pub up : up_at i after ≡ up_at i before

@@ -5,9 +5,9 @@ use Rattle.am_http.specs.declared.request.Fed.TheVariants as fed
 use Rattle.am_http.specs.Verdict.{verdict}
 use Rattle.am_tenant.specs.Names.{same}
 use Rattle.am_world.specs.declared.event.Event.{Event}
-use Rattle.am_world.specs.declared.event.Event.TheVariants.{Open, Bytes, Close, Limits, Tick}
+use Rattle.am_world.specs.declared.event.Event.TheVariants.{Open, Bytes, Close, Limits, Tick, Outcome}
 use Rattle.am_world.specs.Moments.{is_too_late}
-use Rattle.am_world.specs.PrivateCluster.{Happening, Asked, Limited, Ticked}
+use Rattle.am_world.specs.PrivateCluster.{Happening, Asked, Limited, Ticked, Tried}
 use Rattle.am_world.specs.Roster.{Roster, opened_roster, roster_after}
 use Rattle.am_world.specs.Setup.{Origin}
 
@@ -70,6 +70,7 @@ table_after v (Bytes c moment piece) = if is_too_late moment then v.table else n
 table_after v (Close c) = left c (look c v.table) v.table
 table_after v (Limits tenant limits) = v.table
 table_after v (Tick moment) = v.table
+table_after v (Outcome attempt tries moment status) = v.table
 
 -- what is known after an event
 unfoldable pub watch : Watch → Event → Watch
@@ -97,6 +98,8 @@ adds t v (Bytes c moment piece) = if is_too_late moment then [] else asked_on t 
 adds t v (Close c) = []
 adds t v (Limits tenant limits) = if same t tenant then Limited limits ∷ [] else []
 adds t v (Tick moment) = Ticked moment ∷ []
+adds t v (Outcome attempt tries moment status) =
+    if same t attempt.tenant then Tried attempt.instance attempt.incarnation attempt.number tries moment status ∷ [] else []
 
 -- what an event list is to the tenant
 abbrev pub view : List ℕ → Watch → List Event → List Happening
@@ -115,6 +118,7 @@ opens_new v (Bytes c moment piece) = Unit {0}
 opens_new v (Close c) = Unit {0}
 opens_new v (Limits tenant limits) = Unit {0}
 opens_new v (Tick moment) = Unit {0}
+opens_new v (Outcome attempt tries moment status) = Unit {0}
 
 -- no connection's name is used twice
 abbrev pub names_once : Watch → List Event → Type 0

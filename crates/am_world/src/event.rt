@@ -5,11 +5,24 @@ ghost use Rattle.std.specs.Prelude.{◌≡◌};
 use am_http::ConnectionId;
 use am_limit::Limits;
 use am_tenant::TenantName;
-use am_text::Octets;
+use am_text::{Octets, Text};
 use std::fmt;
 
 /// The greatest moment that an event may tell, in milliseconds since 1970.
 pub const LAST_MOMENT: u64 = 250_000_000_000_000;
+
+/// An attempt to deliver a notice, by name.
+#[derive(Debug, Drop)]
+pub struct AttemptName {
+    /// Whose notice it is.
+    pub tenant: TenantName,
+    /// The instance that makes the attempt, 1 to 8.
+    pub instance: u8,
+    /// Which start of the instance made it.
+    pub incarnation: u32,
+    /// Its number among the tenant's attempts there, from 1 on.
+    pub number: u64,
+}
 
 /// One thing that happens. Events are handled one after the other, each wholly before the next.
 #[derive(Debug, Drop)]
@@ -38,6 +51,14 @@ pub enum Event {
     Tick {
         moment: u64,
     },
+    /// A try of an attempt came to an end, at a moment in milliseconds since 1970: with the status of the webhook's answer, or
+    /// without an answer.
+    Outcome {
+        attempt: AttemptName,
+        tries: u8,
+        moment: u64,
+        status: Option<u16>,
+    },
 }
 
 /// One thing that goes out.
@@ -46,6 +67,16 @@ pub enum Output {
     /// The whole reply of a connection.
     Reply {
         connection: ConnectionId,
+        bytes: Octets,
+    },
+    /// A try of an attempt at a notice, which goes out to a URL.
+    Notice {
+        attempt: AttemptName,
+        /// Which try of the attempt it is, 1 to 5.
+        tries: u8,
+        /// The URL as it is written.
+        url: Text,
+        /// The bytes of the request: the same at each try.
         bytes: Octets,
     },
 }
@@ -57,6 +88,8 @@ pub enum Refused {
     MomentRefused,
     /// The instance isn't up in the ring.
     InstanceNotUp,
+    /// No outcome of that try is awaited.
+    NotAwaited,
     /// The connection isn't open, or was answered or closed.
     NotReading,
 }
@@ -71,6 +104,7 @@ impl Refused {
         match self {
             Refused::MomentRefused => "We1",
             Refused::InstanceNotUp => "We2",
+            Refused::NotAwaited => "We4",
             Refused::NotReading => "We5",
         }
     }

@@ -1,27 +1,25 @@
-//! One instance: what it reads, holds and counts, of all tenants.
+//! One instance: what it reads, and what it has of all tenants.
 
-ghost use Rattle.std.specs.Prelude.{◌≡◌, ◌==◌, ◌+◌, ◌<◌, length, ◌++◌, ◌≤◌, ℕ, List, [], ◌∷◌, Option, None, Some, true, IfOk, IfErr, OnOk, OnErr, IsSome, is_some, unwrap_or, if◌then◌else◌, false};
+ghost use Rattle.std.specs.Prelude.{◌≡◌, ◌==◌, ◌&&◌, ◌<◌, length, map, ◌++◌, ◌+◌, ◌≤◌, ℕ, List, [], Option, None, Some, true, IfOk, IfErr, OnOk, OnErr, IsSome, is_some, if◌then◌else◌, false};
 ghost use Rattle.am_http.specs.Connections.{bytes_of, left_open};
 ghost use Rattle.am_http.specs.Verdict.{verdict};
 ghost use Rattle.am_http.specs.declared.request.Fed.{Fed};
 ghost use Rattle.am_tenant.specs.Names.{same};
-ghost use Rattle.am_item.specs.Best.{all_joined};
-ghost use Rattle.am_words.specs.Places.{place_of};
 ghost use Rattle.am_world.specs.Reaction.{refusal_reply};
+ghost use Rattle.am_world.specs.Ticks.{notice_from};
 
-use crate::event::Output;
+use crate::event::{AttemptName, Output};
 use am_alert::Maker;
 use am_api::{Decided, decide};
-use am_current::Holdings;
 use am_http::{
     ConnectionId, Fed, Front, FrontRefusal, Request, ready_reply, refusal_body, reply_bytes,
 };
-use am_item::{Counts, Fault, Item};
+use am_item::Fault;
 use am_limit::{LimitBook, Limits};
 use am_pattern::PatternCache;
-use am_tenant::TenantName;
+use am_replica::{Dispatch, Here, Replica};
 use am_text::{Moment, Octets};
-use am_words::{Place, Places, Words};
+use am_words::Words;
 use std::alloc::{AllocError, Global};
 
 /// An instance. One that is down reads nothing and has nothing but its patterns; where a fault stopped it, `cause` is
@@ -33,19 +31,21 @@ pub struct Instance {
     pub(crate) cause: Option<Fault>,
     pub(crate) incarnation: u32,
     pub(crate) front: Front,
-    pub(crate) holdings: Holdings,
-    pub(crate) counts: Counts,
-    pub(crate) places: Places,
+    pub(crate) replica: Replica,
     pub(crate) cache: PatternCache,
 }
 
 impl Instance {
     ghost use Rattle.am_alert.specs.Made.{counts_fit, greatest_count};
-    ghost use Rattle.am_item.specs.Counts.{count_of};
     ghost use Rattle.am_api.specs.Deciding.{decision_of};
+    ghost use Rattle.am_replica.specs.Delivery.{is_awaited, outcome};
+    ghost use Rattle.am_replica.specs.Held.{StopsFor as StopsReacting};
+    ghost use Rattle.am_replica.specs.Local.{Local, Reaction, blank};
+    ghost use Rattle.am_replica.specs.Ticks.{IsDone, StopsAt, TicksAll, here_for, said_of};
     ghost use Rattle.am_world.specs.Places.{HasMore, here_of, local_in};
-    ghost use Rattle.am_world.specs.Reaction.{IsCause, MayDecide, StopsFor, Terms, blank, decision_at, retired_if, terms_of, terms_with};
+    ghost use Rattle.am_world.specs.Reaction.{IsCause, MayDecide, StopsFor, Terms, decision_at, in_replica, terms_of, terms_with};
     ghost use Rattle.am_world.specs.Taking.{Brings};
+    ghost use Rattle.am_world.specs.Ticks.{Either, Stops, Ticks};
 
     /// The instance of a number, in this incarnation, up or down. It has nothing, and keeps at most `capacity` patterns
     /// built, by hashes of which `hash_key` is the secret.
@@ -71,16 +71,14 @@ impl Instance {
             cause: None,
             incarnation,
             front: Front::new(alloc)?,
-            holdings: Holdings::new(alloc)?,
-            counts: Counts::new(alloc),
-            places: Places::new(alloc),
+            replica: Replica::new(alloc)?,
             cache: PatternCache::new(alloc, capacity, hash_key)?,
         })
     }
 
     /// Stops the instance for a fault, as a crash does: it is down, and all that it had is lost but its patterns. It takes
     /// no memory.
-    #[tactic(auto, unfolding(crate::specs::Places::local_in, am_book::specs::Book::items_of, am_item::specs::Counts::count_of, am_words::specs::Places::place_of))]
+    #[tactic(auto, unfolding(crate::specs::Places::local_in))]
     pub fn stop(&mut self, alloc: Global, fault: Fault)
         ensures cause { self.new.cause ≡ Some fault }
         ensures up { self.new.up ≡ false }
@@ -93,9 +91,7 @@ impl Instance {
         self.up = false;
         self.cause = Some(fault);
         self.front.close_all();
-        self.holdings.clear(alloc);
-        self.counts = Counts::new(alloc);
-        self.places = Places::new(alloc);
+        self.replica.clear(alloc);
     }
 
     /// Whether the instance reads a connection.
@@ -131,18 +127,115 @@ impl Instance {
         Ok(())
     }
 
-    /// Lets what is retired at the moment go, where the instance is up. It takes no memory.
-    pub fn retire(&mut self, moment: Moment)
-        ensures local { (t : List ℕ) → local_in t self.new ≡ retired_if self.old.up moment (local_in t self.old) }
+    /// Ticks at a moment, where it is up and tenants have these limits: what is retired goes, what is due is done once, and the
+    /// tries that go out are put out. `false` where a fault stopped it; it has put nothing out then. A tick costs what is due
+    /// and what goes.
+    pub fn tick(
+        &mut self,
+        alloc: Global,
+        moment: Moment,
+        limits: &LimitBook,
+        outputs: &mut Vec<Output>,
+    ) -> bool
+        ensures ends { Either result (Ticks moment limits.now self.old self.new outputs.old.items outputs.new.items)
+            (Stops self.old self.new outputs.old.items outputs.new.items) }
+        ensures incarnation { self.new.incarnation ≡ self.old.incarnation }
+        ensures number { self.new.number ≡ self.old.number }
+        ensures refused { HasMore self.old.cache.refused self.new.cache.refused }
+    {
+        if !self.up {
+            return true;
+        }
+        match self.tell(alloc, moment, limits, outputs) {
+            Ok(()) => true,
+            Err(fault) => {
+                self.stop(alloc, fault);
+                false
+            }
+        }
+    }
+
+    /// Does what is due, and puts out the tries that go out. An error puts nothing out.
+    fn tell(
+        &mut self,
+        alloc: Global,
+        moment: Moment,
+        limits: &LimitBook,
+        outputs: &mut Vec<Output>,
+    ) -> Result<(), Fault>
+        ensures told { OnOk result ((all : List Dispatch)
+            × (outputs.new.items ≡ outputs.old.items ++ map (notice_from self.old.number self.old.incarnation) all)
+            × TicksAll (here_for self.old.number self.old.incarnation moment limits.now)
+            (λ t. local_in t self.old) (λ t. local_in t self.new) all) }
+        ensures silent { OnErr result (outputs.new.items ≡ outputs.old.items) }
+        ensures cause { IfErr result (StopsAt (here_for self.old.number self.old.incarnation moment limits.now)
+            (λ t. local_in t self.old) self.new.cache.refused) }
+        ensures front { self.new.front ≡ self.old.front }
+        ensures up { self.new.up ≡ self.old.up }
+        ensures incarnation { self.new.incarnation ≡ self.old.incarnation }
+        ensures number { self.new.number ≡ self.old.number }
+        ensures refused { HasMore self.old.cache.refused self.new.cache.refused }
+    {
+        let (number, incarnation) = (self.number, self.incarnation);
+        let cache = &mut self.cache;
+        let all = self
+            .replica
+            .tick(alloc, number, incarnation, moment, limits, cache)?;
+        let mut notices = notices(alloc, number, incarnation, all)?;
+        outputs.append(&mut notices)?;
+        Ok(())
+    }
+
+    /// Whether the instance awaits the outcome of this try of an attempt.
+    #[tactic(auto, unfolding(crate::specs::Places::local_in))]
+    pub fn is_awaiting(&self, attempt: &AttemptName, tries: u8) -> bool
+        ensures { result ≡ ((self.now.incarnation == attempt.now.incarnation)
+            && is_awaited attempt.now.number tries (local_in attempt.now.tenant self.now)) }
+    {
+        self.incarnation == attempt.incarnation
+            && self
+                .replica
+                .is_awaited(&attempt.tenant, attempt.number, tries)
+    }
+
+    /// Takes the outcome of a try of an attempt at a moment, where the attempt's tenant has these limits: the status of the
+    /// webhook's answer, or `None` where there was none. It says nothing.
+    #[tactic(auto, unfolding(crate::specs::Places::local_in))]
+    pub fn take_outcome(
+        &mut self,
+        alloc: Global,
+        attempt: &AttemptName,
+        tries: u8,
+        moment: Moment,
+        limits: Limits,
+        status: Option<u16>,
+    ) -> Result<(), Fault>
+        ensures local { OnOk result ((terms : Terms) → terms.limits ≡ limits → (t : List ℕ) → local_in t self.new ≡
+            (if same t attempt.now.tenant
+            then (outcome (in_replica (here_of self.old moment terms)) attempt.now.number tries status (local_in t self.old)).local
+            else local_in t self.old)) }
+        ensures fits { IfOk result (λ _. (terms : Terms) → terms.limits ≡ limits →
+            (outcome (in_replica (here_of self.old moment terms)) attempt.now.number tries status
+            (local_in attempt.now.tenant self.old)).fits ≡ true) }
+        ensures cause { IfErr result (λ fault. (terms : Terms) → terms.limits ≡ limits →
+            StopsReacting (outcome (in_replica (here_of self.old moment terms)) attempt.now.number tries status
+            (local_in attempt.now.tenant self.old)) fault) }
         ensures front { self.new.front ≡ self.old.front }
         ensures up { self.new.up ≡ self.old.up }
         ensures incarnation { self.new.incarnation ≡ self.old.incarnation }
         ensures number { self.new.number ≡ self.old.number }
         ensures refused { self.new.cache.refused ≡ self.old.cache.refused }
     {
-        if self.up {
-            self.holdings.retire(moment);
-        }
+        let here = Here {
+            instance: self.number,
+            incarnation: self.incarnation,
+            moment,
+            limits,
+        };
+        let (tenant, number) = (&attempt.tenant, attempt.number);
+        self.replica
+            .outcome(alloc, tenant, &here, number, tries, status)?;
+        Ok(())
     }
 
     /// Takes a piece of a connection that the instance reads, at a moment and where tenants have these limits and words of
@@ -230,7 +323,9 @@ impl Instance {
     {
         let decided = self.decide(alloc, request, service_key, limits, moment)?;
         let bytes = reply_bytes(alloc, decided.status, decided.body.as_slice())?;
-        self.keep(alloc, &request.tenant, decided.items, decided.drawn)?;
+        let (items, drawn, cache) = (decided.items, decided.drawn, &mut self.cache);
+        self.replica
+            .accept(alloc, &request.tenant, moment, items, drawn, cache)?;
         outputs.push(Output::Reply { connection, bytes })?;
         Ok(())
     }
@@ -249,12 +344,11 @@ impl Instance {
             (local_in request.now.tenant self.old)) (decision_of d)) }
         ensures fits { IfOk result (λ d. counts_fit d.items.items ≡ true) }
         ensures room { IfOk result (λ d. 0 < length d.items.items →
-            count_of request.now.tenant self.old.counts + length d.items.items ≤ greatest_count) }
+            (local_in request.now.tenant self.old).ledger.stamps + length d.items.items ≤ greatest_count) }
         ensures cause { IfErr result (λ fault. StopsFor fault request.now
             (here_of self.old moment (terms_with service_key.now limits request.now.tenant))
             (local_in request.now.tenant self.old) self.new.cache.refused) }
         ensures local { (t : List ℕ) → local_in t self.new ≡ local_in t self.old }
-        ensures counts { self.new.counts ≡ self.old.counts }
         ensures front { self.new.front ≡ self.old.front }
         ensures up { self.new.up ≡ self.old.up }
         ensures incarnation { self.new.incarnation ≡ self.old.incarnation }
@@ -264,9 +358,9 @@ impl Instance {
         let maker = Maker {
             instance: self.number,
             incarnation: self.incarnation,
-            used: self.counts.used(&request.tenant),
+            used: self.replica.stamps(&request.tenant),
         };
-        let place = self.places.place(&request.tenant);
+        let place = self.replica.place(&request.tenant);
         let words = Words::new(
             service_key,
             &request.tenant,
@@ -274,60 +368,44 @@ impl Instance {
             self.incarnation,
             place,
         );
-        let (held, config) = self.holdings.in_use(alloc, &request.tenant)?;
+        let (held, config) = self.replica.in_use(alloc, &request.tenant)?;
         let cache = &mut self.cache;
         decide(
             alloc, request, held, config, limits, moment, maker, words, cache,
         )
     }
-
-    /// Keeps the items of a tenant, counts their stamps, and keeps the place of its next word where words were drawn. No
-    /// count may pass the greatest. An error leaves parts of it done; the instance stops then.
-    fn keep(
-        &mut self,
-        alloc: Global,
-        tenant: &TenantName,
-        items: Vec<Item>,
-        drawn: Option<Place>,
-    ) -> Result<(), AllocError>
-        requires { 0 < length items.items → count_of tenant.now self.old.counts + length items.items ≤ greatest_count }
-        ensures local { OnOk result ((t : List ℕ) → local_in t self.new ≡ (if same t tenant.now
-            then record {
-              held = all_joined (local_in t self.old).held items.items;
-              ledger = record {
-                stamps = (local_in t self.old).ledger.stamps + length items.items;
-                drawn = unwrap_or drawn (local_in t self.old).ledger.drawn;
-              };
-            }
-            else local_in t self.old)) }
-        ensures front { self.new.front ≡ self.old.front }
-        ensures up { self.new.up ≡ self.old.up }
-        ensures incarnation { self.new.incarnation ≡ self.old.incarnation }
-        ensures number { self.new.number ≡ self.old.number }
-        ensures refused { self.new.cache.refused ≡ self.old.cache.refused }
-    {
-        let used = self.counts.used(tenant);
-        let count = used + items.len() as u64;
-        self.holdings.put_all(alloc, tenant, items)?;
-        self.counts.set(alloc, tenant, count)?;
-        keep_place(alloc, &mut self.places, tenant, drawn)?;
-        Ok(())
-    }
 }
 
-/// Keeps the place of a tenant's next word, where words were drawn.
-fn keep_place(
+/// The notices of an instance in its incarnation, in order.
+fn notices(
     alloc: Global,
-    places: &mut Places,
-    tenant: &TenantName,
-    drawn: Option<Place>,
-) -> Result<(), AllocError>
-    ensures { OnOk result ((t : List ℕ) → place_of t places.new ≡
-        (if same t tenant.now then unwrap_or drawn (place_of t places.old) else place_of t places.old)) }
+    instance: u8,
+    incarnation: u32,
+    all: Vec<Dispatch>,
+) -> Result<Vec<Output>, AllocError>
+    ensures { IfOk result (λ outputs. outputs.items ≡ map (notice_from instance incarnation) all.items) }
 {
-    match drawn {
-        Some(place) => places.set(alloc, tenant, place),
-        None => Ok(()),
+    let mut outputs = Vec::with_capacity(alloc, all.len())?;
+    for dispatch in all {
+        outputs.push(notice(instance, incarnation, dispatch))?;
+    }
+    Ok(outputs)
+}
+
+fn notice(instance: u8, incarnation: u32, dispatch: Dispatch) -> Output
+    ensures { result ≡ notice_from instance incarnation dispatch }
+{
+    let sending = dispatch.sending;
+    Output::Notice {
+        attempt: AttemptName {
+            tenant: dispatch.tenant,
+            instance,
+            incarnation,
+            number: sending.number,
+        },
+        tries: sending.tries,
+        url: sending.url,
+        bytes: sending.bytes,
     }
 }
 

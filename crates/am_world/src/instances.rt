@@ -1,24 +1,24 @@
 //! The eight instances, by number.
 
-ghost use Rattle.std.specs.Prelude.{◌≡◌, ◌==◌, ◌+◌, ◌<◌, ℕ, List, [], ◌++◌, Option, None, Some, IfOk, OnOk, OnErr, IfSome, IfNone, IsSome, IsTrue, find, is_some, option_copied, if◌then◌else◌};
+ghost use Rattle.std.specs.Prelude.{◌≡◌, ◌==◌, ◌+◌, ◌<◌, true, ℕ, List, [], ◌++◌, Option, None, Some, IfOk, OnOk, OnErr, IfSome, IfNone, IsSome, IsTrue, find, is_some, option_copied, if◌then◌else◌};
+ghost use Rattle.am_replica.specs.Delivery.{outcome};
+ghost use Rattle.am_tenant.specs.Names.{same};
 ghost use Rattle.am_world.specs.Roster.{IsSameRoster, opened_roster};
-ghost use Rattle.am_world.specs.Setup.{Origin, is_instance};
+ghost use Rattle.am_world.specs.Setup.{Origin, is_instance, numbers};
 ghost use Rattle.am_world.specs.Taking.{Takes};
+ghost use Rattle.am_world.specs.Ticks.{TakeTurns, TakesTurn};
 
-use crate::event::Output;
+use crate::event::{AttemptName, Output};
 use crate::instance::Instance;
 use am_http::ConnectionId;
 use am_item::Fault;
-use am_limit::LimitBook;
+use am_limit::{LimitBook, Limits};
 use am_text::Moment;
 use std::alloc::{AllocError, Global};
 use std::marker::Model;
 
 /// The numbers of all instances.
 const NUMBERS: [u8; 8] = [1, 2, 3, 4, 5, 6, 7, 8];
-
-/// One more than the number of the last instance.
-const AFTER_LAST: u8 = 9;
 
 /// The instance that serves from the opening on.
 const SERVING: u8 = 1;
@@ -42,8 +42,9 @@ impl Model for Instances {
 }
 
 impl Instances {
-    ghost use Rattle.am_world.specs.Places.{IsDownAt, IsReadOnce, KeepRefused, SameElsewhere, bytes_at, cause_at, incarnation_at, instance_at, local_at, reader_of, reads, refused_at, roster_of, up_at};
-    ghost use Rattle.am_world.specs.Reaction.{blank, retired_if, terms_of};
+    ghost use Rattle.am_world.specs.Places.{IsDownAt, IsReadOnce, KeepRefused, SameElsewhere, awaits_at, bytes_at, cause_at, here_in, incarnation_at, instance_at, local_at, reader_of, reads, refused_at, roster_of, up_at};
+    ghost use Rattle.am_replica.specs.Local.{blank};
+    ghost use Rattle.am_world.specs.Reaction.{Terms, in_replica, terms_of};
 
     /// All instances in their first incarnation. None reads or has anything, and those that serve are up. Each keeps at
     /// most `capacity` patterns built, by hashes of which `hash_key` is the secret.
@@ -186,29 +187,84 @@ impl Instances {
         self.list[place(number)].close(connection);
     }
 
-    /// Lets what is retired at the moment go at each instance that is up. It takes no memory.
-    pub fn retire(&mut self, moment: Moment)
-        ensures local { (t : List ℕ) (i : ℕ) → local_at t i self.new ≡ retired_if (up_at i self.old) moment (local_at t i self.old) }
-        ensures reading { (c i : ℕ) → bytes_at c i self.new ≡ bytes_at c i self.old }
-        ensures roster { IsSameRoster (roster_of self.new) (roster_of self.old) }
-        ensures refused { (i : ℕ) → refused_at i self.new ≡ refused_at i self.old }
+    /// Lets each instance that is up tick at the moment, in order of number, where tenants have these limits, and puts out the
+    /// tries that go out. Gives how many a fault stopped; these have put nothing out.
+    pub fn tick(
+        &mut self,
+        alloc: Global,
+        moment: Moment,
+        limits: &LimitBook,
+        outputs: &mut Vec<Output>,
+    ) -> u64
+        ensures turns { TakeTurns moment limits.now numbers self.old self.new outputs.old.items outputs.new.items result }
+        // No other numbers are those of instances that are up.
+        ensures exist { (i : ℕ) → IsTrue (up_at i self.old) → IsTrue (is_instance i) }
     {
         let _ = &self.list;
-        for number in 1..AFTER_LAST {
-            self.retire_at(number, moment);
+        let mut faults = 0u64;
+        for number in NUMBERS {
+            if !self.tick_at(alloc, number, moment, limits, outputs) {
+                faults += 1;
+            }
+        }
+        faults
+    }
+
+    // The turn of one of them: `false` where a fault stopped it.
+    fn tick_at(
+        &mut self,
+        alloc: Global,
+        number: u8,
+        moment: Moment,
+        limits: &LimitBook,
+        outputs: &mut Vec<Output>,
+    ) -> bool
+        requires { IsTrue (is_instance number) }
+        ensures { TakesTurn number moment limits.now result self.old self.new outputs.old.items outputs.new.items }
+    {
+        self.list[place(number)].tick(alloc, moment, limits, outputs)
+    }
+
+    /// Whether the outcome of this try of an attempt is awaited.
+    pub fn is_awaiting(&self, attempt: &AttemptName, tries: u8) -> bool
+        ensures awaits { result ≡ awaits_at attempt.now tries self.now }
+        ensures exists { IsTrue result → IsTrue (is_instance attempt.now.instance) }
+    {
+        let _ = &self.list;
+        match self.at(attempt.instance) {
+            Some(instance) => instance.is_awaiting(attempt, tries),
+            None => false,
         }
     }
 
-    // .. at one of them.
-    fn retire_at(&mut self, number: u8, moment: Moment)
-        requires { IsTrue (is_instance number) }
-        ensures local { (t : List ℕ) (i : ℕ) → local_at t i self.new ≡ (if i == number
-            then retired_if (up_at i self.old) moment (local_at t i self.old) else local_at t i self.old) }
+    /// Gives the instance of an attempt the outcome of one of its tries, at a moment and where the attempt's tenant has these
+    /// limits.
+    pub fn take_outcome(
+        &mut self,
+        alloc: Global,
+        attempt: &AttemptName,
+        tries: u8,
+        moment: Moment,
+        limits: Limits,
+        status: Option<u16>,
+    ) -> Result<(), Fault>
+        requires { IsTrue (is_instance attempt.now.instance) }
+        ensures local { OnOk result ((terms : Terms) → terms.limits ≡ limits → (t : List ℕ) →
+            local_at t attempt.now.instance self.new ≡ (if same t attempt.now.tenant
+            then (outcome (in_replica (here_in moment terms attempt.now.instance self.old)) attempt.now.number tries status
+            (local_at t attempt.now.instance self.old)).local
+            else local_at t attempt.now.instance self.old)) }
+        ensures fits { IfOk result (λ _. (terms : Terms) → terms.limits ≡ limits →
+            (outcome (in_replica (here_in moment terms attempt.now.instance self.old)) attempt.now.number tries status
+            (local_at attempt.now.tenant attempt.now.instance self.old)).fits ≡ true) }
+        ensures others { SameElsewhere attempt.now.instance self.old self.new }
         ensures reading { (c i : ℕ) → bytes_at c i self.new ≡ bytes_at c i self.old }
         ensures roster { IsSameRoster (roster_of self.new) (roster_of self.old) }
         ensures refused { (i : ℕ) → refused_at i self.new ≡ refused_at i self.old }
     {
-        self.list[place(number)].retire(moment);
+        self.list[place(attempt.instance)].take_outcome(
+            alloc, attempt, tries, moment, limits, status,
+        )
     }
 
     /// Gives a piece to the instance that reads its connection, where tenants have these limits and words of this key.

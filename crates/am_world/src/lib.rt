@@ -9,6 +9,6 @@ pub mod theorem;
 pub mod world;
 
 pub use am_item::Fault;
-pub use event::{Event, LAST_MOMENT, Output, Refused};
+pub use event::{AttemptName, Event, LAST_MOMENT, Output, Refused};
 pub use setup::Setup;
 pub use world::World;

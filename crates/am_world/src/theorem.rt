@@ -8,8 +8,8 @@ ghost use Rattle.am_world.specs.Outputs.{outputs_of};
 ghost use Rattle.am_world.specs.Places.{AreBuilt, AreNumbered};
 ghost use Rattle.am_world.specs.Refusal.{refusal, refusal_seen};
 ghost use Rattle.am_world.specs.Runs.{Alone, RunsFrom};
-ghost use Rattle.am_world.specs.PrivateCluster.{patterns_in};
-ghost use Rattle.am_world.specs.Simulation.{Follows, fault_count, put_out, refused_by};
+ghost use Rattle.am_world.specs.PrivateCluster.{PrivateCluster, patterns_in};
+ghost use Rattle.am_world.specs.Simulation.{Follows, Stands, fault_count, put_out, refused_by};
 ghost use Rattle.am_world.specs.View.{Watch, first_watch, names_once, view, watch_all};
 
 use crate::event::Event;
@@ -59,9 +59,9 @@ pub fn run_both(
     Ok((world, other))
 }
 
-/// In a world of which what is known is so, an event is refused as the events before it say. (A world always has its
-/// eight instances in order of number.)
+/// In a world of which what is known is so, and which has of each tenant what the tenant's private cluster has, an event is
+/// refused as the events before it say. (A world always has its eight instances in order of number.)
 pub fn refusals_are_seen()
-    ensures { (v : Watch) (w : World) (e : Event) → AreNumbered w.instances → Follows v w →
-        refusal w e ≡ refusal_seen v w.clock e }
+    ensures { (v : Watch) (w : World) (alone : List ℕ → PrivateCluster) (e : Event) → AreNumbered w.instances → Follows v w →
+        ((t : List ℕ) → Stands t w (alone t)) → refusal w e ≡ refusal_seen v w.clock alone e }
 {}

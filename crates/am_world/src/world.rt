@@ -2,7 +2,7 @@
 
 ghost use Rattle.std.specs.Prelude.{◌≡◌, ◌+◌, ◌-◌, ◌^◌, ◌≤◌, ℕ, Some, min, IfOk, OnErr, IsOk, IsTrue, MatchOption};
 
-use crate::event::{Event, LAST_MOMENT, Output, Refused};
+use crate::event::{AttemptName, Event, LAST_MOMENT, Output, Refused};
 use crate::instances::Instances;
 use crate::setup::Setup;
 use am_http::ConnectionId;
@@ -75,8 +75,9 @@ impl World {
         self.instances.cause(instance)
     }
 
-    /// Handles one event. A refused one changes nothing. Where the system refuses memory, or a count passes its
-    /// greatest number, the instance that was handling it stops, puts nothing out, and one fault more is counted.
+    /// Handles one event. A refused one changes nothing. Where the system refuses memory, a count passes its greatest number, or
+    /// a pattern that is in use gives no answer, the instance that was handling it stops, puts nothing out, and one fault more
+    /// is counted.
     pub fn step(&mut self, alloc: Global, event: &Event) -> Result<(), Refused>
         ensures step { Step self.old event.now self.new }
         ensures refused { MatchOption (refusal self.old event.now) (IsOk result) (λ r. result ≡ Err r) }
@@ -97,7 +98,13 @@ impl World {
                 self.on_limits(alloc, tenant, *limits);
                 Ok(())
             }
-            Event::Tick { moment } => self.on_tick(*moment),
+            Event::Tick { moment } => self.on_tick(alloc, *moment),
+            Event::Outcome {
+                attempt,
+                tries,
+                moment,
+                status,
+            } => self.on_outcome(alloc, attempt, *tries, *moment, *status),
         }
     }
 
@@ -173,7 +180,7 @@ impl World {
         }
     }
 
-    fn on_tick(&mut self, moment: u64) -> Result<(), Refused>
+    fn on_tick(&mut self, alloc: Global, moment: u64) -> Result<(), Refused>
         ensures step { Step self.old (Event.Tick moment) self.new }
         ensures refused { MatchOption (refusal self.old (Event.Tick moment)) (IsOk result) (λ r. result ≡ Err r) }
         ensures err { OnErr result (self.new ≡ self.old) }
@@ -182,8 +189,43 @@ impl World {
             return Err(Refused::MomentRefused);
         }
         self.clock = self.effective(moment);
-        self.instances.retire(self.clock);
+        let (clock, limits, outputs) = (self.clock, &self.limits, &mut self.outputs);
+        let stopped = self.instances.tick(alloc, clock, limits, outputs);
+        self.count_faults(stopped);
         Ok(())
+    }
+
+    fn on_outcome(
+        &mut self,
+        alloc: Global,
+        attempt: &AttemptName,
+        tries: u8,
+        moment: u64,
+        status: Option<u16>,
+    ) -> Result<(), Refused>
+        ensures step { Step self.old (Event.Outcome attempt.now tries moment status) self.new }
+        ensures refused { MatchOption (refusal self.old (Event.Outcome attempt.now tries moment status))
+            (IsOk result) (λ r. result ≡ Err r) }
+        ensures err { OnErr result (self.new ≡ self.old) }
+    {
+        if moment > LAST_MOMENT {
+            return Err(Refused::MomentRefused);
+        }
+        if !self.instances.is_awaiting(attempt, tries) {
+            return Err(Refused::NotAwaited);
+        }
+        let at = self.effective(moment);
+        let limits = self.limits.of(&attempt.tenant);
+        match self
+            .instances
+            .take_outcome(alloc, attempt, tries, at, limits, status)
+        {
+            Ok(()) => Ok(()),
+            Err(fault) => {
+                self.stop(alloc, attempt.instance, fault);
+                Ok(())
+            }
+        }
     }
 
     fn on_close(&mut self, connection: ConnectionId) -> Result<(), Refused>
@@ -204,7 +246,7 @@ impl World {
     {
         match self.limits.set(alloc, tenant, limits) {
             Ok(()) => {}
-            Err(_) => self.count_fault(),
+            Err(_) => self.count_faults(1),
         }
     }
 
@@ -234,17 +276,18 @@ impl World {
         ensures refused { (i : ℕ) → refused_at i self.new.instances ≡ refused_at i self.old.instances }
     {
         self.instances.stop(alloc, instance, fault);
-        self.count_fault();
+        self.count_faults(1);
     }
 
-    fn count_fault(&mut self)
-        ensures counted { self.new.faults ≡ min (self.old.faults + 1) (2 ^ 64 - 1) }
+    fn count_faults(&mut self, more: u64)
+        ensures counted { self.new.faults ≡ min (self.old.faults + more) (2 ^ 64 - 1) }
+        ensures none { more ≡ 0 → self.new.faults ≡ self.old.faults }
         ensures instances { self.new.instances ≡ self.old.instances }
         ensures outputs { self.new.outputs.items ≡ self.old.outputs.items }
         ensures clock { self.new.clock ≡ self.old.clock }
         ensures limits { self.new.limits ≡ self.old.limits }
         ensures service_key { self.new.service_key ≡ self.old.service_key }
     {
-        self.faults = self.faults.saturating_add(1);
+        self.faults = self.faults.saturating_add(more);
     }
 }

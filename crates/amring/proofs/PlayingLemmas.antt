@@ -1,5 +1,5 @@
--- What is written line by line, and what pieces on a connection come to.
-use Rattle.std.proofs.Common.{◌≡◌, ℕ, ◌<◌, ◌≤◌, min, Bool, true, false, List, [], ◌∷◌, ◌++◌, length, Option, None, Some, IsSome, MatchOption, Result, Ok, Err, IsOk, is_ok, refl, sym, ap, ◌∙◌, arith, append-nil, append_assoc}
+-- What is reported event by event, and what pieces on a connection come to.
+use Rattle.std.proofs.Common.{◌≡◌, ℕ, suc, ◌+◌, ◌<◌, ◌≤◌, min, Bool, true, false, List, [], ◌∷◌, ◌++◌, length, get_or, drop, drop-cons, add-one, string_bytes, Option, None, Some, IsSome, MatchOption, Result, Ok, Err, IsOk, is_ok, refl, sym, ap, ◌∙◌, arith, append-nil, append_assoc}
 use Rattle.std.proofs.lemmas.Bool.Decides.{nat_tests}
 use Rattle.std.proofs.lemmas.List.Concat.{flat_map-append}
 use Rattle.std.specs.Io.KnownBytes.{Appends, Keeps}
@@ -13,19 +13,40 @@ use Rattle.am_world.specs.Refusal.{refusal}
 use Rattle.am_world.specs.Runs.{Forgets}
 use Rattle.am_world.specs.Simulation.{Step, put_out}
 use Rattle.amring.specs.declared.play.Player.{Player}
-use Rattle.amring.specs.Playing.{Happens, Either, Gives, happened, goes_on, is_piece}
-use Rattle.amring.specs.Trace.{Happened, Prints, text_of, printed, output_line, refusal_line}
+use Rattle.amring.specs.declared.report.Report.{Report}
+use Rattle.amring.specs.declared.report.Try.{Try}
+use Rattle.amring.specs.Playing.{Happens, Either, Gives, Settles, happened, goes_on, is_piece}
+use Rattle.amring.specs.Trace.{Happened, Grows, Reports, text_of, outputs, printed, output_line, refusal_line}
+use Rattle.amring.specs.Tries.{try_of, tries_in}
 
--- no line is added
-pub prints_nothing : (old : List ℕ) (Holds : List Happened → Type 0) → Holds [] → Prints old old Holds
-prints_nothing old Holds h = ([], sym (append-nil old), h)
+-- nothing is reported
+pub grows_nothing : (report : Report) → Grows report report []
+grows_nothing report = record {
+  text = sym (append-nil (string_bytes report.text));
+  tries = sym (append-nil report.tries.items);
+}
 
--- lines are added one after the other
+-- the tries of one trace and then another
+tries_in-append : (first rest : List Happened) → tries_in (outputs (first ++ rest)) ≡ tries_in (outputs first) ++ tries_in (outputs rest)
+tries_in-append first rest =
+    ap tries_in (flat_map-append (λ (h : Happened). h.outputs) first rest) ∙ flat_map-append try_of (outputs first) (outputs rest)
+
+-- the lines of one trace and then another
 pub printed_more : (old mid new : List ℕ) (first rest : List Happened) → mid ≡ old ++ printed first →
     new ≡ mid ++ printed rest → new ≡ old ++ printed (first ++ rest)
 printed_more old mid new first rest e f =
     f ∙ ap (λ s. s ++ printed rest) e ∙ append_assoc old (printed first) (printed rest)
     ∙ ap (λ s. old ++ s) (sym (flat_map-append text_of first rest))
+
+-- one thing is reported after the other
+pub grows_more : (old mid new : Report) (first rest : List Happened) → Grows old mid first → Grows mid new rest →
+    Grows old new (first ++ rest)
+grows_more old mid new first rest one other = record {
+  text = printed_more _ _ _ first rest one.text other.text;
+  tries = other.tries ∙ ap (λ ts. ts ++ tries_in (outputs rest)) one.tries
+      ∙ append_assoc old.tries.items (tries_in (outputs first)) (tries_in (outputs rest))
+      ∙ ap (λ ts. old.tries.items ++ ts) (sym (tries_in-append first rest));
+}
 
 -- nothing is written
 pub appends_nothing : (known : Option (List ℕ)) → Appends known known []
@@ -63,6 +84,7 @@ refusal_same w w' (event.Bytes c moment piece) forgets = rw forgets.instances re
 refusal_same w w' (event.Close c) forgets = rw forgets.instances refl
 refusal_same w w' (event.Limits tenant limits) forgets = refl
 refusal_same w w' (event.Tick moment) forgets = rw forgets.clock refl
+refusal_same w w' (event.Outcome attempt tries moment status) forgets = rw forgets.instances refl
 
 -- whether an event was refused, by what came of it
 pub taken_none : {T : Type 0} (o : Option Refused) (r : Result T Refused) (x : T) → r ≡ Ok x →
@@ -79,20 +101,25 @@ refused_some (Some d) r e is told =
     let same : d ≡ e = cc in
     ap Some same
 
--- an event came, and its lines were added: those of its outputs, and then that of its refusal
-pub prints_event : (p : Player) (e : Event) (p' : Player) (before : World) (refused : Option Refused)
-    (old new : List ℕ) →
+-- an event came and was reported: its outputs, and then its refusal
+pub reports_event : (p : Player) (e : Event) (p' : Player) (before : World) (refused : Option Refused)
+    (old new : Report) →
     Forgets p.world before → Step before e p'.world → refusal before e ≡ refused →
     (IsSome refused → p'.world ≡ before) →
-    p'.connections ≡ p.connections → p'.moment ≡ p.moment →
-    new ≡ (old ++ flat_map (output_line p.connections) (put_out p'.world)) ++ refusal_line refused →
-    Prints old new (Happens p e p')
-prints_event p e p' before refused old new forgets step is same connections moment text =
-    let seen : refusal p.world e ≡ refused = sym (refusal_same p.world before e forgets) ∙ is in (
+    p'.connections ≡ p.connections → p'.moment ≡ p.moment → p'.hook ≡ p.hook →
+    string_bytes new.text ≡
+    (string_bytes old.text ++ flat_map (output_line p.connections) (put_out p'.world)) ++ refusal_line refused →
+    new.tries.items ≡ old.tries.items ++ tries_in (put_out p'.world) →
+    Reports old new (Happens p e p')
+reports_event p e p' before refused old new forgets step is same connections moment hook text tries =
+    let seen : refusal p.world e ≡ refused = sym (refusal_same p.world before e forgets) ∙ is in
+    let lines = flat_map (output_line p.connections) (put_out p'.world) in (
       happened p e p' ∷ [],
-      rw seen (text ∙ append_assoc old (flat_map (output_line p.connections) (put_out p'.world))
-          (refusal_line refused) ∙ ap (λ s. old ++ s)
-          (sym (append-nil (flat_map (output_line p.connections) (put_out p'.world) ++ refusal_line refused)))),
+      record {
+        text = rw seen (text ∙ append_assoc (string_bytes old.text) lines (refusal_line refused)
+            ∙ ap (λ s. string_bytes old.text ++ s) (sym (append-nil (lines ++ refusal_line refused))));
+        tries = tries ∙ ap (λ os. old.tries.items ++ tries_in os) (sym (append-nil (put_out p'.world)));
+      },
       record {
         before = before;
         forgets = forgets;
@@ -100,6 +127,7 @@ prints_event p e p' before refused old new forgets step is same connections mome
         refused = rw seen same;
         connections = connections;
         moment = moment;
+        hook = hook;
         traced = refl;
       },
     )
@@ -140,3 +168,13 @@ gives_last c p mid piece left first size happens ends = record {
   sizes = rw size refl;
   come = (mid, first, [], happens, sym (append-nil first), rw ends (refl, refl, refl));
 }
+
+-- one of the tries got its outcome, and then the others
+pub settles_more : (p mid p' : Player) (tries : List Try) (i : ℕ) (awaited : Try) (first rest : List Happened) →
+    i < length tries → awaited ≡ get_or tries i awaited →
+    Happens p (event.Outcome awaited.attempt awaited.tries p.moment p.hook) mid first →
+    Settles mid (drop (i + 1) tries) p' rest → Settles p (drop i tries) p' (first ++ rest)
+settles_more p mid p' tries i awaited first rest below is happens later =
+    let cut : drop i tries ≡ awaited ∷ drop (i + 1) tries =
+    rw add-one (drop-cons tries i awaited below ∙ ap (λ t. t ∷ drop (suc i) tries) (sym is)) in
+    rw cut (mid, first, rest, happens, refl, later)

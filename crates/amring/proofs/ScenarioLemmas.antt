@@ -6,7 +6,7 @@ use Rattle.std.specs.Io.BufRead.{take_through, drop_through, strip_last, first_p
 use Rattle.std.specs.Io.KnownBytes.{IsAtEnd}
 use Rattle.std.proofs.lemmas.Bool.Decides.{nat_tests}
 use Rattle.amring.specs.Line.{command_of}
-use Rattle.amring.specs.Playing.{Obeys, Plays}
+use Rattle.amring.specs.Playing.{Does, Plays}
 use Rattle.amring.specs.Scenario.{Course, lines_of}
 use Rattle.amring.specs.Trace.{Happened}
 use Rattle.amring.specs.declared.command.Command.{Command}
@@ -58,7 +58,7 @@ lines_of-piece (x ∷ xs) = by (eqb x 10) refl (lines_of-piece xs)
 -- a line that is empty does nothing
 plays_end : (n : ℕ) (p : Player) → Plays n p (lines_of []) All [] p
 unfolding command_of
-plays_end n p = (p, [], [], (refl, refl), refl, (refl, refl, refl))
+plays_end n p = (p, [], [], (p, [], [], (refl, refl), refl, (refl, refl)), refl, (refl, refl, refl))
 
 -- lines were read, and what is left of known bytes has the others; nothing is left behind a line without a line end
 abbrev pub Rest : Option (List ℕ) → Option (List ℕ) → List (List ℕ) → Type 0
@@ -105,13 +105,13 @@ rest_more (Some bytes) (Some left) new lines line (inr rest) next drops = let no
 pub upto_more : (start p mid : Player) (bytes old new : Option (List ℕ)) (n : ℕ) (line : List ℕ) (command : Command)
     (trace first : List Happened) →
     Upto start bytes p old n trace → IsNext old line → DropsThrough old new 10 → command_of line ≡ Some command →
-    Obeys p command mid first →
+    Does p command mid first →
     Upto start bytes mid new (n + 1) (trace ++ first)
-upto_more start p mid bytes old new n line command trace first upto next drops is obeys = record {
+upto_more start p mid bytes old new n line command trace first upto next drops is does = record {
   lines = upto.lines ++ line ∷ [];
   rest = rest_more bytes old new upto.lines line upto.rest next drops;
   plays = λ others played more end plays. rw (append_assoc upto.lines (line ∷ []) others, append_assoc trace first more)
-      (upto.plays (line ∷ others) played (first ++ more) end (rw is (mid, first, more, obeys, refl, plays)));
+      (upto.plays (line ∷ others) played (first ++ more) end (rw is (mid, first, more, does, refl, plays)));
 }
 
 -- these others are left

@@ -11,14 +11,16 @@ use Rattle.am_world.specs.Simulation.{Step, fault_count, put_out, refused_by}
 use Rattle.am_world.specs.View.{first_watch, names_once}
 use Rattle.am_world.proofs.Steps.{Steps, alone}
 use Rattle.amring.specs.Line.{command_of}
-use Rattle.amring.specs.Playing.{Happens, Either, Come, Gives, Calls, Obeys, Plays, IsStart, goes_on}
+use Rattle.amring.specs.Playing.{Happens, Either, Come, Gives, Calls, Obeys, Settles, Does, Plays, IsStart, goes_on}
 use Rattle.amring.specs.Scenario.{Course, AloneUntilFault}
 use Rattle.amring.specs.Trace.{Happened, events, outputs, no_fault, unbuilt, unbuilt_after}
+use Rattle.amring.specs.Tries.{tries_in}
 use Rattle.amring.specs.declared.command.Command.{Command}
-use Rattle.amring.specs.declared.command.Command.TheVariants.{Skip, At, Tick, Open, Bytes, Call, Limits, Pump}
+use Rattle.amring.specs.declared.command.Command.TheVariants.{Skip, At, Tick, Open, Bytes, Call, Limits, Pump, Hook}
 use Rattle.amring.specs.declared.play.Played.{Played}
 use Rattle.amring.specs.declared.play.Played.TheVariants.{BadLine}
 use Rattle.amring.specs.declared.play.Player.{Player}
+use Rattle.amring.specs.declared.report.Try.{Try}
 
 -- from one world to the other, each event of the trace was a step of the world, which forgot its outputs before
 abbrev pub Traced : World → List Happened → World → Type 0
@@ -73,6 +75,8 @@ obeys_traced p Skip p' trace (same, nothing) = traced_nothing p p' trace (ap (λ
 obeys_traced p Pump p' trace (same, nothing) = traced_nothing p p' trace (ap (λ (x : Player). x.world) same) nothing
 obeys_traced p (At moment) p' trace (same, nothing) = traced_nothing p p' trace (ap (λ (x : Player). x.world) same)
     nothing
+obeys_traced p (Hook status) p' trace (same, nothing) = traced_nothing p p' trace (ap (λ (x : Player). x.world) same)
+    nothing
 obeys_traced p Tick p' trace happens = happens_traced p (event.Tick p.moment) p' trace happens
 obeys_traced p (Limits tenant limits) p' trace happens =
     happens_traced p (event.Limits tenant limits) p' trace happens
@@ -80,6 +84,19 @@ obeys_traced p (Open name i) p' trace (c, place, happens) = happens_traced _ _ p
 obeys_traced p (Bytes name text) p' trace (c, place, gives) =
     come_traced c _ gives.pieces gives.left p' trace gives.come
 obeys_traced p (Call name i request) p' trace (c, place, calls) = calls_traced c _ _ _ p' trace calls
+
+settles_traced : (p : Player) (tries : List Try) (p' : Player) (trace : List Happened) → Settles p tries p' trace →
+    Traced p.world trace p'.world
+settles_traced p [] p' trace (same, nothing) = traced_nothing p p' trace (ap (λ (x : Player). x.world) same) nothing
+settles_traced p (awaited ∷ tries) p' trace (mid, first, rest, happens, both, more) =
+    rw both (traced_more p.world first rest mid.world p'.world (happens_traced p _ mid first happens)
+    (settles_traced mid tries p' rest more))
+
+does_traced : (p : Player) (command : Command) (p' : Player) (trace : List Happened) → Does p command p' trace →
+    Traced p.world trace p'.world
+does_traced p command p' trace (mid, first, rest, obeys, both, more) =
+    rw both (traced_more p.world first rest mid.world p'.world (obeys_traced p command mid first obeys)
+    (settles_traced mid (tries_in (outputs first)) p' rest more))
 
 plays_traced : (n : ℕ) (p : Player) (lines : List (List ℕ)) (played : Played) (trace : List Happened)
     (p' : Player) → Plays n p lines played trace p' → Traced p.world trace p'.world
@@ -92,12 +109,12 @@ plays_traced n p (line ∷ lines) played trace p' plays =
         ((mid : Player) (rest : List Happened) → Plays (n + 1) mid lines played rest p' →
         Traced mid.world rest p'.world) →
         MatchOption o ((played ≡ BadLine n) × (trace ≡ []) × (p' ≡ p))
-        (λ command. (mid : Player) × (first rest : List Happened) × Obeys p command mid first ×
+        (λ command. (mid : Player) × (first rest : List Happened) × Does p command mid first ×
         (trace ≡ first ++ rest) × Plays (n + 1) mid lines played rest p') →
         Traced p.world trace p'.world
     by None later (bad, nothing, same) = traced_nothing p p' trace (ap (λ (x : Player). x.world) same) nothing
-    by (Some command) later (mid, first, rest, obeys, both, more) =
-        rw both (traced_more p.world first rest mid.world p'.world (obeys_traced p command mid first obeys)
+    by (Some command) later (mid, first, rest, does, both, more) =
+        rw both (traced_more p.world first rest mid.world p'.world (does_traced p command mid first does)
         (later mid rest more))
 
 -- the steps of a trace

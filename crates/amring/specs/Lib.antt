@@ -8,3 +8,4 @@ pub mod Playing
 pub mod Request
 pub mod Scenario
 pub mod Trace
+pub mod Tries

@@ -1,5 +1,5 @@
 -- The scenario language: what a line asks for. A line is given without its line end.
-use Rattle.std.specs.Prelude.{◌≡◌, ℕ, Bool, ◌||◌, ◌==◌, nat_lt, if◌then◌else◌, List, [], length, slice_index, Option, None, Some, option_map, option_and_then, Result, Ok, Err, ⊤, codes}
+use Rattle.std.specs.Prelude.{◌≡◌, ℕ, Bool, ◌||◌, ◌&&◌, ◌==◌, nat_lt, nat_le, if◌then◌else◌, List, [], length, slice_index, Option, None, Some, option_map, option_and_then, Result, Ok, Err, ⊤, codes}
 use Rattle.std.specs.Str.{is_utf8, bytes_eq}
 use Rattle.std.specs.List.{position_or_len, before_first, after_first}
 use Rattle.serde_json.specs.Find.{as_str}
@@ -9,7 +9,7 @@ use Rattle.amring.specs.Number.{number_of}
 use Rattle.amring.specs.declared.line.LineFault.{LineFault}
 use Rattle.amring.specs.declared.line.LineFault.TheVariants.{NotACommand, OutOfMemory}
 use Rattle.amring.specs.declared.command.Command.{Command}
-use Rattle.amring.specs.declared.command.Command.TheVariants.{Skip, At, Tick, Open, Bytes, Call, Limits, Pump}
+use Rattle.amring.specs.declared.command.Command.TheVariants.{Skip, At, Tick, Open, Bytes, Call, Limits, Pump, Hook}
 use Rattle.amring.specs.declared.command.Request.{Request}
 use denote.Ref.{Bor}
 
@@ -123,6 +123,17 @@ limits_of s = do
   notices ← number_of d.1
   Some (Limits tenant (record { alerts = a.0; silences = b.0; configuration = c.0; silence = d.0; notices = notices }))
 
+-- the status code of an answer, a number of three digits
+unfoldable pub status_of : List ℕ → Option ℕ
+status_of s = do
+  n ← number_of s
+  if nat_le 100 n && nat_le n 999 then Some n else None
+
+-- what stands behind `hook `
+unfoldable pub hook_of : List ℕ → Option Command
+hook_of s =
+    if bytes_eq s (codes "none") then Some (Hook None) else option_map (λ status. Hook (Some status)) (status_of s)
+
 -- a command that is one word
 unfoldable pub lone_command : List ℕ → Option Command
 lone_command name =
@@ -138,6 +149,7 @@ named_command name rest =
     else if bytes_eq name (codes "bytes") then bytes_of rest
     else if bytes_eq name (codes "call") then call_of rest
     else if bytes_eq name (codes "limits") then limits_of rest
+    else if bytes_eq name (codes "hook") then hook_of rest
     else None
 
 -- the command of a text that is neither empty nor a comment

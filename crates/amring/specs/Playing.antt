@@ -9,15 +9,17 @@ use Rattle.am_world.specs.Setup.{Origin}
 use Rattle.am_world.specs.Refusal.{refusal}
 use Rattle.am_world.specs.Simulation.{Opens, Step, fault_count, put_out, refused_by}
 use Rattle.amring.specs.declared.command.Command.{Command}
-use Rattle.amring.specs.declared.command.Command.TheVariants.{Skip, At, Tick, Open, Bytes, Call, Limits, Pump}
+use Rattle.amring.specs.declared.command.Command.TheVariants.{Skip, At, Tick, Open, Bytes, Call, Limits, Pump, Hook}
 use Rattle.amring.specs.declared.play.Played.{Played}
 use Rattle.amring.specs.declared.play.Played.TheVariants.{All, BadLine}
 use Rattle.amring.specs.declared.play.Player.{Player}
+use Rattle.amring.specs.declared.report.Try.{Try}
 use Rattle.amring.specs.Line.{command_of}
 use Rattle.amring.specs.Names.{place_of, with_name}
 use Rattle.amring.specs.Output.{is_answered}
 use Rattle.amring.specs.Request.{request_text}
-use Rattle.amring.specs.Trace.{Happened}
+use Rattle.amring.specs.Trace.{Happened, outputs}
+use Rattle.amring.specs.Tries.{tries_in}
 
 -- what an event is in the trace, by the player before it and after it
 abbrev pub happened : Player → Event → Player → Happened
@@ -38,6 +40,7 @@ pub record Happens (p : Player) (e : Event) (p' : Player) (trace : List Happened
   pub refused : IsSome (refusal p.world e) → p'.world ≡ before
   pub connections : p'.connections ≡ p.connections
   pub moment : p'.moment ≡ p.moment
+  pub hook : p'.hook ≡ p.hook
   pub traced : trace ≡ happened p e p' ∷ []
 
 -- the first of two facts where a test passes, else the second
@@ -74,7 +77,7 @@ pub record Gives (c : ℕ) (p : Player) (bytes : List ℕ) (p' : Player) (trace 
 
 -- the name of a connection is known from now on
 abbrev pub naming : List ℕ → Player → Player
-naming name p = record { world = p.world; connections = with_name name p.connections; moment = p.moment }
+naming name p = record p { connections = with_name name p.connections }
 
 -- the number of an instance as the world takes it: none past 255 is in any ring
 abbrev pub instance_of : ℕ → ℕ
@@ -94,14 +97,28 @@ OnNamed p name Holds = (c : ℕ) × (place_of name (naming name p).connections �
 abbrev pub Obeys : Player → Command → Player → List Happened → Type 0
 Obeys p Skip p' trace = (p' ≡ p) × (trace ≡ [])
 Obeys p Pump p' trace = (p' ≡ p) × (trace ≡ [])
-Obeys p (At moment) p' trace =
-    (p' ≡ record { world = p.world; connections = p.connections; moment = moment }) × (trace ≡ [])
+Obeys p (At moment) p' trace = (p' ≡ record p { moment = moment }) × (trace ≡ [])
+Obeys p (Hook status) p' trace = (p' ≡ record p { hook = status }) × (trace ≡ [])
 Obeys p Tick p' trace = Happens p (event.Tick p.moment) p' trace
 Obeys p (Limits tenant limits) p' trace = Happens p (event.Limits tenant limits) p' trace
 Obeys p (Open name i) p' trace = OnNamed p name (λ c q. Happens q (event.Open c (instance_of i)) p' trace)
 Obeys p (Bytes name text) p' trace = OnNamed p name (λ c q. Gives c q text p' trace)
 Obeys p (Call name i request) p' trace =
     OnNamed p name (λ c q. Calls c q (instance_of i) (request_text request) p' trace)
+
+-- each of these tries got its outcome, one after the other: what the receiver answers now
+abbrev pub Settles : Player → List Try → Player → List Happened → Type 0
+Settles p [] p' trace = (p' ≡ p) × (trace ≡ [])
+Settles p (awaited ∷ tries) p' trace =
+    (mid : Player) × (first rest : List Happened)
+    × Happens p (event.Outcome awaited.attempt awaited.tries p.moment p.hook) mid first
+    × (trace ≡ first ++ rest) × Settles mid tries p' rest
+
+-- a line was played: its command was done, and then each try that this sent out got its outcome
+abbrev pub Does : Player → Command → Player → List Happened → Type 0
+Does p command p' trace =
+    (mid : Player) × (first rest : List Happened) × Obeys p command mid first × (trace ≡ first ++ rest)
+    × Settles mid (tries_in (outputs first)) p' rest
 
 -- the last line of a scenario that was played whole
 abbrev pub faults_line : ℕ → List ℕ
@@ -117,11 +134,12 @@ abbrev pub Plays : ℕ → Player → List (List ℕ) → Played → List Happen
 Plays n p [] played trace p' = (played ≡ All) × (trace ≡ []) × (p' ≡ p)
 Plays n p (line ∷ lines) played trace p' = MatchOption (command_of line)
     ((played ≡ BadLine n) × (trace ≡ []) × (p' ≡ p))
-    (λ command. (mid : Player) × (first rest : List Happened) × Obeys p command mid first × (trace ≡ first ++ rest)
+    (λ command. (mid : Player) × (first rest : List Happened) × Does p command mid first × (trace ≡ first ++ rest)
     × Plays (n + 1) mid lines played rest p')
 
--- where a scenario begins: a new world, no connection, the moment 0
+-- where a scenario begins: a new world, no connection, the moment 0, and a receiver that takes all notices
 pub record IsStart (origin : Origin) (p : Player) : Type 0 where
   pub opens : Opens origin p.world
   pub connections : p.connections ≡ []
   pub moment : p.moment ≡ 0
+  pub hook : p.hook ≡ Some 200

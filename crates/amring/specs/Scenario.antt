@@ -1,5 +1,5 @@
 -- A whole scenario: its lines, and what playing them comes to.
-use Rattle.std.specs.Prelude.{◌≡◌, ℕ, ◌==◌, List, [], ◌++◌, Option, IfSome}
+use Rattle.std.specs.Prelude.{◌≡◌, ℕ, ◌==◌, List, ◌++◌, Option, IfSome}
 use Rattle.std.specs.List.{slice_split}
 use Rattle.am_world.specs.Runs.{Alone}
 use Rattle.am_world.specs.Setup.{Origin}

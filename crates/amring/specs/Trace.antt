@@ -1,12 +1,14 @@
 -- The trace of a scenario: what happened, event by event, and the lines that are written of it.
-use Rattle.std.specs.Prelude.{◌≡◌, ℕ, List, [], ◌∷◌, ◌++◌, map, slice_get, Option, None, Some, codes}
+use Rattle.std.specs.Prelude.{◌≡◌, ℕ, List, [], ◌∷◌, ◌++◌, map, slice_get, Option, None, Some, codes, string_bytes}
 use Rattle.std.specs.List.{flat_map}
 use Rattle.am_world.specs.declared.event.Event.{Event}
 use Rattle.am_world.specs.declared.event.Output.{Output}
-use Rattle.am_world.specs.declared.event.Output.TheVariants.{Reply}
+use Rattle.am_world.specs.declared.event.Output.TheVariants.{Reply, Notice}
 use Rattle.am_world.specs.declared.event.Refused.{Refused}
 use Rattle.am_world.specs.Refusal.{code_of}
-use Rattle.amring.specs.Output.{reply_line}
+use Rattle.amring.specs.declared.report.Report.{Report}
+use Rattle.amring.specs.Output.{reply_line, notice_line}
+use Rattle.amring.specs.Tries.{tries_in}
 
 -- the line of a reply on the connection of this name, where it has one
 abbrev pub named_line : List ℕ → Option (List ℕ) → List ℕ
@@ -16,6 +18,7 @@ named_line bytes (Some name) = reply_line name bytes
 -- the line of an output, where a connection's number is the place of its name
 abbrev pub output_line : List (List ℕ) → Output → List ℕ
 output_line names (Reply c bytes) = named_line bytes (slice_get names c)
+output_line names (Notice attempt tries url bytes) = notice_line attempt tries url bytes
 
 -- the line of a refusal
 abbrev pub refusal_line : Option Refused → List ℕ
@@ -61,6 +64,11 @@ unbuilt_after before (h ∷ trace) = unbuilt_after h.unbuilt trace
 abbrev pub unbuilt : List Happened → ℕ → List (List ℕ)
 unbuilt trace = unbuilt_after (λ i. []) trace
 
--- a text grew by the lines of a trace of which this holds
-abbrev pub Prints : List ℕ → List ℕ → (List Happened → Type 0) → Type 0
-Prints old new Holds = (trace : List Happened) × (new ≡ old ++ printed trace) × Holds trace
+-- a report grew by a trace: by its lines, and by the tries that went out in it
+pub record Grows (old new : Report) (trace : List Happened) : Type 0 where
+  pub text : string_bytes new.text ≡ string_bytes old.text ++ printed trace
+  pub tries : new.tries.items ≡ old.tries.items ++ tries_in (outputs trace)
+
+-- .. of which this holds
+abbrev pub Reports : Report → Report → (List Happened → Type 0) → Type 0
+Reports old new Holds = (trace : List Happened) × Grows old new trace × Holds trace

@@ -38,6 +38,8 @@ pub enum Command {
     },
     /// Every message that waits is delivered.
     Pump,
+    /// The program's own receiver answers notices with this status from now on, or not at all.
+    Hook(Option<u16>),
 }
 
 /// The request of a `call` line.

@@ -1,6 +1,6 @@
 ghost use Rattle.std.specs.Prelude.{◌≡◌, option_map};
 ghost use Rattle.amring.specs.Number.{number_of};
-ghost use Rattle.amring.specs.Line.{Reads, split, both, word_of, word_then, string_of, command_of, text_command, lone_command, named_command, at_of, open_of, bytes_of, call_of, limits_of, number_then, request_of, target_of, tenant_named};
+ghost use Rattle.amring.specs.Line.{Reads, split, both, word_of, word_then, string_of, command_of, text_command, lone_command, named_command, at_of, open_of, bytes_of, call_of, limits_of, hook_of, status_of, number_then, request_of, target_of, tenant_named};
 
 use crate::command::{Command, Request};
 use crate::number::number;
@@ -83,6 +83,8 @@ fn named_command(alloc: Global, name: &str, rest: &str) -> Result<Command, LineF
         read_call(alloc, rest)
     } else if name == "limits" {
         read_limits(rest)
+    } else if name == "hook" {
+        read_hook(rest)
     } else {
         Err(LineFault::NotACommand)
     }
@@ -155,6 +157,31 @@ fn read_limits(rest: &str) -> Result<Command, LineFault>
         notices,
     };
     Ok(Command::Limits { tenant, limits })
+}
+
+/// A status, or `none`.
+#[tactic(auto, unfolding(crate::specs::Line::hook_of))]
+fn read_hook(rest: &str) -> Result<Command, LineFault>
+    ensures { Reads (λ c. c) result (hook_of rest.now) }
+{
+    if rest == "none" {
+        return Ok(Command::Hook(None));
+    }
+    let status = read_status(rest)?;
+    Ok(Command::Hook(Some(status)))
+}
+
+/// The status code of an answer, which has three digits (RFC 9110 section 15).
+#[tactic(auto, unfolding(crate::specs::Line::status_of))]
+fn read_status(word: &str) -> Result<u16, LineFault>
+    ensures { Reads (λ n. n) result (status_of word.now) }
+{
+    let number = read_number(word)?;
+    if 100 <= number && number <= 999 {
+        Ok(number as u16)
+    } else {
+        Err(LineFault::NotACommand)
+    }
 }
 
 /// The name of a tenant.

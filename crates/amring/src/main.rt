@@ -8,6 +8,7 @@ mod line;
 mod number;
 mod options;
 mod play;
+mod report;
 mod stops;
 #[cfg(test)]
 mod tests;

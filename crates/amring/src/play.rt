@@ -1,31 +1,35 @@
-ghost use Rattle.std.specs.Prelude.{◌≡◌, ◌++◌, ◌&&◌, not, is_none, ℕ, List, [], Some, IfOk, OnOk, string_bytes};
+ghost use Rattle.std.specs.Prelude.{◌≡◌, ◌++◌, ◌&&◌, not, is_none, ℕ, List, [], IfOk, OnOk, string_bytes};
 ghost use Rattle.std.specs.List.{flat_map};
 ghost use Rattle.std.specs.Io.KnownBytes.{Appends};
 ghost use Rattle.am_world.specs.Refusal.{refusal};
 ghost use Rattle.am_world.specs.Runs.{Alone};
 ghost use Rattle.am_world.specs.Simulation.{fault_count, put_out};
 ghost use Rattle.am_world.specs.View.{first_watch, names_once};
-ghost use Rattle.amring.specs.Output.{reply_line, is_answered};
-ghost use Rattle.amring.specs.Playing.{Happens, Gives, Calls, Obeys, ending, faults_line, instance_of};
+ghost use Rattle.amring.specs.Output.{is_answered};
+ghost use Rattle.amring.specs.Playing.{Happens, Gives, Calls, Obeys, Settles, Does, ending, faults_line, instance_of};
 ghost use Rattle.amring.specs.Scenario.{Course, Scenario, AloneUntilFault};
-ghost use Rattle.amring.specs.Trace.{Happened, Prints, events, outputs, printed, output_line, refusal_line, unbuilt};
+ghost use Rattle.amring.specs.Trace.{Happened, Reports, events, outputs, printed, output_line, unbuilt};
+ghost use Rattle.amring.specs.Tries.{tries_in, try_of};
 
 use crate::command::{Command, Request};
 use crate::connections::Connections;
 use crate::line::{LineFault, read_command};
+use crate::report::{Report, Try};
 use crate::stops::Stops;
 use am_http::ConnectionId;
 use am_text::{Octets, Text};
-use am_world::event::{Event, Output, Refused};
+use am_world::event::{Event, Output};
 use am_world::setup::Setup;
 use am_world::world::World;
-use serde_json::Value;
 use std::alloc::{AllocError, Global};
-use std::io;
 use std::io::{BufRead, Write};
+use std::{io, mem};
 
 /// The most bytes that one event gives to the world.
 const PIECE: usize = 4096;
+
+/// What the program's own receiver answers at first: the status 200.
+const TAKEN: u16 = 200;
 
 /// How a scenario ended.
 #[derive(Clone, Copy, Debug, PartialEq, Eq)]
@@ -64,6 +68,7 @@ pub fn play<R: BufRead + Drop, W: Write, E: Write>(
         world,
         connections: Connections::new(alloc),
         moment: 0,
+        hook: Some(TAKEN),
     };
     let played = player.play_lines(alloc, reader, writer, errors)?;
     writer.flush()?;
@@ -76,6 +81,8 @@ struct Player {
     world: World,
     connections: Connections,
     moment: u64,
+    /// The status that the program's own receiver answers; `None` where it doesn't answer.
+    hook: Option<u16>,
 }
 
 impl Player {
@@ -100,8 +107,7 @@ impl Player {
             number += 1;
             match read_command(alloc, line.as_slice()) {
                 Ok(command) => {
-                    let mut lines = String::new(alloc);
-                    self.obey(alloc, command, &mut lines)?;
+                    let lines = self.play_line(alloc, command)?;
                     stops.tell(&self.world, errors)?;
                     writer.write_all(lines.as_bytes())?;
                 }
@@ -114,15 +120,44 @@ impl Player {
         Ok(Played::All)
     }
 
-    /// Does what a line asks for, and adds what is to be written of it to `lines`.
+    /// Does what a line asks for, and then gives each try that went out its outcome. Gives what is to be written of all
+    /// this.
+    fn play_line(&mut self, alloc: Global, command: Command) -> Result<String, AllocError>
+        ensures { IfOk result (λ lines. (trace : List Happened) × (string_bytes lines ≡ printed trace)
+            × Does self.old command self.new trace) }
+    {
+        let mut report = Report::new(alloc);
+        self.obey(alloc, command, &mut report)?;
+        let tries = mem::replace(&mut report.tries, Vec::new(alloc));
+        self.settle(alloc, tries.as_slice(), &mut report)?;
+        let Report { text, .. } = report;
+        Ok(text)
+    }
+
+    /// Gives each of these tries its outcome, in order.
+    fn settle(
+        &mut self,
+        alloc: Global,
+        tries: &[Try],
+        report: &mut Report,
+    ) -> Result<(), AllocError>
+        ensures { OnOk result (Reports report.old report.new (Settles self.old tries.now self.new)) }
+    {
+        for awaited in tries {
+            let event = awaited.outcome(self.moment, self.hook);
+            self.bring(alloc, &event, report)?;
+        }
+        Ok(())
+    }
+
+    /// Does what a line asks for, and reports it.
     fn obey(
         &mut self,
         alloc: Global,
         command: Command,
-        lines: &mut String,
+        report: &mut Report,
     ) -> Result<(), AllocError>
-        ensures { OnOk result (Prints (string_bytes lines.old) (string_bytes lines.new)
-            (Obeys self.old command self.new)) }
+        ensures { OnOk result (Reports report.old report.new (Obeys self.old command self.new)) }
     {
         match command {
             Command::Skip | Command::Pump => Ok(()),
@@ -130,26 +165,25 @@ impl Player {
                 self.moment = moment;
                 Ok(())
             }
-            Command::Tick => {
-                let moment = self.moment;
-                self.happen(alloc, &Event::Tick { moment }, lines)?;
+            Command::Hook(hook) => {
+                self.hook = hook;
                 Ok(())
             }
+            Command::Tick => self.tick(alloc, report),
             Command::Limits { tenant, limits } => {
-                self.happen(alloc, &Event::Limits { tenant, limits }, lines)?;
-                Ok(())
+                self.bring(alloc, &Event::Limits { tenant, limits }, report)
             }
             Command::Open {
                 connection,
                 instance,
             } => {
                 let connection = self.connections.id(alloc, connection.as_str())?;
-                self.open(alloc, connection, instance, lines)?;
+                self.open(alloc, connection, instance, report)?;
                 Ok(())
             }
             Command::Bytes { connection, text } => {
                 let connection = self.connections.id(alloc, connection.as_str())?;
-                self.give(alloc, connection, text.as_str().as_bytes(), lines)
+                self.give(alloc, connection, text.as_str().as_bytes(), report)
             }
             Command::Call {
                 connection,
@@ -158,9 +192,17 @@ impl Player {
             } => {
                 let connection = self.connections.id(alloc, connection.as_str())?;
                 let text = request.to_text(alloc)?;
-                self.call(alloc, connection, instance, text.as_bytes(), lines)
+                self.call(alloc, connection, instance, text.as_bytes(), report)
             }
         }
+    }
+
+    /// Hands the world a tick at the present moment.
+    fn tick(&mut self, alloc: Global, report: &mut Report) -> Result<(), AllocError>
+        ensures { OnOk result (Reports report.old report.new (Happens self.old (Event.Tick self.old.moment) self.new)) }
+    {
+        let moment = self.moment;
+        self.bring(alloc, &Event::Tick { moment }, report)
     }
 
     /// Opens a connection and gives it a whole request.
@@ -170,13 +212,13 @@ impl Player {
         connection: ConnectionId,
         instance: u64,
         request: &[u8],
-        lines: &mut String,
+        report: &mut Report,
     ) -> Result<(), AllocError>
-        ensures { OnOk result (Prints (string_bytes lines.old) (string_bytes lines.new)
+        ensures { OnOk result (Reports report.old report.new
             (Calls connection self.old (instance_of instance) request.now self.new)) }
     {
-        if self.open(alloc, connection, instance, lines)? {
-            self.give(alloc, connection, request, lines)?;
+        if self.open(alloc, connection, instance, report)? {
+            self.give(alloc, connection, request, report)?;
         }
         Ok(())
     }
@@ -187,18 +229,18 @@ impl Player {
         alloc: Global,
         connection: ConnectionId,
         instance: u64,
-        lines: &mut String,
+        report: &mut Report,
     ) -> Result<bool, AllocError>
         ensures taken { IfOk result (λ taken.
             taken ≡ is_none (refusal self.old.world (Event.Open connection (instance_of instance)))) }
-        ensures happens { OnOk result (Prints (string_bytes lines.old) (string_bytes lines.new)
+        ensures happens { OnOk result (Reports report.old report.new
             (Happens self.old (Event.Open connection (instance_of instance)) self.new)) }
     {
         let event = Event::Open {
             connection,
             instance: instance.min(u64::from(u8::MAX)) as u8,
         };
-        self.happen(alloc, &event, lines)
+        self.happen(alloc, &event, report)
     }
 
     /// Gives bytes to a connection, piece by piece, until it is answered or a piece is refused.
@@ -207,9 +249,9 @@ impl Player {
         alloc: Global,
         connection: ConnectionId,
         bytes: &[u8],
-        lines: &mut String,
+        report: &mut Report,
     ) -> Result<(), AllocError>
-        ensures { OnOk result (Prints (string_bytes lines.old) (string_bytes lines.new)
+        ensures { OnOk result (Reports report.old report.new
             (Gives connection self.old bytes.now self.new)) }
     {
         for piece in bytes.chunks(PIECE) {
@@ -218,7 +260,7 @@ impl Player {
                 moment: self.moment,
                 piece: Octets::read(alloc, piece)?,
             };
-            let is_taken = self.happen(alloc, &event, lines)?;
+            let is_taken = self.happen(alloc, &event, report)?;
             if !self.goes_on(is_taken, connection) {
                 return Ok(());
             }
@@ -233,53 +275,73 @@ impl Player {
         is_taken && !is_answered(self.world.outputs(), connection)
     }
 
-    /// Hands an event to the world and adds the lines of its outputs, and then of its refusal. Says whether it was
-    /// taken.
+    /// Hands an event to the world, whether it is taken or not.
+    fn bring(&mut self, alloc: Global, event: &Event, report: &mut Report) -> Result<(), AllocError>
+        ensures { OnOk result (Reports report.old report.new (Happens self.old event.now self.new)) }
+    {
+        self.happen(alloc, event, report)?;
+        Ok(())
+    }
+
+    /// Hands an event to the world and reports its outputs, and then its refusal. Says whether it was taken.
     fn happen(
         &mut self,
         alloc: Global,
         event: &Event,
-        lines: &mut String,
+        report: &mut Report,
     ) -> Result<bool, AllocError>
         ensures taken { IfOk result (λ taken. taken ≡ is_none (refusal self.old.world event.now)) }
-        ensures happens { OnOk result (Prints (string_bytes lines.old) (string_bytes lines.new)
-            (Happens self.old event.now self.new)) }
+        ensures happens { OnOk result (Reports report.old report.new (Happens self.old event.now self.new)) }
     {
         self.world.clear_outputs();
         let taken = self.world.step(alloc, event);
-        self.push_outputs(alloc, lines)?;
+        self.push_outputs(alloc, report)?;
         match taken {
             Ok(()) => Ok(true),
             Err(refused) => {
-                push_refusal(lines, refused)?;
+                report.push_refusal(refused)?;
                 Ok(false)
             }
         }
     }
 
-    /// Adds the lines of what the world put out at the last event.
-    fn push_outputs(&self, alloc: Global, lines: &mut String) -> Result<(), AllocError>
-        ensures { OnOk result (string_bytes lines.new ≡ string_bytes lines.old ++
+    /// Reports what the world put out at the last event.
+    fn push_outputs(&self, alloc: Global, report: &mut Report) -> Result<(), AllocError>
+        ensures text { OnOk result (string_bytes report.new.text ≡ string_bytes report.old.text ++
             flat_map (output_line self.now.connections) (put_out self.now.world)) }
+        ensures tries { OnOk result (report.new.tries.items ≡ report.old.tries.items ++
+            tries_in (put_out self.now.world)) }
     {
         for output in self.world.outputs() {
-            let Output::Reply { connection, bytes } = output;
-            if let Some(name) = self.connections.name(*connection) {
-                let line = reply_line(alloc, name, bytes.as_slice())?;
-                lines.push_str(line.as_str())?;
-            }
+            self.push_output(alloc, output, report)?;
         }
         Ok(())
     }
-}
 
-/// Adds the line of a refusal.
-fn push_refusal(lines: &mut String, refused: Refused) -> Result<(), AllocError>
-    ensures { OnOk result (string_bytes lines.new ≡ string_bytes lines.old ++ refusal_line (Some refused)) }
-{
-    lines.push_str("refused ")?;
-    lines.push_str(refused.code())?;
-    lines.push_str("\n")
+    /// Reports an output. A reply on a connection that no line named has no line.
+    fn push_output(
+        &self,
+        alloc: Global,
+        output: &Output,
+        report: &mut Report,
+    ) -> Result<(), AllocError>
+        ensures text { OnOk result (string_bytes report.new.text ≡ string_bytes report.old.text ++
+            output_line self.now.connections output.now) }
+        ensures tries { OnOk result (report.new.tries.items ≡ report.old.tries.items ++ try_of output.now) }
+    {
+        match output {
+            Output::Reply { connection, bytes } => match self.connections.name(*connection) {
+                Some(name) => report.push_reply(alloc, name, bytes.as_slice()),
+                None => Ok(()),
+            },
+            Output::Notice {
+                attempt,
+                tries,
+                url,
+                bytes,
+            } => report.push_notice(alloc, attempt, *tries, url.as_str(), bytes.as_slice()),
+        }
+    }
 }
 
 /// The last line of a scenario.
@@ -293,19 +355,11 @@ fn faults_line(alloc: Global, faults: u64) -> Result<String, AllocError>
 fn is_answered(outputs: &[Output], connection: ConnectionId) -> bool
     ensures { result ≡ is_answered connection outputs.now }
 {
-    outputs.iter().any(|output| {
-        let Output::Reply {
+    outputs.iter().any(|output| match output {
+        Output::Reply {
             connection: answered,
             ..
-        } = output;
-        *answered == connection
+        } => *answered == connection,
+        Output::Notice { .. } => false,
     })
-}
-
-/// The line of a reply: its bytes as a JSON text (RFC 8259 section 7). Bytes that are no UTF-8 stand as U+FFFD.
-fn reply_line(alloc: Global, name: &str, bytes: &[u8]) -> Result<String, AllocError>
-    ensures { IfOk result (λ line. string_bytes line ≡ reply_line name.now bytes.now) }
-{
-    let text = Value::String(String::from_utf8_lossy(alloc, bytes)?).to_string(alloc)?;
-    format!(in alloc; "reply {name} {text}\n")
 }

@@ -192,6 +192,37 @@ faults 0
 "#,
 );
 
+// A group's notice is tried three times: the receiver answers 500, then not at all, then 200. A minute after its first
+// notice the group tells that its alert is resolved.
+const NOTIFIED: (&str, &str) = (
+    r#"at 1750000000000
+tick
+hook 500
+call c 1 shop POST /api/v1/alerts "{\"alertmanager_config\":\"{\\\"route\\\":{\\\"receiver\\\":\\\"pager\\\",\\\"group_wait\\\":\\\"10s\\\",\\\"group_interval\\\":\\\"1m\\\"},\\\"receivers\\\":[{\\\"name\\\":\\\"pager\\\",\\\"webhook_configs\\\":[{\\\"url\\\":\\\"http://localhost:8080/pager\\\"}]}]}\"}"
+call p 1 shop POST /alertmanager/api/v2/alerts "[{\"labels\":{\"alertname\":\"DiskFull\"},\"startsAt\":\"2025-06-15T15:06:40Z\",\"endsAt\":\"2025-06-15T15:07:40Z\"}]"
+at 1750000010000
+tick
+hook none
+at 1750000019999
+tick
+at 1750000020000
+tick
+hook 200
+at 1750000040000
+tick
+at 1750000070000
+tick
+"#,
+    r#"reply c "HTTP/1.1 201 Created\r\nContent-Type: application/json\r\nContent-Length: 0\r\nConnection: close\r\n\r\n"
+reply p "HTTP/1.1 200 OK\r\nContent-Type: application/json\r\nContent-Length: 0\r\nConnection: close\r\n\r\n"
+notice shop 1 1 1 http://localhost:8080/pager "POST /pager HTTP/1.1\r\nHost: localhost:8080\r\nContent-Type: application/json\r\nContent-Length: 418\r\nConnection: close\r\n\r\n{\"alerts\":[{\"annotations\":{},\"endsAt\":\"0001-01-01T00:00:00Z\",\"fingerprint\":\"744e61ca074bea90\",\"generatorURL\":\"\",\"labels\":{\"alertname\":\"DiskFull\"},\"startsAt\":\"2025-06-15T15:06:40.000Z\",\"status\":\"firing\"}],\"commonAnnotations\":{},\"commonLabels\":{\"alertname\":\"DiskFull\"},\"externalURL\":\"http://localhost/alertmanager\",\"groupKey\":\"0{}\",\"groupLabels\":{},\"receiver\":\"pager\",\"status\":\"firing\",\"truncatedAlerts\":0,\"version\":\"4\"}"
+notice shop 1 1 2 http://localhost:8080/pager "POST /pager HTTP/1.1\r\nHost: localhost:8080\r\nContent-Type: application/json\r\nContent-Length: 418\r\nConnection: close\r\n\r\n{\"alerts\":[{\"annotations\":{},\"endsAt\":\"0001-01-01T00:00:00Z\",\"fingerprint\":\"744e61ca074bea90\",\"generatorURL\":\"\",\"labels\":{\"alertname\":\"DiskFull\"},\"startsAt\":\"2025-06-15T15:06:40.000Z\",\"status\":\"firing\"}],\"commonAnnotations\":{},\"commonLabels\":{\"alertname\":\"DiskFull\"},\"externalURL\":\"http://localhost/alertmanager\",\"groupKey\":\"0{}\",\"groupLabels\":{},\"receiver\":\"pager\",\"status\":\"firing\",\"truncatedAlerts\":0,\"version\":\"4\"}"
+notice shop 1 1 3 http://localhost:8080/pager "POST /pager HTTP/1.1\r\nHost: localhost:8080\r\nContent-Type: application/json\r\nContent-Length: 418\r\nConnection: close\r\n\r\n{\"alerts\":[{\"annotations\":{},\"endsAt\":\"0001-01-01T00:00:00Z\",\"fingerprint\":\"744e61ca074bea90\",\"generatorURL\":\"\",\"labels\":{\"alertname\":\"DiskFull\"},\"startsAt\":\"2025-06-15T15:06:40.000Z\",\"status\":\"firing\"}],\"commonAnnotations\":{},\"commonLabels\":{\"alertname\":\"DiskFull\"},\"externalURL\":\"http://localhost/alertmanager\",\"groupKey\":\"0{}\",\"groupLabels\":{},\"receiver\":\"pager\",\"status\":\"firing\",\"truncatedAlerts\":0,\"version\":\"4\"}"
+notice shop 1 2 1 http://localhost:8080/pager "POST /pager HTTP/1.1\r\nHost: localhost:8080\r\nContent-Type: application/json\r\nContent-Length: 426\r\nConnection: close\r\n\r\n{\"alerts\":[{\"annotations\":{},\"endsAt\":\"2025-06-15T15:07:40.000Z\",\"fingerprint\":\"744e61ca074bea90\",\"generatorURL\":\"\",\"labels\":{\"alertname\":\"DiskFull\"},\"startsAt\":\"2025-06-15T15:06:40.000Z\",\"status\":\"resolved\"}],\"commonAnnotations\":{},\"commonLabels\":{\"alertname\":\"DiskFull\"},\"externalURL\":\"http://localhost/alertmanager\",\"groupKey\":\"0{}\",\"groupLabels\":{},\"receiver\":\"pager\",\"status\":\"resolved\",\"truncatedAlerts\":0,\"version\":\"4\"}"
+faults 0
+"#,
+);
+
 // The request that reads the alerts of the tenant `a`.
 const READ: &str =
     "GET /alertmanager/api/v2/alerts HTTP/1.1\r\nHost: amring\r\nX-Scope-OrgID: a\r\nContent-Length: 0\r\n\r\n";
@@ -221,6 +252,7 @@ fn scenarios(rt: HostRuntime) -> Result<(), Fail> {
         OPENED_AGAIN,
         RECEIVERS,
         CONFIGURED,
+        NOTIFIED,
     ] {
         let (end, written) = played(rt.alloc(), scenario.as_bytes())?;
         assert_eq!(rt; end, Played::All, "{scenario}");
@@ -307,6 +339,10 @@ fn bad_lines(rt: HostRuntime) -> Result<(), Fail> {
         b"call c 1  GET /x",
         b"call c 1 a GET /x []",
         b"join 4",
+        b"hook",
+        b"hook 99",
+        b"hook 1000",
+        b"hook none ",
         b"# a comment\xff",
         b"open \xff 1",
     ] {
@@ -349,6 +385,7 @@ fn lines_that_are_taken(rt: HostRuntime) -> Result<(), Fail> {
         ("bytes c \t\"a\" \r\n", "refused We5\nfaults 0\n"),
         ("bytes c \"\"", "faults 0\n"),
         ("call c 2 - GET /x \"body\"", "refused We2\nfaults 0\n"),
+        ("hook 100\nhook 999\nhook none", "faults 0\n"),
     ] {
         let (end, written) = played(rt.alloc(), scenario.as_bytes())?;
         assert_eq!(rt; end, Played::All, "{scenario}");

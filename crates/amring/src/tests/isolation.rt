@@ -119,12 +119,12 @@ fn asked(
 
 /// The reply on a connection.
 fn reply_on(world: &World, connection: u64) -> Option<&[u8]> {
-    world.outputs().iter().find_map(|output| {
-        let Output::Reply {
+    world.outputs().iter().find_map(|output| match output {
+        Output::Reply {
             connection: answered,
             bytes,
-        } = output;
-        (*answered == ConnectionId::new(connection)).then_some(bytes.as_slice())
+        } => (*answered == ConnectionId::new(connection)).then_some(bytes.as_slice()),
+        Output::Notice { .. } => None,
     })
 }
 

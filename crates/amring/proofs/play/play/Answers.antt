@@ -1,4 +1,4 @@
-use Rattle.std.proofs.Common.{refl}
+use Rattle.std.proofs.Common.{refl, Some}
 use Rattle.amring.proofs.PlayingLemmas.{appends_kept}
 use Rattle.amring.proofs.TraceLemmas.{course_alone, course_until_fault}
 use Rattle.am_world.specs.Simulation.{fault_count}
@@ -10,10 +10,10 @@ pub returns : goal.returns
 returns g c =
     let trace = c.in_ok-played.ensures.0 in
     let course = c.in_ok-played.ensures.1 in
-    let start : Player = record { world = c.in_ok-world.world; connections = c.new.result; moment = 0 } in
+    let start : Player = record { world = c.in_ok-world.world; connections = c.new.result; moment = 0; hook = Some 200 } in
     let end : Player = c.play_lines.new.self in
     let is_start : IsStart c.args.setup.origin start =
-    record { opens = c.in_ok-world.ensures; connections = c.new.ensures; moment = refl } in (
+    record { opens = c.in_ok-world.ensures; connections = c.new.ensures; moment = refl; hook = refl } in (
       trace,
       fault_count end.world,
       record { start = start; is_start = is_start; end = end; course = course; counted = refl },

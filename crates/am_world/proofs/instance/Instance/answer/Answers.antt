@@ -1,28 +1,33 @@
 use Rattle.std.proofs.Common.{◌≡◌, ◌∙◌, ◌++◌, ◌∷◌, [], ap}
 use Rattle.am_api.specs.Deciding.{decision_of}
-use Rattle.am_api.specs.Replied.{Decision}
-use Rattle.am_item.specs.Best.{all_joined}
 use Rattle.am_world.specs.declared.event.Output.TheVariants.{Reply}
+use Rattle.std.proofs.lemmas.Result.{err_from_is_err_and}
 use Rattle.am_world.specs.Places.{local_in}
-use Rattle.am_world.specs.Reaction.{Local, ledger_after, local_after}
-use Rattle.am_world.proofs.LocalLemmas.{under_other}
+use Rattle.am_world.proofs.Deciding.{more_asked, stops_accepting}
 use Rattle.am_world.proofs.instance.Instance.answer.Goals as goal
 
-abbrev joined_by : Local → Decision → Local → Local
-joined_by local decision counted =
-    record { held = all_joined local.held decision.items; ledger = ledger_after decision counted.ledger }
+pub accept-requires : goal.accept-requires
+unfolding local_in
+accept-requires c = record {
+  fits = λ some. rw (c.decide.ensures.local c.args.request.now.tenant) (c.in_ok-decided.ensures.room some);
+}
+
+pub returns-in_err-accept-clause-cause : goal.returns-in_err-accept-clause-cause
+unfolding local_in
+returns-in_err-accept-clause-cause c =
+    let p = err_from_is_err_and c.from_residual-in_err-accept.result c.from_residual-in_err-accept.ensures.1 in
+    rw (p.1, p.2) (stops_accepting _ _ c.args.request.now _ _ _ _ (decision_of c.in_ok-decided.decided) c.in_err-accept.ensures.asked c.in_ok-decided.ensures.decision
+    (c.decide.ensures.local c.args.request.now.tenant) c.in_err-accept.ensures.fault)
 
 pub returns-clause-brings : goal.returns-clause-brings
-unfolding local_after
+unfolding local_in
 returns-clause-brings c terms own = record {
   decide = λ r. decision_of c.in_ok-decided.decided;
   decided = λ r is.
       let same : c.args.request.now ≡ r = cc in
-      rw (← same, own, c.keep.ensures.refused) c.in_ok-decided.ensures.decision;
+      rw (← same, own, c.in_ok-accept.ensures.asked.refused) c.in_ok-decided.ensures.decision;
   outputs = c.in_ok-push.ensures.items ∙ ap (λ bytes. c.args.outputs.now.items ++ Reply c.args.connection bytes ∷ [])
       (rw c.as_slice.ensures at c.in_ok-bytes.ensures);
   fits = c.in_ok-decided.ensures.fits;
-  local = λ t. under_other t c.args.request.now.tenant
-      (λ s. joined_by (local_in t c.args.self.now) (decision_of c.in_ok-decided.decided) (local_in s c.args.self.now)) _ _
-      (rw (c.decide.ensures.local t) at (c.in_ok-keep.ensures.local t));
+  local = λ t. rw (c.decide.ensures.local t) at (c.in_ok-accept.ensures.does t);
 }

@@ -8,6 +8,6 @@ pub returns-in-Ok : goal.returns-in-Ok
 returns-in-Ok c = inl (kept_limits c.args.self.now _ c.args.tenant.now c.args.limits c.in-Ok.ensures.set refl refl refl refl refl)
 
 pub returns-in-Err : goal.returns-in-Err
-returns-in-Err c = inr (faulted_limits c.args.self.now c.count_fault.new.self c.args.tenant.now c.args.limits c.count_fault.ensures.instances
-    c.count_fault.ensures.outputs c.count_fault.ensures.counted c.count_fault.ensures.clock
-    (λ t. ap (limits_of t) c.count_fault.ensures.limits ∙ c.in-Err.ensures.err t) c.count_fault.ensures.service_key)
+returns-in-Err c = inr (faulted_limits c.args.self.now c.count_faults.new.self c.args.tenant.now c.args.limits c.count_faults.ensures.instances
+    c.count_faults.ensures.outputs c.count_faults.ensures.counted c.count_faults.ensures.clock
+    (λ t. ap (limits_of t) c.count_faults.ensures.limits ∙ c.in-Err.ensures.err t) c.count_faults.ensures.service_key)

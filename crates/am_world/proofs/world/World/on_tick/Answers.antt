@@ -1,7 +1,8 @@
-use Rattle.std.proofs.Common.{◌∙◌, inl, refl, arith}
+use Rattle.std.proofs.Common.{◌≡◌, ◌∙◌, inl, inr, sym, arith, nat_eq}
+use Rattle.std.proofs.lemmas.Bool.{cases_Bool}
 use Rattle.std.proofs.lemmas.Bool.Decides.{nat_tests}
-use Rattle.am_world.proofs.Kept.{kept_refused_tick, kept_tick, max_later}
-use Rattle.am_world.proofs.Retiring.{Retires}
+use Rattle.am_world.proofs.Kept.{kept_refused_tick, max_later}
+use Rattle.am_world.proofs.KeptTick.{faulted_tick, kept_tick}
 use Rattle.am_world.proofs.world.World.on_tick.Goals as goal
 
 pub returns-then-moment-gt-LAST_MOMENT-clause-step :
@@ -9,13 +10,16 @@ pub returns-then-moment-gt-LAST_MOMENT-clause-step :
 returns-then-moment-gt-LAST_MOMENT-clause-step c = inl (kept_refused_tick c.args.self.now c.args.moment (grind (arith, nat_tests)))
 
 pub returns-clause-step : goal.returns-clause-step
-returns-clause-step c = inl (
+returns-clause-step c =
     let now = c.effective-self.ensures ∙ max_later c.args.moment c.args.self.now.clock (rw c.milliseconds.ensures.value at c.if-moment-milliseconds.false) in
-    let gone : Retires c.effective-self.result c.args.self.now.instances c.retire.new.self = record {
-      local = c.retire.ensures.local;
-      reading = c.retire.ensures.reading;
-      roster = c.retire.ensures.roster;
-      refused = c.retire.ensures.refused;
-    } in
-    kept_tick c.args.self.now _ c.args.moment (grind (arith, nat_tests)) now
-    (rw now at gone) refl refl refl refl)
+    let clock = c.count_faults.ensures.clock ∙ now in
+    let turns = rw (sym c.count_faults.ensures.instances, sym c.count_faults.ensures.outputs) at (rw now at c.tick-stopped.ensures.turns) in
+    elim (cases_Bool (nat_eq c.tick-stopped.result 0)) [
+      | inl h ↦
+          let none : c.tick-stopped.result ≡ 0 = grind (arith, nat_tests) in
+          inl (kept_tick c.args.self.now c.count_faults.new.self c.args.moment c.tick-stopped.result (grind (arith, nat_tests)) clock turns none
+          c.tick-stopped.ensures.exist c.count_faults.ensures.limits c.count_faults.ensures.service_key (c.count_faults.ensures.none none))
+      | inr h ↦
+          inr (faulted_tick c.args.self.now c.count_faults.new.self c.args.moment c.tick-stopped.result (grind (arith, nat_tests)) clock turns
+          (λ none. absurd (grind (arith, nat_tests))) c.count_faults.ensures.limits c.count_faults.ensures.service_key c.count_faults.ensures.counted)
+    ]

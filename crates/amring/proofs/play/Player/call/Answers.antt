@@ -1,5 +1,5 @@
 use Rattle.std.proofs.Common.{[], ◌++◌, refl, sym, ◌∙◌, append-nil}
-use Rattle.amring.proofs.PlayingLemmas.{printed_more, either_first, either_second}
+use Rattle.amring.proofs.PlayingLemmas.{grows_more, either_first, either_second}
 use Rattle.amring.proofs.play.Player.call.Goals as goal
 
 pub returns-in_ok-give : goal.returns-in_ok-give
@@ -7,7 +7,7 @@ returns-in_ok-give c =
     let first = c.in_ok-open.ensures.happens in
     let rest = c.in_ok-give.ensures in (
       first.0 ++ rest.0,
-      printed_more _ _ _ first.0 rest.0 first.1 rest.1,
+      grows_more _ _ _ first.0 rest.0 first.1 rest.1,
       (
         c.open.new.self,
         first.0,

@@ -5,7 +5,7 @@ use Rattle.am_world.specs.Simulation.{put_out}
 use Rattle.am_world.specs.declared.event.Event.TheVariants as event
 use Rattle.amring.specs.Output.{is_answered}
 use Rattle.amring.specs.Playing.{Happens, goes_on, is_piece}
-use Rattle.amring.proofs.PlayingLemmas.{printed_more, gives_nothing, gives_more, gives_last, piece_fits}
+use Rattle.amring.proofs.PlayingLemmas.{grows_more, gives_nothing, gives_more, gives_last, piece_fits}
 use Rattle.amring.proofs.play.Player.give.Goals as goal
 
 pub returns-then-not-goes_on : goal.returns-then-not-goes_on
@@ -22,7 +22,7 @@ returns-then-not-goes_on c =
     ap (λ b. b && not (is_answered c.args.connection (put_out c.happen.new.self.world)))
     (sym c.in_ok-is_taken.ensures.taken) ∙ sym c.if-not-goes_on.ensures in (
       known.done ++ prints.0,
-      printed_more _ _ _ known.done prints.0 known.printed prints.1,
+      grows_more _ _ _ known.done prints.0 known.grows prints.1,
       known.gives c.happen.new.self prints.0
           (rw steps.1.0 (gives_last c.args.connection p c.happen.new.self piece _ prints.0 fits happens ends)),
     )
@@ -46,7 +46,7 @@ loop-piece-preserved-else-not-goes_on c =
       is_finite = tt;
       size = size;
       done = known.done ++ prints.0;
-      printed = printed_more _ _ _ known.done prints.0 known.printed prints.1;
+      grows = grows_more _ _ _ known.done prints.0 known.grows prints.1;
       gives = λ q rest given. rw (append_assoc known.done prints.0 rest)
           (known.gives q (prints.0 ++ rest)
           (rw steps.1.0 (gives_more c.args.connection p c.happen.new.self q piece _ prints.0 rest fits happens
@@ -58,6 +58,6 @@ returns c =
     let known = c.loop-piece.invariant in
     let none : chunks_rest c.loop-piece.piece-iterator ≡ [] = nil_from_length _ c.in-None.ensures.steps.1.0 in (
       known.done,
-      known.printed,
+      known.grows,
       rw append-nil at (known.gives c.loop-piece.self [] (rw none (gives_nothing c.args.connection c.loop-piece.self))),
     )

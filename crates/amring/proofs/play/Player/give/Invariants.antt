@@ -1,7 +1,7 @@
-use Rattle.std.proofs.Common.{◌≡◌, List, ◌++◌, string_bytes}
+use Rattle.std.proofs.Common.{◌≡◌, List, ◌++◌}
 use Rattle.std.specs.Slice.Iter.{chunks_rest, chunks_size}
 use Rattle.amring.specs.Playing.{Gives}
-use Rattle.amring.specs.Trace.{Happened, printed}
+use Rattle.amring.specs.Trace.{Happened, Grows}
 use Rattle.amring.specs.declared.play.Player.{Player}
 use Rattle.amring.proofs.play.Player.give.Given as goal
 
@@ -12,7 +12,7 @@ invariant-loop-piece l = record {
   is_finite : (goal.iterator-loop-piece).is_finite l.piece-iterator;
   size : chunks_size l.piece-iterator ≡ 4096;
   done : List Happened;
-  printed : string_bytes l.lines ≡ string_bytes l.fn.lines ++ printed done;
+  grows : Grows l.fn.report l.report done;
   gives : (p : Player) (rest : List Happened) → Gives l.fn.connection l.self (chunks_rest l.piece-iterator) p rest →
       Gives l.fn.connection l.fn.self l.fn.bytes p (done ++ rest);
 }

@@ -41,22 +41,18 @@ loop-line-preserved g c =
     rw c.as_slice.ensures.value at c.in-Ok.ensures in
     let fewer : pieces_left_to_read c.next.new.self < pieces_left_to_read c.loop-line.line-iterator =
     (c.in-Some.ensures.goes.on tt).2 in
-    let prints = c.in_ok-obey-in-Ok.ensures in
+    let played = c.in_ok-lines-in-Ok.ensures in
     record {
       byte = rw c.in-Some.ensures.steps.1 known.byte;
       count = omega (arith, known.count);
-      trace = known.trace ++ prints.0;
-      appends = rw (flat_map-append text_of known.trace prints.0)
-          (appends_more _ _ _ (printed known.trace) (printed prints.0) known.appends
-          (rw (
-            c.as_bytes.ensures.value,
-            prints.1,
-            c.new-lines.ensures.bytes,
-          ) at c.in_ok-write_all-in-Ok.ensures.bytes));
-      upto = upto_more c.args.self.now c.loop-line.self c.obey.new.self (g.R.Read.remaining c.args.reader)
+      trace = known.trace ++ played.0;
+      appends = rw (flat_map-append text_of known.trace played.0)
+          (appends_more _ _ _ (printed known.trace) (printed played.0) known.appends
+          (rw (c.as_bytes.ensures.value, played.1) at c.in_ok-write_all-in-Ok.ensures.bytes));
+      upto = upto_more c.args.self.now c.loop-line.self c.play_line.new.self (g.R.Read.remaining c.args.reader)
           (split_known_bytes g.R.Read.remaining c.loop-line.line-iterator)
           (split_known_bytes g.R.Read.remaining c.next.new.self) c.loop-line.number c.in_ok-line.line.items
-          c.in-Ok.command known.trace prints.0 known.upto next.0 next.1 is prints.2;
+          c.in-Ok.command known.trace played.0 known.upto next.0 next.1 is played.2;
     }
 
 pub returns : goal.returns

@@ -1,0 +1,18 @@
+use Rattle.std.proofs.Common.{◌∙◌, ◌++◌, ap}
+use Rattle.std.proofs.lemmas.Result.{err_from_is_err_and}
+use Rattle.am_world.specs.Places.{local_in}
+use Rattle.am_world.proofs.instance.Instance.tell.Goals as goal
+
+pub returns-clause-told : goal.returns-clause-told
+unfolding local_in
+returns-clause-told c = (
+  c.in_ok-all.all.items,
+  c.in_ok-append.ensures.items ∙ ap (λ os. c.args.outputs.now.items ++ os) c.in_ok-notices.ensures,
+  c.in_ok-all.ensures.ticks,
+)
+
+pub returns-in_err-all-clause-cause : goal.returns-in_err-all-clause-cause
+unfolding local_in
+returns-in_err-all-clause-cause c =
+    let p = err_from_is_err_and c.from_residual.result c.from_residual.ensures.1 in
+    rw (p.1, p.2) c.in_err-all.ensures.fault

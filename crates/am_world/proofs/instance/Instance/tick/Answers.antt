@@ -1,0 +1,21 @@
+use Rattle.std.proofs.Common.{refl}
+use Rattle.am_world.proofs.Ticking.{ticks_idle, ticks_told}
+use Rattle.am_world.proofs.instance.Instance.tick.Goals as goal
+
+pub returns-then-not-self-clause-ends : goal.returns-then-not-self-clause-ends
+returns-then-not-self-clause-ends c = ticks_idle c.args.moment c.args.limits.now c.args.self.now c.args.outputs.now.items c.if-not-self.true
+
+pub returns-in-Ok-clause-ends : goal.returns-in-Ok-clause-ends
+returns-in-Ok-clause-ends c =
+    ticks_told c.args.moment c.args.limits.now c.args.self.now _ c.args.outputs.now.items _ c.if-not-self.false c.in-Ok.ensures.told
+    c.tell.ensures.front c.tell.ensures.up
+
+pub returns-in-Err-clause-ends : goal.returns-in-Err-clause-ends
+returns-in-Err-clause-ends c = record {
+  worked = c.if-not-self.false;
+  down = c.stop.ensures.up;
+  unread = c.stop.ensures.unread;
+  lost = c.stop.ensures.local;
+  cause = rw c.stop.ensures.cause refl;
+  silent = c.in-Err.ensures.silent;
+}

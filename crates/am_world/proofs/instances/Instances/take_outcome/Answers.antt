@@ -1,0 +1,53 @@
+use Rattle.std.proofs.Common.{◌≡◌, ◌∙◌, length, vec_len, rules}
+use Rattle.std.proofs.lemmas.Result.{IfOk-weaker, on_ok_weaker}
+use Rattle.am_world.proofs.InstancesLemmas.{at_number, bytes_kept, changed_at, number_of, outcome_fits, outcome_here, refused_kept, roster_kept, within}
+use Rattle.am_world.proofs.instances.Instances.take_outcome.Goals as goal
+
+pub index_mut-requires : goal.index_mut-requires
+index_mut-requires c =
+    let size : vec_len c.self.inside.list ≡ length c.self.inside.list.items = search rules in
+    rw size (within c.self.inside.list.items c.place.result c.args.attempt.now.instance c.self.invariant c.place.ensures c.requires)
+
+pub invariant_of-self : goal.invariant_of-self
+invariant_of-self c =
+    let here = at_number c.self.inside.list.items c.place.result c.args.attempt.now.instance _ c.self.invariant c.place.ensures c.requires c.index_mut.ensures.value in
+    let change = changed_at c.self.inside.list.items c.place.result c.args.attempt.now.instance c.take_outcome.new.self c.self.invariant c.place.ensures c.requires (c.take_outcome.ensures.number ∙ number_of c.args.attempt.now.instance _ _ here) in
+    change.numbered
+
+pub returns-clause-local : goal.returns-clause-local
+returns-clause-local c =
+    let here = at_number c.self.inside.list.items c.place.result c.args.attempt.now.instance _ c.self.invariant c.place.ensures c.requires c.index_mut.ensures.value in
+    let change = changed_at c.self.inside.list.items c.place.result c.args.attempt.now.instance c.take_outcome.new.self c.self.invariant c.place.ensures c.requires (c.take_outcome.ensures.number ∙ number_of c.args.attempt.now.instance _ _ here) in
+    rw (← c.self.view_is) (on_ok_weaker c.take_outcome.result (λ local terms same t.
+    outcome_here c.args.attempt.now.instance c.args.moment terms _ _ _ _ _ _ _ t c.args.attempt.now.tenant here change (local terms same t)) c.take_outcome.ensures.local)
+
+pub returns-clause-fits : goal.returns-clause-fits
+returns-clause-fits c =
+    let here = at_number c.self.inside.list.items c.place.result c.args.attempt.now.instance _ c.self.invariant c.place.ensures c.requires c.index_mut.ensures.value in
+    let change = changed_at c.self.inside.list.items c.place.result c.args.attempt.now.instance c.take_outcome.new.self c.self.invariant c.place.ensures c.requires (c.take_outcome.ensures.number ∙ number_of c.args.attempt.now.instance _ _ here) in
+    rw (← c.self.view_is) (IfOk-weaker c.take_outcome.result _ _ (λ ok fits terms same.
+    outcome_fits c.args.attempt.now.instance c.args.moment terms _ _ _ _ _ c.args.attempt.now.tenant here (fits terms same)) c.take_outcome.ensures.fits)
+
+pub returns-clause-others : goal.returns-clause-others
+returns-clause-others c =
+    let here = at_number c.self.inside.list.items c.place.result c.args.attempt.now.instance _ c.self.invariant c.place.ensures c.requires c.index_mut.ensures.value in
+    let change = changed_at c.self.inside.list.items c.place.result c.args.attempt.now.instance c.take_outcome.new.self c.self.invariant c.place.ensures c.requires (c.take_outcome.ensures.number ∙ number_of c.args.attempt.now.instance _ _ here) in
+    rw (← c.self.view_is) change.others
+
+pub returns-clause-reading : goal.returns-clause-reading
+returns-clause-reading c =
+    let here = at_number c.self.inside.list.items c.place.result c.args.attempt.now.instance _ c.self.invariant c.place.ensures c.requires c.index_mut.ensures.value in
+    let change = changed_at c.self.inside.list.items c.place.result c.args.attempt.now.instance c.take_outcome.new.self c.self.invariant c.place.ensures c.requires (c.take_outcome.ensures.number ∙ number_of c.args.attempt.now.instance _ _ here) in
+    rw (← c.self.view_is) (bytes_kept c.args.attempt.now.instance _ _ _ _ here change c.take_outcome.ensures.front)
+
+pub returns-clause-roster : goal.returns-clause-roster
+returns-clause-roster c =
+    let here = at_number c.self.inside.list.items c.place.result c.args.attempt.now.instance _ c.self.invariant c.place.ensures c.requires c.index_mut.ensures.value in
+    let change = changed_at c.self.inside.list.items c.place.result c.args.attempt.now.instance c.take_outcome.new.self c.self.invariant c.place.ensures c.requires (c.take_outcome.ensures.number ∙ number_of c.args.attempt.now.instance _ _ here) in
+    rw (← c.self.view_is) (roster_kept c.args.attempt.now.instance _ _ _ _ here change c.take_outcome.ensures.up c.take_outcome.ensures.incarnation)
+
+pub returns-clause-refused : goal.returns-clause-refused
+returns-clause-refused c =
+    let here = at_number c.self.inside.list.items c.place.result c.args.attempt.now.instance _ c.self.invariant c.place.ensures c.requires c.index_mut.ensures.value in
+    let change = changed_at c.self.inside.list.items c.place.result c.args.attempt.now.instance c.take_outcome.new.self c.self.invariant c.place.ensures c.requires (c.take_outcome.ensures.number ∙ number_of c.args.attempt.now.instance _ _ here) in
+    rw (← c.self.view_is) (refused_kept c.args.attempt.now.instance _ _ _ _ here change c.take_outcome.ensures.refused)

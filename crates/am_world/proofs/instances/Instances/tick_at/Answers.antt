@@ -1,0 +1,21 @@
+use Rattle.std.proofs.Common.{◌≡◌, ◌∙◌, length, vec_len, rules}
+use Rattle.am_world.proofs.InstancesLemmas.{at_number, changed_at, number_of, turn_here, within}
+use Rattle.am_world.proofs.instances.Instances.tick_at.Goals as goal
+
+pub index_mut-requires : goal.index_mut-requires
+index_mut-requires c =
+    let size : vec_len c.self.inside.list ≡ length c.self.inside.list.items = search rules in
+    rw size (within c.self.inside.list.items c.place.result c.args.number c.self.invariant c.place.ensures c.requires)
+
+pub invariant_of-self : goal.invariant_of-self
+invariant_of-self c =
+    let here = at_number c.self.inside.list.items c.place.result c.args.number _ c.self.invariant c.place.ensures c.requires c.index_mut.ensures.value in
+    let change = changed_at c.self.inside.list.items c.place.result c.args.number c.tick.new.self c.self.invariant c.place.ensures c.requires (c.tick.ensures.number ∙ number_of c.args.number _ _ here) in
+    change.numbered
+
+pub returns : goal.returns
+returns c =
+    let here = at_number c.self.inside.list.items c.place.result c.args.number _ c.self.invariant c.place.ensures c.requires c.index_mut.ensures.value in
+    let change = changed_at c.self.inside.list.items c.place.result c.args.number c.tick.new.self c.self.invariant c.place.ensures c.requires (c.tick.ensures.number ∙ number_of c.args.number _ _ here) in
+    rw (← c.self.view_is) (turn_here c.args.number c.args.moment c.args.limits.now c.tick.result _ _ _ _ _ _ here change (number_of c.args.number _ _ here)
+    c.tick.ensures.ends c.tick.ensures.incarnation c.tick.ensures.refused)

@@ -1,0 +1,14 @@
+use Rattle.std.proofs.Common.{List, ◌++◌, drop}
+use Rattle.amring.specs.Playing.{Settles}
+use Rattle.amring.specs.Trace.{Happened, Grows}
+use Rattle.amring.specs.declared.play.Player.{Player}
+use Rattle.amring.proofs.play.Player.settle.Given as goal
+
+-- what happened so far stands before what the tries that are left will bring
+abbrev pub invariant-loop-awaited : goal.invariant-loop-awaited
+invariant-loop-awaited l = record {
+  done : List Happened;
+  grows : Grows l.fn.report l.report done;
+  settles : (p : Player) (rest : List Happened) → Settles l.self (drop l.awaited-index l.tries) p rest →
+      Settles l.fn.self l.fn.tries p (done ++ rest);
+}
