@@ -10,11 +10,11 @@ use Rattle.am_world.specs.declared.event.Event.TheVariants.{Limits}
 use Rattle.am_world.specs.declared.instance.Instance.{Instance}
 use Rattle.am_world.specs.declared.world.World.{World}
 use Rattle.am_world.specs.Moments.{clock_after}
-use Rattle.am_world.specs.Places.{IsDownAt, KeepRefused, SameElsewhere, cause_at, incarnation_at, instance_at, incarnation_where, roster_of}
+use Rattle.am_world.specs.Places.{IsDownAt, KeepRefused, SameElsewhere, incarnation_at, instance_at, incarnation_where, roster_of}
 use Rattle.am_world.specs.Refusal.{refusal}
 use Rattle.am_world.specs.Roster.{roster_after}
 use Rattle.am_world.specs.Setup.{numbers}
-use Rattle.am_world.specs.Simulation.{Faulted, fault_count, faults_of, put_out, works}
+use Rattle.am_world.specs.Simulation.{Faulted, StoppedBy, fault_count, faults_of, put_out, works}
 use Rattle.am_world.proofs.Built.{keep_equal}
 use Rattle.am_world.proofs.InstancesLemmas.{CountsFrom}
 
@@ -36,7 +36,7 @@ one_fault i =
     let most = count_once 1 i numbers (refl, (refl, (refl, (refl, (refl, (refl, (refl, (refl, tt)))))))) in
     omega arith
 
-pub faulted_at : (w w' : World) (e : Event) (i : ℕ) → refusal w e ≡ None → works w e i ≡ true → IsDownAt i w'.instances → IsSome (cause_at i w'.instances) →
+pub faulted_at : (w w' : World) (e : Event) (i : ℕ) → refusal w e ≡ None → works w e i ≡ true → IsDownAt i w'.instances → StoppedBy w e i w' →
     SameElsewhere i w.instances w'.instances → ((j : ℕ) → incarnation_at j w'.instances ≡ (roster_after e (roster_of w.instances)).incarnation j) →
     put_out w' ≡ put_out w → fault_count w' ≡ min (fault_count w + 1) (2 ^ 64 - 1) → w'.clock ≡ clock_after e w.clock → w'.limits ≡ w.limits → w'.service_key ≡ w.service_key →
     KeepRefused w.instances w'.instances → Faulted w e w'

@@ -9,20 +9,14 @@ use Rattle.am_api.specs.Replied.{Decision}
 use Rattle.am_http.specs.Connections.{bytes_of, left_open}
 use Rattle.am_http.specs.declared.request.Request.{Request}
 use Rattle.am_world.specs.declared.event.Output.{Output}
-use Rattle.am_world.specs.Places.{AreNumbered, HasMore, IsDownAt, IsReadOnce, KeepRefused, SameElsewhere, bytes_at, bytes_where, awaits_at, cause_at, here_in, here_of, incarnation_at, incarnation_where, instance_at, local_at, local_in, local_where, reads, refused_at, refused_where, roster_of, up_at, up_where}
+use Rattle.am_world.specs.Places.{AreNumbered, HasMore, IsDownAt, IsReadOnce, KeepRefused, SameElsewhere, bytes_at, bytes_where, here_in, here_of, incarnation_at, incarnation_where, instance_at, local_at, local_in, local_where, reads, refused_at, refused_where, roster_of, up_at, up_where}
 use Rattle.am_http.specs.Verdict.{verdict}
-use Rattle.am_limit.specs.declared.limits.Limits.{Limits}
-use Rattle.am_outlet.specs.Attempts.{attempt_at}
-use Rattle.am_replica.specs.Delivery.{is_awaited, outcome}
-use Rattle.am_replica.specs.Local.{Local, Reaction, blank}
-use Rattle.am_replica.specs.Ticks.{IsDone, here_for, said_of}
+use Rattle.am_replica.specs.Local.{blank}
 use Rattle.am_tenant.specs.Names.{same}
-use Rattle.am_world.specs.declared.event.AttemptName.{AttemptName}
-use Rattle.am_world.specs.Reaction.{Brought, Here, MayDecide, Terms, brought, decision_at, in_replica, tick_if}
+use Rattle.am_world.specs.Reaction.{Brought, Here, MayDecide, Terms, brought, decision_at}
 use Rattle.am_world.specs.Roster.{IsSameRoster}
 use Rattle.am_world.specs.Setup.{is_instance, numbers}
 use Rattle.am_world.specs.Taking.{Brings, Takes, taken_at}
-use Rattle.am_world.specs.Ticks.{Either, Stops, StopsAt, TakesTurn, Ticks, TicksAt, notice_from}
 use Rattle.am_world.proofs.Built.{more_nothing}
 
 -- numbers that count on from n
@@ -234,7 +228,7 @@ unfolding refused_at
 refused_here i xs x e = rw e refl
 
 -- what the instance goes by is what the number tells
-here_here : (i moment : ℕ) (terms : Terms) (xs : List Instance) (x : Instance) → instance_at i xs ≡ Some x →
+pub here_here : (i moment : ℕ) (terms : Terms) (xs : List Instance) (x : Instance) → instance_at i xs ≡ Some x →
     here_in moment terms i xs ≡ here_of x moment terms
 here_here i moment terms xs x e =
     rw (incarnation_here i xs x e) (ap (λ n. (let h : Here = record { instance = n; incarnation = x.incarnation; moment = moment; terms = terms } in h)) (sym (number_of i xs x e)))
@@ -461,107 +455,3 @@ unread_elsewhere c n xs once reads i apart = other_unread c n i xs once reads (b
 pub roster_twice : (xs ys zs : List Instance) → IsSameRoster (roster_of ys) (roster_of xs) → IsSameRoster (roster_of zs) (roster_of ys) →
     IsSameRoster (roster_of zs) (roster_of xs)
 roster_twice xs ys zs first next = record { up = λ i. next.up i ∙ first.up i; incarnation = λ i. next.incarnation i ∙ first.incarnation i }
-
--- ---- ticks and outcomes
-
-same_or_more : (i : ℕ) (xs ys : List Instance) (x y : Instance) → instance_at i xs ≡ Some x → Changed i xs ys y →
-    y.incarnation ≡ x.incarnation → incarnation_at i ys ≡ incarnation_at i xs
-same_or_more i xs ys x y here change same =
-    incarnation_here i ys y change.here ∙ same ∙ sym (incarnation_here i xs x here)
-
-ticks_here : (i moment : ℕ) (limits : List (List ℕ × Limits)) (xs ys : List Instance) (x y : Instance) (before after : List Output) →
-    instance_at i xs ≡ Some x → Changed i xs ys y → x.number ≡ i → Ticks moment limits x y before after →
-    TicksAt i moment limits xs ys before after
-ticks_here i moment limits xs ys x y before after here change number ticks = record {
-  all = ticks.all;
-  outputs = rw (incarnation_here i xs x here, ← number) ticks.outputs;
-  does = λ t.
-      rw (up_here i xs x here, incarnation_here i xs x here, local_here t i xs x here, local_here t i ys y change.here, ← number)
-      (ticks.does t);
-  reading = λ c. bytes_here c i ys y change.here ∙ ap (bytes_of c) ticks.front ∙ sym (bytes_here c i xs x here);
-  up = up_here i ys y change.here ∙ ticks.up ∙ sym (up_here i xs x here);
-  idle = λ down. change.here ∙ ap Some (ticks.idle (sym (up_here i xs x here) ∙ down)) ∙ sym here;
-  quiet = λ down. ticks.quiet (sym (up_here i xs x here) ∙ down);
-}
-
-cause_here : (i : ℕ) (xs : List Instance) (x : Instance) → instance_at i xs ≡ Some x → cause_at i xs ≡ x.cause
-unfolding cause_at
-cause_here i xs x e = rw e refl
-
-stops_here : (i : ℕ) (xs ys : List Instance) (x y : Instance) (before after : List Output) →
-    instance_at i xs ≡ Some x → Changed i xs ys y → Stops x y before after → StopsAt i xs ys before after
-stops_here i xs ys x y before after here change stops = record {
-  worked = up_here i xs x here ∙ stops.worked;
-  down = down_here i ys y change.here stops.down stops.unread stops.lost;
-  cause = rw (cause_here i ys y change.here) stops.cause;
-  silent = stops.silent;
-}
-
-ends_here : (i moment : ℕ) (limits : List (List ℕ × Limits)) (goes_on : Bool) (xs ys : List Instance) (x y : Instance)
-    (before after : List Output) → instance_at i xs ≡ Some x → Changed i xs ys y → x.number ≡ i →
-    Either goes_on (Ticks moment limits x y before after) (Stops x y before after) →
-    Either goes_on (TicksAt i moment limits xs ys before after) (StopsAt i xs ys before after)
-ends_here i moment limits true xs ys x y before after here change number ends = ticks_here i moment limits xs ys x y before after here change number ends
-ends_here i moment limits false xs ys x y before after here change number ends = stops_here i xs ys x y before after here change ends
-
--- the turn of the instance at a place
-pub turn_here : (i moment : ℕ) (limits : List (List ℕ × Limits)) (goes_on : Bool) (xs ys : List Instance) (x y : Instance)
-    (before after : List Output) → instance_at i xs ≡ Some x → Changed i xs ys y → x.number ≡ i →
-    Either goes_on (Ticks moment limits x y before after) (Stops x y before after) → y.incarnation ≡ x.incarnation →
-    HasMore x.cache.refused y.cache.refused → TakesTurn i moment limits goes_on xs ys before after
-turn_here i moment limits goes_on xs ys x y before after here change number ends incarnation more = record {
-  ends = ends_here i moment limits goes_on xs ys x y before after here change number ends;
-  incarnation = same_or_more i xs ys x y here change incarnation;
-  others = change.others;
-  refused = refused_grown i xs ys x y here change more;
-}
-
-numbers_at : (n k : ℕ) (ns : List ℕ) → CountsFrom n ns → (item : ℕ) → slice_get ns k ≡ Some item → (n ≤ item) × (item < n + length ns)
-numbers_at n k [] counts item found = cc
-numbers_at n zero (m ∷ ns) (first, rest) item found = let is : m ≡ item = cc in (omega arith, omega arith)
-numbers_at n (suc k) (m ∷ ns) (first, rest) item found =
-    let later = numbers_at (suc n) k ns rest item found in
-    let least = later.0 in
-    let most = later.1 in
-    (omega arith, omega arith)
-
--- each of the numbers is an instance's
-pub number_exists : (k item : ℕ) → k < 8 → item ≡ slice_index_or numbers k item → is_instance item ≡ true
-number_exists k item less is =
-    let both = numbers_at 1 k numbers (refl, (refl, (refl, (refl, (refl, (refl, (refl, (refl, tt)))))))) item
-    (slice_get_read numbers 8 k item refl less is) in
-    let least = both.0 in
-    let most = both.1 in
-    grind (arith, nat_tests)
-
--- only instances are up
-pub exists_up : (xs : List Instance) → AreNumbered xs → (i : ℕ) → up_at i xs ≡ true → is_instance i ≡ true
-exists_up xs numbered i up = up_exists i xs numbered up
-
--- the outcome at a place
-pub outcome_here : (i moment : ℕ) (terms : Terms) (number tries : ℕ) (status : Option ℕ) (xs ys : List Instance) (x y : Instance) (t s : List ℕ) →
-    instance_at i xs ≡ Some x → Changed i xs ys y →
-    local_in t y ≡ (if same t s then (outcome (in_replica (here_of x moment terms)) number tries status (local_in t x)).local else local_in t x) →
-    local_at t i ys ≡ (if same t s then (outcome (in_replica (here_in moment terms i xs)) number tries status (local_at t i xs)).local else local_at t i xs)
-outcome_here i moment terms number tries status xs ys x y t s here change local =
-    local_here t i ys y change.here ∙ local
-    ∙ ap (λ h. if same t s then (outcome (in_replica h) number tries status (local_in t x)).local else local_in t x) (sym (here_here i moment terms xs x here))
-    ∙ ap (λ l. if same t s then (outcome (in_replica (here_in moment terms i xs)) number tries status l).local else l) (sym (local_here t i xs x here))
-
-pub outcome_fits : (i moment : ℕ) (terms : Terms) (number tries : ℕ) (status : Option ℕ) (xs : List Instance) (x : Instance) (s : List ℕ) →
-    instance_at i xs ≡ Some x →
-    (outcome (in_replica (here_of x moment terms)) number tries status (local_in s x)).fits ≡ true →
-    (outcome (in_replica (here_in moment terms i xs)) number tries status (local_at s i xs)).fits ≡ true
-outcome_fits i moment terms number tries status xs x s here fits =
-    ap (λ h. (outcome (in_replica h) number tries status (local_at s i xs)).fits) (here_here i moment terms xs x here)
-    ∙ ap (λ l. (outcome (in_replica (here_of x moment terms)) number tries status l).fits) (local_here s i xs x here) ∙ fits
-
-pub awaits_here : (attempt : AttemptName) (tries : ℕ) (xs : List Instance) (x : Instance) → instance_at attempt.instance xs ≡ Some x → (b : Bool) →
-    b ≡ ((x.incarnation == attempt.incarnation) && is_awaited attempt.number tries (local_in attempt.tenant x)) → b ≡ awaits_at attempt tries xs
-unfolding awaits_at
-awaits_here attempt tries xs x here b is =
-    rw (incarnation_here attempt.instance xs x here, local_here attempt.tenant attempt.instance xs x here) is
-
-pub awaits_nowhere : (attempt : AttemptName) (tries : ℕ) (xs : List Instance) → instance_at attempt.instance xs ≡ None → false ≡ awaits_at attempt tries xs
-unfolding awaits_at incarnation_at local_at is_awaited
-awaits_nowhere attempt tries xs e = rw e (elim (nat_eq 0 attempt.incarnation) as (λ b. false ≡ (b && false)) [ true ↦ refl | false ↦ refl ])

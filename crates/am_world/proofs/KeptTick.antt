@@ -147,7 +147,7 @@ faulted_tick w w' m faults allowed clock turns some limits service_key counted =
       worked = s.worked;
       some = λ none. absurd (some (s.counted ∙ none_stopped s.stopped none numbers));
       down = s.down;
-      causes = s.causes;
+      causes = λ i e. record { fault = (s.causes i e).fault; told = (s.causes i e).told; cause = (s.causes i e).cause };
       others = s.idle;
       incarnations = s.incarnations;
       outs = s.outs;

@@ -14,3 +14,4 @@ mod Run
 pub mod Steps
 mod Ticking
 mod Turns
+mod Working

@@ -1,5 +1,5 @@
 -- what a tick of all instances comes to, where none stopped and where some did
-use Rattle.std.proofs.Common.{◌≡◌, ◌≢◌, ◌∙◌, inl, inr, ℕ, ◌+◌, ◌<◌, ◌≤◌, ◌==◌, nat_eq, suc, Bool, true, false, not, ◌&&◌, ◌||◌, is_some, List, [], ◌∷◌, ◌++◌, map, filter, length, Option, Some, None, IsSome, refl, sym, ap, arith, if◌then◌else◌}
+use Rattle.std.proofs.Common.{◌≡◌, ◌≢◌, ◌∙◌, inl, inr, ℕ, ◌+◌, ◌<◌, ◌≤◌, ◌==◌, nat_eq, suc, Bool, true, false, not, ◌&&◌, ◌||◌, is_some, List, [], ◌∷◌, ◌++◌, map, filter, length, Option, Some, None, refl, sym, ap, arith, if◌then◌else◌}
 use Rattle.std.specs.List.{flat_map, list_all, list_any}
 use Rattle.std.proofs.lemmas.Bool.{cases_Bool}
 use Rattle.std.proofs.lemmas.Bool.Decides.{nat_tests}
@@ -15,10 +15,10 @@ use Rattle.am_tenant.proofs.Same.{same_tells}
 use Rattle.am_world.specs.declared.event.Output.{Output}
 use Rattle.am_world.specs.declared.instance.Instance.{Instance}
 use Rattle.am_world.specs.Outputs.{are_owned, front_outputs, is_front, is_tenant, outputs_of, owner}
-use Rattle.am_world.specs.Places.{IsDownAt, KeepRefused, SameElsewhere, bytes_at, bytes_where, cause_at, cause_where, incarnation_at, incarnation_where, instance_at, local_at, local_where, roster_of, up_at, up_where}
+use Rattle.am_world.specs.Places.{IsDownAt, KeepRefused, SameElsewhere, bytes_at, bytes_where, cause_at, cause_where, incarnation_at, incarnation_where, instance_at, local_at, local_where, refused_at, roster_of, up_at, up_where}
 use Rattle.am_world.specs.Reaction.{notice, output_of, tick_if}
 use Rattle.am_world.specs.Roster.{IsSameRoster}
-use Rattle.am_world.specs.Ticks.{StopsAt, TakeTurns, TakesTurn, TicksAt, notice_from}
+use Rattle.am_world.specs.Ticks.{CauseAt, StopsAt, TakeTurns, TakesTurn, TicksAt, notice_from}
 use Rattle.am_world.specs.View.{Watch}
 use Rattle.am_world.proofs.Built.{keep_equal, keep_then}
 use Rattle.am_world.proofs.InstancesLemmas.{CountsFrom}
@@ -201,12 +201,13 @@ all_ticked moment limits first n (m ∷ ns) xs ys before after faults (own, coun
 
 -- ---- some stopped
 
-pub record SomeStopped (ns : List ℕ) (xs ys : List Instance) (before after : List Output) (faults : ℕ) : Type 0 where
+pub record SomeStopped (moment : ℕ) (limits : List (List ℕ × Limits)) (ns : List ℕ) (xs ys : List Instance) (before after : List Output)
+    (faults : ℕ) : Type 0 where
   pub stopped : ℕ → Bool
   pub counted : faults ≡ length (filter stopped ns)
   pub worked : (i : ℕ) → stopped i ≡ true → up_at i xs ≡ true
   pub down : (i : ℕ) → stopped i ≡ true → IsDownAt i ys
-  pub causes : (i : ℕ) → stopped i ≡ true → IsSome (cause_at i ys)
+  pub causes : (i : ℕ) → stopped i ≡ true → CauseAt i moment limits xs ys
   pub idle : (i : ℕ) → up_at i xs ≡ false → instance_at i ys ≡ instance_at i xs
   pub elsewhere : (i : ℕ) → has i ns ≡ false → instance_at i ys ≡ instance_at i xs
   pub incarnations : (i : ℕ) → incarnation_at i ys ≡ incarnation_at i xs
@@ -215,8 +216,9 @@ pub record SomeStopped (ns : List ℕ) (xs ys : List Instance) (before after : L
   pub silent : ((i : ℕ) → has i ns ≡ true → up_at i xs ≡ true → stopped i ≡ true) → outs ≡ []
   pub refused : KeepRefused xs ys
 
-nobody_stopped : (xs : List Instance) (before : List Output) → SomeStopped [] xs xs before before 0
-nobody_stopped xs before = record {
+nobody_stopped : (moment : ℕ) (limits : List (List ℕ × Limits)) (xs : List Instance) (before : List Output) →
+    SomeStopped moment limits [] xs xs before before 0
+nobody_stopped moment limits xs before = record {
   stopped = λ i. false;
   counted = refl;
   worked = λ i never. absurd cc;
@@ -232,10 +234,11 @@ nobody_stopped xs before = record {
 }
 
 -- the turn of one instance, whether it went on or stopped
-record Turned (n : ℕ) (goes_on : Bool) (xs mid : List Instance) (before outs : List Output) : Type 0 where
+record Turned (n moment : ℕ) (limits : List (List ℕ × Limits)) (goes_on : Bool) (xs mid : List Instance) (before outs : List Output) :
+    Type 0 where
   worked : goes_on ≡ false → up_at n xs ≡ true
   down : goes_on ≡ false → IsDownAt n mid
-  cause : goes_on ≡ false → IsSome (cause_at n mid)
+  cause : goes_on ≡ false → CauseAt n moment limits xs mid
   idle : up_at n xs ≡ false → instance_at n mid ≡ instance_at n xs
   said : List Output
   appended : outs ≡ before ++ said
@@ -246,7 +249,7 @@ nothing_added [] ys e = e
 nothing_added (x ∷ xs) ys e = let rest : xs ++ ys ≡ xs = cc in nothing_added xs ys rest
 
 turned : (n moment : ℕ) (limits : List (List ℕ × Limits)) (goes_on : Bool) (xs mid : List Instance) (before outs : List Output) →
-    TakesTurn n moment limits goes_on xs mid before outs → Turned n goes_on xs mid before outs
+    TakesTurn n moment limits goes_on xs mid before outs → Turned n moment limits goes_on xs mid before outs
 turned n moment limits true xs mid before outs turn = record {
   worked = λ never. absurd cc;
   down = λ never. absurd cc;
@@ -277,9 +280,15 @@ down_same i xs ys e down = record {
   lost = λ t. ap (local_where t) e ∙ down.lost t;
 }
 
-cause_same : (i : ℕ) (xs ys : List Instance) → instance_at i ys ≡ instance_at i xs → IsSome (cause_at i xs) → IsSome (cause_at i ys)
-unfolding cause_at
-cause_same i xs ys e some = rw (ap cause_where e) some
+-- .. in the same two instances
+cause_same : (i moment : ℕ) (limits : List (List ℕ × Limits)) (xs xs' ys ys' : List Instance) → instance_at i xs' ≡ instance_at i xs →
+    instance_at i ys' ≡ instance_at i ys → CauseAt i moment limits xs ys → CauseAt i moment limits xs' ys'
+unfolding cause_at incarnation_at local_at refused_at
+cause_same i moment limits xs xs' ys ys' first last is = record {
+  fault = is.fault;
+  told = ap cause_where last ∙ is.told;
+  cause = rw (first, last) is.cause;
+}
 
 incarnation_everywhere : (n : ℕ) (xs ys : List Instance) → incarnation_at n ys ≡ incarnation_at n xs → SameElsewhere n xs ys →
     (i : ℕ) → incarnation_at i ys ≡ incarnation_at i xs
@@ -307,7 +316,8 @@ not_on false e = refl
 
 one_more : (n moment : ℕ) (limits : List (List ℕ × Limits)) (goes_on : Bool) (ns : List ℕ) (xs mid ys : List Instance)
     (before outs after : List Output) (rest : ℕ) → CountsFrom (suc n) ns → TakesTurn n moment limits goes_on xs mid before outs →
-    SomeStopped ns mid ys outs after rest → SomeStopped (n ∷ ns) xs ys before after (if goes_on then rest else rest + 1)
+    SomeStopped moment limits ns mid ys outs after rest →
+    SomeStopped moment limits (n ∷ ns) xs ys before after (if goes_on then rest else rest + 1)
 one_more n moment limits goes_on ns xs mid ys before outs after rest counts turn s =
     let one = turned n moment limits goes_on xs mid before outs turn in
     let itself : nat_eq n n ≡ true = grind (arith, nat_tests) in
@@ -330,8 +340,8 @@ one_more n moment limits goes_on ns xs mid ys before outs after rest counts turn
       ];
       causes = λ i e. elim (cases_Bool (nat_eq i n)) [
         | inl h ↦ let number : n ≡ i = grind (arith, nat_tests) in
-            rw (← number) (cause_same n mid ys (s.elsewhere n later) (one.cause (not_on goes_on (rw h at e))))
-        | inr h ↦ s.causes i (rw h at e)
+            rw (← number) (cause_same n moment limits xs xs mid ys refl (s.elsewhere n later) (one.cause (not_on goes_on (rw h at e))))
+        | inr h ↦ cause_same i moment limits mid xs ys ys (sym (turn.others i h)) refl (s.causes i (rw h at e))
       ];
       idle = λ i down. elim (cases_Bool (nat_eq i n)) [
         | inl h ↦ let number : i ≡ n = grind (arith, nat_tests) in
@@ -356,9 +366,9 @@ one_more n moment limits goes_on ns xs mid ys before outs after rest counts turn
 
 pub some_stopped : (moment : ℕ) (limits : List (List ℕ × Limits)) (n : ℕ) (ns : List ℕ) (xs ys : List Instance)
     (before after : List Output) (faults : ℕ) → CountsFrom n ns → TakeTurns moment limits ns xs ys before after faults →
-    SomeStopped ns xs ys before after faults
+    SomeStopped moment limits ns xs ys before after faults
 some_stopped moment limits n [] xs ys before after faults counts (is, silent, none) =
-    rw (is, silent, none) (nobody_stopped xs before)
+    rw (is, silent, none) (nobody_stopped moment limits xs before)
 some_stopped moment limits n (m ∷ ns) xs ys before after faults (own, counts) (mid, outs, goes_on, rest, one, others, counted) =
     let from : CountsFrom (suc m) ns = rw (sym own) at counts in
     rw counted (one_more m moment limits goes_on ns xs mid ys before outs after rest from one

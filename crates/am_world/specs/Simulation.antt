@@ -1,16 +1,23 @@
 -- that the world stands for the private cluster of every tenant at once, and that each event keeps it so
-use Rattle.std.specs.Prelude.{ℕ, ◌≡◌, ◌⊎◌, ◌==◌, if◌then◌else◌, ◌+◌, ◌^◌, ◌-◌, Bool, true, false, is_some, List, [], ◌++◌, Option, None, Some, IsSome, length, filter, min, max}
+use Rattle.std.specs.Prelude.{ℕ, ◌≡◌, ◌⊎◌, ◌==◌, if◌then◌else◌, ◌+◌, ◌^◌, ◌-◌, Bool, true, false, is_some, List, [], ◌++◌, Option, None, Some, length, filter, min, max}
 use Rattle.am_world.specs.declared.event.Event.{Event}
 use Rattle.am_world.specs.declared.event.Event.TheVariants as event
 use Rattle.am_world.specs.declared.event.Output.{Output}
 use Rattle.am_world.specs.declared.world.World.{World}
+use Rattle.am_http.specs.Verdict.{verdict}
+use Rattle.am_item.specs.declared.fault.Fault.{Fault}
+use Rattle.am_item.specs.declared.fault.Fault.TheVariants.{OutOfMemory}
 use Rattle.am_limit.specs.Books.{limits_of}
 use Rattle.am_limit.specs.declared.limits.Limits.{Limits}
+use Rattle.am_replica.specs.Delivery.{outcome}
+use Rattle.am_replica.specs.Held.{StopsFor as StopsReacting}
+use Rattle.am_replica.specs.Ticks.{StopsAt as StopsTicking, here_for}
 use Rattle.am_tenant.specs.Names.{same}
-use Rattle.am_world.specs.Moments.{clock_after}
+use Rattle.am_world.specs.Moments.{clock_after, effective}
 use Rattle.am_world.specs.Outputs.{outputs_of, front_outputs, front_told, are_owned}
-use Rattle.am_world.specs.Places.{instance_at, local_at, bytes_at, cause_at, up_at, incarnation_at, refused_at, roster_of, AreBuilt, IsDownAt, KeepRefused}
+use Rattle.am_world.specs.Places.{instance_at, here_in, local_at, bytes_at, cause_at, up_at, incarnation_at, refused_at, roster_of, AreBuilt, IsDownAt, KeepRefused}
 use Rattle.am_world.specs.PrivateCluster.{PrivateCluster, opened, after_all, told_all, fits_all, patterns_in}
+use Rattle.am_world.specs.Reaction.{IsCause, in_replica, terms_of}
 use Rattle.am_world.specs.Refusal.{refusal}
 use Rattle.am_world.specs.Roster.{IsSameRoster, roster_after}
 use Rattle.am_world.specs.Setup.{Origin, numbers}
@@ -116,11 +123,33 @@ works w (event.Limits tenant limits) j = false
 works w (event.Tick moment) j = up_at j w.instances
 works w (event.Outcome attempt tries moment status) j = j == attempt.instance
 
+-- why an event stops an instance of which it asks work: by what the instance had, and by the patterns that it had been refused
+-- the build of then; memory may run out anywhere
+abbrev pub StopsBy : World → Event → ℕ → Fault → List (List ℕ) → Type 0
+StopsBy w (event.Open c i) j fault refused = fault ≡ OutOfMemory
+StopsBy w (event.Bytes c moment piece) j fault refused =
+    (before : List ℕ) → bytes_at c j w.instances ≡ Some before → IsCause fault (verdict (before ++ piece))
+    (λ request. here_in (effective moment w.clock) (terms_of w.service_key w.limits request.tenant) j w.instances)
+    (λ t. local_at t j w.instances) refused
+StopsBy w (event.Close c) j fault refused = ⊥
+StopsBy w (event.Limits tenant limits) j fault refused = ⊥
+StopsBy w (event.Tick moment) j fault refused =
+    StopsTicking (here_for j (incarnation_at j w.instances) moment w.limits) (λ t. local_at t j w.instances) refused fault
+StopsBy w (event.Outcome attempt tries moment status) j fault refused = StopsReacting (outcome
+    (in_replica (here_in (effective moment w.clock) (terms_of w.service_key w.limits attempt.tenant) j w.instances))
+    attempt.number tries status (local_at attempt.tenant j w.instances)) fault
+
+-- the cause for which an instance is down after an event
+pub record StoppedBy (w : World) (e : Event) (i : ℕ) (w' : World) : Type 0 where
+  pub fault : Fault
+  pub told : cause_at i w'.instances ≡ Some fault
+  pub cause : StopsBy w e i fault (refused_by w' i)
+
 -- one fault for each instance that stopped, and one where an event asks work of none
 abbrev pub faults_of : (ℕ → Bool) → ℕ
 faults_of stopped = max 1 (length (filter stopped numbers))
 
--- an event that met a fault: it wasn't refused, and instances of which it asked work stopped. They are down, each for a
+-- an event that met a fault: it wasn't refused, and instances of which it asked work stopped. They are down, each for its
 -- cause, and have put nothing out; every instance that had no work is as it was
 pub record Faulted (w : World) (e : Event) (w' : World) : Type 0 where
   pub taken : refusal w e ≡ None
@@ -128,7 +157,7 @@ pub record Faulted (w : World) (e : Event) (w' : World) : Type 0 where
   pub worked : (i : ℕ) → stopped i ≡ true → works w e i ≡ true
   pub some : ((i : ℕ) → stopped i ≡ false) → (i : ℕ) → works w e i ≡ false
   pub down : (i : ℕ) → stopped i ≡ true → IsDownAt i w'.instances
-  pub causes : (i : ℕ) → stopped i ≡ true → IsSome (cause_at i w'.instances)
+  pub causes : (i : ℕ) → stopped i ≡ true → StoppedBy w e i w'
   pub others : (i : ℕ) → works w e i ≡ false → instance_at i w'.instances ≡ instance_at i w.instances
   pub incarnations : (i : ℕ) →
       incarnation_at i w'.instances ≡ (roster_after e (roster_of w.instances)).incarnation i

@@ -1,13 +1,14 @@
 -- a tick of the instances, of all tenants
-use Rattle.std.specs.Prelude.{ℕ, ◌≡◌, ◌+◌, Bool, true, false, List, [], ◌∷◌, ◌++◌, map, None, IsSome, if◌then◌else◌}
+use Rattle.std.specs.Prelude.{ℕ, ◌≡◌, ◌+◌, Bool, true, false, List, [], ◌∷◌, ◌++◌, map, None, Some, if◌then◌else◌}
 use Rattle.am_http.specs.Connections.{bytes_of}
+use Rattle.am_item.specs.declared.fault.Fault.{Fault}
 use Rattle.am_limit.specs.declared.limits.Limits.{Limits}
 use Rattle.am_replica.specs.declared.dispatch.Dispatch.{Dispatch}
 use Rattle.am_replica.specs.Local.{blank}
-use Rattle.am_replica.specs.Ticks.{IsDone, here_for, said_of}
+use Rattle.am_replica.specs.Ticks.{IsDone, StopsAt as StopsTicking, here_for, said_of}
 use Rattle.am_world.specs.declared.event.Output.{Output}
 use Rattle.am_world.specs.declared.instance.Instance.{Instance}
-use Rattle.am_world.specs.Places.{IsDownAt, KeepRefused, SameElsewhere, bytes_at, cause_at, incarnation_at, instance_at, local_at, local_in, up_at}
+use Rattle.am_world.specs.Places.{IsDownAt, KeepRefused, SameElsewhere, bytes_at, cause_at, incarnation_at, instance_at, local_at, local_in, refused_at, up_at}
 use Rattle.am_world.specs.Reaction.{notice, tick_if}
 
 -- the first of two facts where a test passes, else the second
@@ -31,13 +32,15 @@ pub record Ticks (moment : ℕ) (limits : List (List ℕ × Limits)) (x x' : Ins
   pub idle : x.up ≡ false → x' ≡ x
   pub quiet : x.up ≡ false → after ≡ before
 
--- a fault stopped it, and it put nothing out
-pub record Stops (x x' : Instance) (before after : List Output) : Type 0 where
+-- a fault stopped it, for a cause in what it had of all tenants, and it put nothing out
+pub record Stops (moment : ℕ) (limits : List (List ℕ × Limits)) (x x' : Instance) (before after : List Output) : Type 0 where
   pub worked : x.up ≡ true
   pub down : x'.up ≡ false
   pub unread : (c : ℕ) → bytes_of c x'.front ≡ None
   pub lost : (t : List ℕ) → local_in t x' ≡ blank
-  pub cause : IsSome x'.cause
+  pub fault : Fault
+  pub told : x'.cause ≡ Some fault
+  pub cause : StopsTicking (here_for x.number x.incarnation moment limits) (λ t. local_in t x) x'.cache.refused fault
   pub silent : after ≡ before
 
 -- ---- the same by numbers
@@ -54,16 +57,23 @@ pub record TicksAt (i moment : ℕ) (limits : List (List ℕ × Limits)) (xs ys 
   pub idle : up_at i xs ≡ false → instance_at i ys ≡ instance_at i xs
   pub quiet : up_at i xs ≡ false → after ≡ before
 
-pub record StopsAt (i : ℕ) (xs ys : List Instance) (before after : List Output) : Type 0 where
+-- why the instance of a number stopped
+pub record CauseAt (i moment : ℕ) (limits : List (List ℕ × Limits)) (xs ys : List Instance) : Type 0 where
+  pub fault : Fault
+  pub told : cause_at i ys ≡ Some fault
+  pub cause : StopsTicking (here_for i (incarnation_at i xs) moment limits) (λ t. local_at t i xs) (refused_at i ys) fault
+
+pub record StopsAt (i moment : ℕ) (limits : List (List ℕ × Limits)) (xs ys : List Instance) (before after : List Output) :
+    Type 0 where
   pub worked : up_at i xs ≡ true
   pub down : IsDownAt i ys
-  pub cause : IsSome (cause_at i ys)
+  pub cause : CauseAt i moment limits xs ys
   pub silent : after ≡ before
 
 -- the turn of the instance of a number: it goes on, or stops
 pub record TakesTurn (i moment : ℕ) (limits : List (List ℕ × Limits)) (goes_on : Bool) (xs ys : List Instance)
     (before after : List Output) : Type 0 where
-  pub ends : Either goes_on (TicksAt i moment limits xs ys before after) (StopsAt i xs ys before after)
+  pub ends : Either goes_on (TicksAt i moment limits xs ys before after) (StopsAt i moment limits xs ys before after)
   pub incarnation : incarnation_at i ys ≡ incarnation_at i xs
   pub others : SameElsewhere i xs ys
   pub refused : KeepRefused xs ys

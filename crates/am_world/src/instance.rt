@@ -138,7 +138,7 @@ impl Instance {
         outputs: &mut Vec<Output>,
     ) -> bool
         ensures ends { Either result (Ticks moment limits.now self.old self.new outputs.old.items outputs.new.items)
-            (Stops self.old self.new outputs.old.items outputs.new.items) }
+            (Stops moment limits.now self.old self.new outputs.old.items outputs.new.items) }
         ensures incarnation { self.new.incarnation ≡ self.old.incarnation }
         ensures number { self.new.number ≡ self.old.number }
         ensures refused { HasMore self.old.cache.refused self.new.cache.refused }

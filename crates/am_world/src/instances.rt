@@ -1,7 +1,9 @@
 //! The eight instances, by number.
 
-ghost use Rattle.std.specs.Prelude.{◌≡◌, ◌==◌, ◌+◌, ◌<◌, true, ℕ, List, [], ◌++◌, Option, None, Some, IfOk, OnOk, OnErr, IfSome, IfNone, IsSome, IsTrue, find, is_some, option_copied, if◌then◌else◌};
+ghost use Rattle.std.specs.Prelude.{◌≡◌, ◌==◌, ◌+◌, ◌<◌, true, ℕ, List, [], ◌++◌, Option, None, Some, IfOk, IfErr, OnOk, OnErr, IfSome, IfNone, IsSome, IsTrue, find, is_some, option_copied, if◌then◌else◌};
+ghost use Rattle.am_http.specs.Verdict.{verdict};
 ghost use Rattle.am_replica.specs.Delivery.{outcome};
+ghost use Rattle.am_replica.specs.Held.{StopsFor as StopsReacting};
 ghost use Rattle.am_tenant.specs.Names.{same};
 ghost use Rattle.am_world.specs.Roster.{IsSameRoster, opened_roster};
 ghost use Rattle.am_world.specs.Setup.{Origin, is_instance, numbers};
@@ -44,7 +46,7 @@ impl Model for Instances {
 impl Instances {
     ghost use Rattle.am_world.specs.Places.{IsDownAt, IsReadOnce, KeepRefused, SameElsewhere, awaits_at, bytes_at, cause_at, here_in, incarnation_at, instance_at, local_at, reader_of, reads, refused_at, roster_of, up_at};
     ghost use Rattle.am_replica.specs.Local.{blank};
-    ghost use Rattle.am_world.specs.Reaction.{Terms, in_replica, terms_of};
+    ghost use Rattle.am_world.specs.Reaction.{IsCause, Terms, in_replica, terms_of};
 
     /// All instances in their first incarnation. None reads or has anything, and those that serve are up. Each keeps at
     /// most `capacity` patterns built, by hashes of which `hash_key` is the secret.
@@ -257,6 +259,9 @@ impl Instances {
         ensures fits { IfOk result (λ _. (terms : Terms) → terms.limits ≡ limits →
             (outcome (in_replica (here_in moment terms attempt.now.instance self.old)) attempt.now.number tries status
             (local_at attempt.now.tenant attempt.now.instance self.old)).fits ≡ true) }
+        ensures cause { IfErr result (λ fault. (terms : Terms) → terms.limits ≡ limits → StopsReacting (outcome
+            (in_replica (here_in moment terms attempt.now.instance self.old)) attempt.now.number tries status
+            (local_at attempt.now.tenant attempt.now.instance self.old)) fault) }
         ensures others { SameElsewhere attempt.now.instance self.old self.new }
         ensures reading { (c i : ℕ) → bytes_at c i self.new ≡ bytes_at c i self.old }
         ensures roster { IsSameRoster (roster_of self.new) (roster_of self.old) }
@@ -284,6 +289,10 @@ impl Instances {
             Takes number connection (before ++ piece.now) moment (λ t. terms_of service_key.now limits.now t)
             self.old self.new outputs.old.items outputs.new.items) }
         ensures silent { OnErr result (outputs.new.items ≡ outputs.old.items) }
+        ensures cause { IfErr result (λ fault. (before : List ℕ) → bytes_at connection number self.old ≡ Some before →
+            IsCause fault (verdict (before ++ piece.now))
+            (λ request. here_in moment (terms_of service_key.now limits.now request.tenant) number self.old)
+            (λ t. local_at t number self.old) (refused_at number self.new)) }
         ensures others { SameElsewhere number self.old self.new }
         ensures incarnation { incarnation_at number self.new ≡ incarnation_at number self.old }
         ensures refused { KeepRefused self.old self.new }

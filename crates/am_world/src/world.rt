@@ -11,6 +11,7 @@ use am_limit::{LimitBook, Limits};
 use am_tenant::TenantName;
 use am_text::{Moment, Octets};
 use std::alloc::{AllocError, Global};
+use std::mem;
 
 /// All instances, the clock, and what was put out so far.
 #[derive(Drop)]
@@ -59,6 +60,14 @@ impl World {
         ensures { Forgets self.old self.new }
     {
         self.outputs.clear();
+    }
+
+    /// Hands over what was put out so far, in order, and forgets it.
+    pub fn take_outputs(&mut self, alloc: Global) -> Vec<Output>
+        ensures taken { result.items ≡ put_out self.old }
+        ensures forgets { Forgets self.old self.new }
+    {
+        mem::replace(&mut self.outputs, Vec::new(alloc))
     }
 
     /// How many faults came so far, at most 2^64 - 1.

@@ -1,5 +1,5 @@
 -- What is reported event by event, and what pieces on a connection come to.
-use Rattle.std.proofs.Common.{◌≡◌, ℕ, suc, ◌+◌, ◌<◌, ◌≤◌, min, Bool, true, false, List, [], ◌∷◌, ◌++◌, length, get_or, drop, drop-cons, add-one, string_bytes, Option, None, Some, IsSome, MatchOption, Result, Ok, Err, IsOk, is_ok, refl, sym, ap, ◌∙◌, arith, append-nil, append_assoc}
+use Rattle.std.proofs.Common.{◌≡◌, ℕ, suc, ◌+◌, ◌<◌, ◌≤◌, min, Bool, true, false, List, [], ◌∷◌, ◌++◌, length, get_or, drop, drop-cons, add-one, string_bytes, Option, None, Some, IsSome, MatchOption, Result, Ok, Err, IsOk, is_ok, inl, inr, refl, sym, ap, ◌∙◌, arith, append-nil, append_assoc}
 use Rattle.std.proofs.lemmas.Bool.Decides.{nat_tests}
 use Rattle.std.proofs.lemmas.List.Concat.{flat_map-append}
 use Rattle.std.specs.Io.KnownBytes.{Appends, Keeps}
@@ -15,6 +15,7 @@ use Rattle.am_world.specs.Simulation.{Step, put_out}
 use Rattle.amring.specs.declared.play.Player.{Player}
 use Rattle.amring.specs.declared.report.Report.{Report}
 use Rattle.amring.specs.declared.report.Try.{Try}
+use Rattle.amring.specs.Link.{Answers, Carries}
 use Rattle.amring.specs.Playing.{Happens, Either, Gives, Settles, happened, goes_on, is_piece}
 use Rattle.amring.specs.Trace.{Happened, Grows, Reports, text_of, outputs, printed, output_line, refusal_line}
 use Rattle.amring.specs.Tries.{try_of, tries_in}
@@ -141,40 +142,57 @@ piece_fits size piece rest is_size cut some =
     grind (arith, nat_tests)
 
 -- no bytes came
-pub gives_nothing : (c : ℕ) (p : Player) → Gives c p [] p []
-gives_nothing c p = record { pieces = []; left = []; cut = refl; sizes = refl; come = (refl, refl, refl) }
+pub gives_nothing : (carries : Carries) (c : ℕ) (p : Player) → Gives carries c p [] p []
+gives_nothing carries c p =
+    record { pieces = []; left = []; cut = refl; sizes = refl; come = (inl refl, refl, refl) }
+
+-- the next piece was lost
+pub gives_lost : (carries : Carries) (c : ℕ) (p : Player) (piece after : List ℕ) → is_piece piece ≡ true →
+    carries piece false → Gives carries c p (piece ++ after) p []
+gives_lost carries c p piece after size lost = record {
+  pieces = [];
+  left = piece ++ after;
+  cut = refl;
+  sizes = refl;
+  come = (
+    inr (record { piece = piece; after = after; cut = refl; size = size; lost = lost }),
+    refl,
+    refl,
+  );
+}
 
 -- a piece came, and then others
-pub gives_more : (c : ℕ) (p mid p' : Player) (piece bytes : List ℕ) (first rest : List Happened) →
-    is_piece piece ≡ true → Happens p (event.Bytes c p.moment piece) mid first →
-    goes_on c p (event.Bytes c p.moment piece) mid ≡ true → Gives c mid bytes p' rest →
-    Gives c p (piece ++ bytes) p' (first ++ rest)
-gives_more c p mid p' piece bytes first rest size happens goes given = record {
+pub gives_more : (carries : Carries) (c : ℕ) (p mid p' : Player) (piece bytes : List ℕ) (first rest : List Happened) →
+    is_piece piece ≡ true → carries piece true → Happens p (event.Bytes c p.moment piece) mid first →
+    goes_on c p (event.Bytes c p.moment piece) mid ≡ true → Gives carries c mid bytes p' rest →
+    Gives carries c p (piece ++ bytes) p' (first ++ rest)
+gives_more carries c p mid p' piece bytes first rest size came happens goes given = record {
   pieces = piece ∷ given.pieces;
   left = given.left;
   cut = ap (λ s. piece ++ s) given.cut ∙ sym (append_assoc piece _ given.left);
   sizes = rw size given.sizes;
-  come = (mid, first, rest, happens, refl, rw goes given.come);
+  come = (mid, first, rest, came, happens, refl, rw goes given.come);
 }
 
 -- a piece came and ended the line
-pub gives_last : (c : ℕ) (p mid : Player) (piece left : List ℕ) (first : List Happened) → is_piece piece ≡ true →
-    Happens p (event.Bytes c p.moment piece) mid first →
-    goes_on c p (event.Bytes c p.moment piece) mid ≡ false → Gives c p (piece ++ left) mid first
-gives_last c p mid piece left first size happens ends = record {
+pub gives_last : (carries : Carries) (c : ℕ) (p mid : Player) (piece left : List ℕ) (first : List Happened) →
+    is_piece piece ≡ true → carries piece true → Happens p (event.Bytes c p.moment piece) mid first →
+    goes_on c p (event.Bytes c p.moment piece) mid ≡ false → Gives carries c p (piece ++ left) mid first
+gives_last carries c p mid piece left first size came happens ends = record {
   pieces = piece ∷ [];
   left = left;
   cut = ap (λ s. s ++ left) (sym (append-nil piece));
   sizes = rw size refl;
-  come = (mid, first, [], happens, sym (append-nil first), rw ends (refl, refl, refl));
+  come = (mid, first, [], came, happens, sym (append-nil first), rw ends (refl, refl, refl));
 }
 
 -- one of the tries got its outcome, and then the others
-pub settles_more : (p mid p' : Player) (tries : List Try) (i : ℕ) (awaited : Try) (first rest : List Happened) →
-    i < length tries → awaited ≡ get_or tries i awaited →
-    Happens p (event.Outcome awaited.attempt awaited.tries p.moment p.hook) mid first →
-    Settles mid (drop (i + 1) tries) p' rest → Settles p (drop i tries) p' (first ++ rest)
-settles_more p mid p' tries i awaited first rest below is happens later =
+pub settles_more : (answers : Answers) (p mid p' : Player) (tries : List Try) (i : ℕ) (awaited : Try)
+    (status : Option ℕ) (first rest : List Happened) →
+    i < length tries → awaited ≡ get_or tries i awaited → answers awaited.request p.hook status →
+    Happens p (event.Outcome awaited.attempt awaited.tries p.moment status) mid first →
+    Settles answers mid (drop (i + 1) tries) p' rest → Settles answers p (drop i tries) p' (first ++ rest)
+settles_more answers p mid p' tries i awaited status first rest below is answered happens later =
     let cut : drop i tries ≡ awaited ∷ drop (i + 1) tries =
     rw add-one (drop-cons tries i awaited below ∙ ap (λ t. t ∷ drop (suc i) tries) (sym is)) in
-    rw cut (mid, first, rest, happens, refl, later)
+    rw cut (status, mid, first, rest, answered, happens, refl, later)

@@ -6,6 +6,7 @@ use Rattle.std.specs.Io.BufRead.{take_through, drop_through, strip_last, first_p
 use Rattle.std.specs.Io.KnownBytes.{IsAtEnd}
 use Rattle.std.proofs.lemmas.Bool.Decides.{nat_tests}
 use Rattle.amring.specs.Line.{command_of}
+use Rattle.amring.specs.Link.{Answers, Carries}
 use Rattle.amring.specs.Playing.{Does, Plays}
 use Rattle.amring.specs.Scenario.{Course, lines_of}
 use Rattle.amring.specs.Trace.{Happened}
@@ -56,9 +57,10 @@ lines_of-piece (x ∷ xs) = by (eqb x 10) refl (lines_of-piece xs)
     )
 
 -- a line that is empty does nothing
-plays_end : (n : ℕ) (p : Player) → Plays n p (lines_of []) All [] p
+plays_end : (carries : Carries) (answers : Answers) (n : ℕ) (p : Player) →
+    Plays carries answers n p (lines_of []) All [] p
 unfolding command_of
-plays_end n p = (p, [], [], (p, [], [], (refl, refl), refl, (refl, refl)), refl, (refl, refl, refl))
+plays_end carries answers n p = (p, [], [], (p, [], [], (refl, refl), refl, (refl, refl)), refl, (refl, refl, refl))
 
 -- lines were read, and what is left of known bytes has the others; nothing is left behind a line without a line end
 abbrev pub Rest : Option (List ℕ) → Option (List ℕ) → List (List ℕ) → Type 0
@@ -68,19 +70,21 @@ Rest (Some bytes) (Some left) lines =
     (lines_of bytes ≡ lines ++ lines_of left) ⊎ ((lines_of bytes ≡ lines) × (left ≡ []))
 
 -- n lines were played, and this happened; whatever the others come to follows
-pub record Upto (start : Player) (bytes : Option (List ℕ)) (p : Player) (left : Option (List ℕ)) (n : ℕ)
-    (trace : List Happened) : Type 0 where
+pub record Upto (carries : Carries) (answers : Answers) (start : Player) (bytes : Option (List ℕ)) (p : Player)
+    (left : Option (List ℕ)) (n : ℕ) (trace : List Happened) : Type 0 where
   pub lines : List (List ℕ)
   pub rest : Rest bytes left lines
   pub plays : (others : List (List ℕ)) (played : Played) (more : List Happened) (end : Player) →
-      Plays (n + 1) p others played more end → Plays 1 start (lines ++ others) played (trace ++ more) end
+      Plays carries answers (n + 1) p others played more end →
+      Plays carries answers 1 start (lines ++ others) played (trace ++ more) end
 
 -- the next line is the first piece of what is left
 abbrev pub IsNext : Option (List ℕ) → List ℕ → Type 0
 IsNext left line = IfSome left (λ xs. (0 < length xs) × (line ≡ first_piece 10 xs))
 
-pub upto_first : (start : Player) (bytes left : Option (List ℕ)) → left ≡ bytes → Upto start bytes start left 0 []
-upto_first start bytes left same =
+pub upto_first : (carries : Carries) (answers : Answers) (start : Player) (bytes left : Option (List ℕ)) →
+    left ≡ bytes → Upto carries answers start bytes start left 0 []
+upto_first carries answers start bytes left same =
     record { lines = []; rest = rw same (by bytes); plays = λ others played more end plays. plays }
   where
     by : (bytes : Option (List ℕ)) → Rest bytes bytes []
@@ -102,12 +106,14 @@ rest_more (Some bytes) (Some left) new lines line (inl rest) next drops =
 rest_more (Some bytes) (Some left) new lines line (inr rest) next drops = let none : 0 < 0 =
     rw rest.1 at next.0 in absurd (omega arith)
 
-pub upto_more : (start p mid : Player) (bytes old new : Option (List ℕ)) (n : ℕ) (line : List ℕ) (command : Command)
+pub upto_more : (carries : Carries) (answers : Answers) (start p mid : Player) (bytes old new : Option (List ℕ))
+    (n : ℕ) (line : List ℕ) (command : Command)
     (trace first : List Happened) →
-    Upto start bytes p old n trace → IsNext old line → DropsThrough old new 10 → command_of line ≡ Some command →
-    Does p command mid first →
-    Upto start bytes mid new (n + 1) (trace ++ first)
-upto_more start p mid bytes old new n line command trace first upto next drops is does = record {
+    Upto carries answers start bytes p old n trace → IsNext old line → DropsThrough old new 10 →
+    command_of line ≡ Some command →
+    Does carries answers p command mid first →
+    Upto carries answers start bytes mid new (n + 1) (trace ++ first)
+upto_more carries answers start p mid bytes old new n line command trace first upto next drops is does = record {
   lines = upto.lines ++ line ∷ [];
   rest = rest_more bytes old new upto.lines line upto.rest next drops;
   plays = λ others played more end plays. rw (append_assoc upto.lines (line ∷ []) others, append_assoc trace first more)
@@ -115,11 +121,12 @@ upto_more start p mid bytes old new n line command trace first upto next drops i
 }
 
 -- these others are left
-ends_with : (start p : Player) (bytes left : Option (List ℕ)) (n : ℕ) (trace : List Happened)
-    (upto : Upto start bytes p left n trace) (others : List (List ℕ)) (played : Played) →
-    Plays (n + 1) p others played [] p → IfSome bytes (λ bytes. upto.lines ++ others ≡ lines_of bytes) →
-    Course start bytes played trace p
-ends_with start p bytes left n trace upto others played plays read =
+ends_with : (carries : Carries) (answers : Answers) (start p : Player) (bytes left : Option (List ℕ)) (n : ℕ)
+    (trace : List Happened)
+    (upto : Upto carries answers start bytes p left n trace) (others : List (List ℕ)) (played : Played) →
+    Plays carries answers (n + 1) p others played [] p → IfSome bytes (λ bytes. upto.lines ++ others ≡ lines_of bytes) →
+    Course carries answers start bytes played trace p
+ends_with carries answers start p bytes left n trace upto others played plays read =
     record {
       lines = upto.lines ++ others;
       are_read = read;
@@ -128,31 +135,38 @@ ends_with start p bytes left n trace upto others played plays read =
     }
 
 -- a line that is no command ends it
-pub upto_bad : (start p : Player) (bytes left : Option (List ℕ)) (n : ℕ) (line : List ℕ) (trace : List Happened) →
-    Upto start bytes p left n trace → IsNext left line → command_of line ≡ None →
-    Course start bytes (BadLine (n + 1)) trace p
-upto_bad start p None left n line trace upto next bad =
-    ends_with start p None left n trace upto (line ∷ []) (BadLine (n + 1)) (rw bad (refl, refl, refl)) tt
-upto_bad start p (Some bytes) None n line trace upto next bad = absurd upto.rest
-upto_bad start p (Some bytes) (Some left) n line trace upto next bad = elim upto.rest [
+pub upto_bad : (carries : Carries) (answers : Answers) (start p : Player) (bytes left : Option (List ℕ)) (n : ℕ)
+    (line : List ℕ) (trace : List Happened) →
+    Upto carries answers start bytes p left n trace → IsNext left line → command_of line ≡ None →
+    Course carries answers start bytes (BadLine (n + 1)) trace p
+upto_bad carries answers start p None left n line trace upto next bad =
+    ends_with carries answers start p None left n trace upto (line ∷ []) (BadLine (n + 1))
+    (rw bad (refl, refl, refl)) tt
+upto_bad carries answers start p (Some bytes) None n line trace upto next bad = absurd upto.rest
+upto_bad carries answers start p (Some bytes) (Some left) n line trace upto next bad = elim upto.rest [
   | inl rest ↦ elim (lines_of-piece left) [
-    | inl h ↦ ends_with start p (Some bytes) (Some left) n trace upto
+    | inl h ↦ ends_with carries answers start p (Some bytes) (Some left) n trace upto
         (first_piece 10 left ∷ lines_of (drop_through 10 left)) (BadLine (n + 1))
         (rw (← next.1, bad) (refl, refl, refl)) (sym (rest ∙ ap (λ l. upto.lines ++ l) h))
-    | inr h ↦ ends_with start p (Some bytes) (Some left) n trace upto (first_piece 10 left ∷ []) (BadLine (n + 1))
+    | inr h ↦ ends_with carries answers start p (Some bytes) (Some left) n trace upto (first_piece 10 left ∷ [])
+        (BadLine (n + 1))
         (rw (← next.1, bad) (refl, refl, refl)) (sym (rest ∙ ap (λ l. upto.lines ++ l) h.0))
   ]
   | inr rest ↦ let none : 0 < 0 = rw rest.1 at next.0 in absurd (omega arith)
 ]
 
 -- the reader's end does
-pub upto_end : (start p : Player) (bytes left : Option (List ℕ)) (n : ℕ) (trace : List Happened) →
-    Upto start bytes p left n trace → IsAtEnd left → Course start bytes All trace p
-upto_end start p None left n trace upto end = ends_with start p None left n trace upto [] All (refl, refl, refl) tt
-upto_end start p (Some bytes) None n trace upto end = absurd upto.rest
-upto_end start p (Some bytes) (Some left) n trace upto end = elim upto.rest [
-  | inl rest ↦ ends_with start p (Some bytes) (Some left) n trace upto (lines_of []) All (plays_end (n + 1) p)
+pub upto_end : (carries : Carries) (answers : Answers) (start p : Player) (bytes left : Option (List ℕ)) (n : ℕ)
+    (trace : List Happened) →
+    Upto carries answers start bytes p left n trace → IsAtEnd left → Course carries answers start bytes All trace p
+upto_end carries answers start p None left n trace upto end =
+    ends_with carries answers start p None left n trace upto [] All (refl, refl, refl) tt
+upto_end carries answers start p (Some bytes) None n trace upto end = absurd upto.rest
+upto_end carries answers start p (Some bytes) (Some left) n trace upto end = elim upto.rest [
+  | inl rest ↦
+      ends_with carries answers start p (Some bytes) (Some left) n trace upto (lines_of []) All
+      (plays_end carries answers (n + 1) p)
       (sym (rest ∙ ap (λ l. upto.lines ++ lines_of l) end))
-  | inr rest ↦ ends_with start p (Some bytes) (Some left) n trace upto [] All (refl, refl, refl)
+  | inr rest ↦ ends_with carries answers start p (Some bytes) (Some left) n trace upto [] All (refl, refl, refl)
       (append-nil upto.lines ∙ sym rest.0)
 ]

@@ -11,6 +11,7 @@ use Rattle.am_world.specs.Simulation.{Step, fault_count, put_out, refused_by}
 use Rattle.am_world.specs.View.{first_watch, names_once}
 use Rattle.am_world.proofs.Steps.{Steps, alone}
 use Rattle.amring.specs.Line.{command_of}
+use Rattle.amring.specs.Link.{Answers, Carries}
 use Rattle.amring.specs.Playing.{Happens, Either, Come, Gives, Calls, Obeys, Settles, Does, Plays, IsStart, goes_on}
 use Rattle.amring.specs.Scenario.{Course, AloneUntilFault}
 use Rattle.amring.specs.Trace.{Happened, events, outputs, no_fault, unbuilt, unbuilt_after}
@@ -44,77 +45,89 @@ happens_traced : (p : Player) (e : Event) (p' : Player) (trace : List Happened) 
     Traced p.world trace p'.world
 happens_traced p e p' trace h = rw h.traced (h.before, p'.world, h.forgets, h.step, refl, refl, λ i. refl, refl)
 
-come_traced : (c : ℕ) (p : Player) (pieces : List (List ℕ)) (left : List ℕ) (p' : Player) (trace : List Happened) →
-    Come c p pieces left p' trace → Traced p.world trace p'.world
-come_traced c p [] left p' trace (none, same, nothing) =
+come_traced : (carries : Carries) (c : ℕ) (p : Player) (pieces : List (List ℕ)) (left : List ℕ) (p' : Player)
+    (trace : List Happened) →
+    Come carries c p pieces left p' trace → Traced p.world trace p'.world
+come_traced carries c p [] left p' trace (over, same, nothing) =
     traced_nothing p p' trace (ap (λ (x : Player). x.world) same) nothing
-come_traced c p (piece ∷ pieces) left p' trace (mid, first, rest, happens, both, more) =
+come_traced carries c p (piece ∷ pieces) left p' trace (mid, first, rest, came, happens, both, more) =
     rw both (traced_more p.world first rest mid.world p'.world
     (happens_traced p (event.Bytes c p.moment piece) mid first happens)
-    (by (goes_on c p (event.Bytes c p.moment piece) mid) (come_traced c mid pieces left p' rest) more))
+    (by (goes_on c p (event.Bytes c p.moment piece) mid) (come_traced carries c mid pieces left p' rest) more))
   where
-    by : (b : Bool) → (Come c mid pieces left p' rest → Traced mid.world rest p'.world) →
-        Either b (Come c mid pieces left p' rest) ((pieces ≡ []) × (p' ≡ mid) × (rest ≡ [])) →
+    by : (b : Bool) → (Come carries c mid pieces left p' rest → Traced mid.world rest p'.world) →
+        Either b (Come carries c mid pieces left p' rest) ((pieces ≡ []) × (p' ≡ mid) × (rest ≡ [])) →
         Traced mid.world rest p'.world
     by true later come = later come
     by false later (none, same, nothing) = traced_nothing mid p' rest (ap (λ (x : Player). x.world) same) nothing
 
-calls_traced : (c : ℕ) (p : Player) (i : ℕ) (text : List ℕ) (p' : Player) (trace : List Happened) →
-    Calls c p i text p' trace → Traced p.world trace p'.world
-calls_traced c p i text p' trace (mid, first, rest, happens, both, more) =
+calls_traced : (carries : Carries) (c : ℕ) (p : Player) (i : ℕ) (text : List ℕ) (p' : Player)
+    (trace : List Happened) → Calls carries c p i text p' trace → Traced p.world trace p'.world
+calls_traced carries c p i text p' trace (mid, first, rest, happens, both, more) =
     rw both (traced_more p.world first rest mid.world p'.world (happens_traced p (event.Open c i) mid first happens)
     (by (is_none (refusal p.world (event.Open c i))) more))
   where
-    by : (b : Bool) → Either b (Gives c mid text p' rest) ((p' ≡ mid) × (rest ≡ [])) → Traced mid.world rest p'.world
-    by true gives = come_traced c mid gives.pieces gives.left p' rest gives.come
+    by : (b : Bool) → Either b (Gives carries c mid text p' rest) ((p' ≡ mid) × (rest ≡ [])) →
+        Traced mid.world rest p'.world
+    by true gives = come_traced carries c mid gives.pieces gives.left p' rest gives.come
     by false (same, nothing) = traced_nothing mid p' rest (ap (λ (x : Player). x.world) same) nothing
 
-obeys_traced : (p : Player) (command : Command) (p' : Player) (trace : List Happened) → Obeys p command p' trace →
+obeys_traced : (carries : Carries) (p : Player) (command : Command) (p' : Player) (trace : List Happened) →
+    Obeys carries p command p' trace →
     Traced p.world trace p'.world
-obeys_traced p Skip p' trace (same, nothing) = traced_nothing p p' trace (ap (λ (x : Player). x.world) same) nothing
-obeys_traced p Pump p' trace (same, nothing) = traced_nothing p p' trace (ap (λ (x : Player). x.world) same) nothing
-obeys_traced p (At moment) p' trace (same, nothing) = traced_nothing p p' trace (ap (λ (x : Player). x.world) same)
-    nothing
-obeys_traced p (Hook status) p' trace (same, nothing) = traced_nothing p p' trace (ap (λ (x : Player). x.world) same)
-    nothing
-obeys_traced p Tick p' trace happens = happens_traced p (event.Tick p.moment) p' trace happens
-obeys_traced p (Limits tenant limits) p' trace happens =
-    happens_traced p (event.Limits tenant limits) p' trace happens
-obeys_traced p (Open name i) p' trace (c, place, happens) = happens_traced _ _ p' trace happens
-obeys_traced p (Bytes name text) p' trace (c, place, gives) =
-    come_traced c _ gives.pieces gives.left p' trace gives.come
-obeys_traced p (Call name i request) p' trace (c, place, calls) = calls_traced c _ _ _ p' trace calls
-
-settles_traced : (p : Player) (tries : List Try) (p' : Player) (trace : List Happened) → Settles p tries p' trace →
-    Traced p.world trace p'.world
-settles_traced p [] p' trace (same, nothing) = traced_nothing p p' trace (ap (λ (x : Player). x.world) same) nothing
-settles_traced p (awaited ∷ tries) p' trace (mid, first, rest, happens, both, more) =
-    rw both (traced_more p.world first rest mid.world p'.world (happens_traced p _ mid first happens)
-    (settles_traced mid tries p' rest more))
-
-does_traced : (p : Player) (command : Command) (p' : Player) (trace : List Happened) → Does p command p' trace →
-    Traced p.world trace p'.world
-does_traced p command p' trace (mid, first, rest, obeys, both, more) =
-    rw both (traced_more p.world first rest mid.world p'.world (obeys_traced p command mid first obeys)
-    (settles_traced mid (tries_in (outputs first)) p' rest more))
-
-plays_traced : (n : ℕ) (p : Player) (lines : List (List ℕ)) (played : Played) (trace : List Happened)
-    (p' : Player) → Plays n p lines played trace p' → Traced p.world trace p'.world
-plays_traced n p [] played trace p' (all, nothing, same) =
+obeys_traced carries p Skip p' trace (same, nothing) =
     traced_nothing p p' trace (ap (λ (x : Player). x.world) same) nothing
-plays_traced n p (line ∷ lines) played trace p' plays =
-    by (command_of line) (λ mid rest more. plays_traced (n + 1) mid lines played rest p' more) plays
+obeys_traced carries p Pump p' trace (same, nothing) =
+    traced_nothing p p' trace (ap (λ (x : Player). x.world) same) nothing
+obeys_traced carries p (At moment) p' trace (same, nothing) =
+    traced_nothing p p' trace (ap (λ (x : Player). x.world) same)
+    nothing
+obeys_traced carries p (Hook status) p' trace (same, nothing) =
+    traced_nothing p p' trace (ap (λ (x : Player). x.world) same)
+    nothing
+obeys_traced carries p Tick p' trace happens = happens_traced p (event.Tick p.moment) p' trace happens
+obeys_traced carries p (Limits tenant limits) p' trace happens =
+    happens_traced p (event.Limits tenant limits) p' trace happens
+obeys_traced carries p (Open name i) p' trace (c, place, happens) = happens_traced _ _ p' trace happens
+obeys_traced carries p (Bytes name text) p' trace (c, place, gives) =
+    come_traced carries c _ gives.pieces gives.left p' trace gives.come
+obeys_traced carries p (Call name i request) p' trace (c, place, calls) = calls_traced carries c _ _ _ p' trace calls
+
+settles_traced : (answers : Answers) (p : Player) (tries : List Try) (p' : Player) (trace : List Happened) →
+    Settles answers p tries p' trace →
+    Traced p.world trace p'.world
+settles_traced answers p [] p' trace (same, nothing) =
+    traced_nothing p p' trace (ap (λ (x : Player). x.world) same) nothing
+settles_traced answers p (awaited ∷ tries) p' trace (status, mid, first, rest, answered, happens, both, more) =
+    rw both (traced_more p.world first rest mid.world p'.world (happens_traced p _ mid first happens)
+    (settles_traced answers mid tries p' rest more))
+
+does_traced : (carries : Carries) (answers : Answers) (p : Player) (command : Command) (p' : Player)
+    (trace : List Happened) → Does carries answers p command p' trace →
+    Traced p.world trace p'.world
+does_traced carries answers p command p' trace (mid, first, rest, obeys, both, more) =
+    rw both (traced_more p.world first rest mid.world p'.world (obeys_traced carries p command mid first obeys)
+    (settles_traced answers mid (tries_in (outputs first)) p' rest more))
+
+plays_traced : (carries : Carries) (answers : Answers) (n : ℕ) (p : Player) (lines : List (List ℕ)) (played : Played)
+    (trace : List Happened)
+    (p' : Player) → Plays carries answers n p lines played trace p' → Traced p.world trace p'.world
+plays_traced carries answers n p [] played trace p' (all, nothing, same) =
+    traced_nothing p p' trace (ap (λ (x : Player). x.world) same) nothing
+plays_traced carries answers n p (line ∷ lines) played trace p' plays =
+    by (command_of line) (λ mid rest more. plays_traced carries answers (n + 1) mid lines played rest p' more) plays
   where
     by : (o : Option Command) →
-        ((mid : Player) (rest : List Happened) → Plays (n + 1) mid lines played rest p' →
+        ((mid : Player) (rest : List Happened) → Plays carries answers (n + 1) mid lines played rest p' →
         Traced mid.world rest p'.world) →
         MatchOption o ((played ≡ BadLine n) × (trace ≡ []) × (p' ≡ p))
-        (λ command. (mid : Player) × (first rest : List Happened) × Does p command mid first ×
-        (trace ≡ first ++ rest) × Plays (n + 1) mid lines played rest p') →
+        (λ command. (mid : Player) × (first rest : List Happened) × Does carries answers p command mid first ×
+        (trace ≡ first ++ rest) × Plays carries answers (n + 1) mid lines played rest p') →
         Traced p.world trace p'.world
     by None later (bad, nothing, same) = traced_nothing p p' trace (ap (λ (x : Player). x.world) same) nothing
     by (Some command) later (mid, first, rest, does, both, more) =
-        rw both (traced_more p.world first rest mid.world p'.world (does_traced p command mid first does)
+        rw both (traced_more p.world first rest mid.world p'.world
+        (does_traced carries answers p command mid first does)
         (later mid rest more))
 
 -- the steps of a trace
@@ -150,12 +163,15 @@ traced_alone origin p trace w' start traced none once =
     (alone origin p.world (events trace) (outputs trace) w' start.opens (traced_steps p.world trace w' traced)
     none once)
 
-pub course_alone : (origin : Origin) (p : Player) (bytes : Option (List ℕ)) (played : Played) (trace : List Happened)
+pub course_alone : (carries : Carries) (answers : Answers) (origin : Origin) (p : Player) (bytes : Option (List ℕ))
+    (played : Played) (trace : List Happened)
     (p' : Player) → IsStart origin p →
-    Course p bytes played trace p' → fault_count p'.world ≡ 0 → names_once (first_watch origin) (events trace) →
+    Course carries answers p bytes played trace p' → fault_count p'.world ≡ 0 →
+    names_once (first_watch origin) (events trace) →
     Alone origin (events trace) (unbuilt trace) (outputs trace)
-course_alone origin p bytes played trace p' start course =
-    traced_alone origin p trace p'.world start (plays_traced 1 p course.lines played trace p' course.plays)
+course_alone carries answers origin p bytes played trace p' start course =
+    traced_alone origin p trace p'.world start (plays_traced carries answers 1 p course.lines played trace p'
+    course.plays)
 
 -- .. and until a fault
 traced_first : (w : World) (first rest : List Happened) (w' : World) → Traced w (first ++ rest) w' → (mid : World) ×
@@ -171,11 +187,12 @@ traced_no_fault w [] w' same none nowhere = ap fault_count same ∙ none
 traced_no_fault w (h ∷ trace) w' (before, next, forgets, step, outs, faults, refused, traced) none nowhere =
     traced_no_fault next trace w' traced (sym faults ∙ nowhere.0) nowhere.1
 
-pub course_until_fault : (origin : Origin) (p : Player) (bytes : Option (List ℕ)) (played : Played)
+pub course_until_fault : (carries : Carries) (answers : Answers) (origin : Origin) (p : Player)
+    (bytes : Option (List ℕ)) (played : Played)
     (trace : List Happened) (p' : Player) → IsStart origin p →
-    Course p bytes played trace p' → AloneUntilFault origin trace
-course_until_fault origin p bytes played trace p' start course first rest cut nowhere =
+    Course carries answers p bytes played trace p' → AloneUntilFault origin trace
+course_until_fault carries answers origin p bytes played trace p' start course first rest cut nowhere =
     let until = traced_first p.world first rest p'.world
-    (rw cut at (plays_traced 1 p course.lines played trace p' course.plays)) in
+    (rw cut at (plays_traced carries answers 1 p course.lines played trace p' course.plays)) in
     traced_alone origin p first until.0 start until.1
     (traced_no_fault p.world first until.0 until.1 start.opens.faults nowhere)

@@ -1,6 +1,7 @@
 pub mod CommandLine
 pub mod Ending
 pub mod Line
+pub mod Link
 pub mod Names
 pub mod Number
 pub mod Output

@@ -1,5 +1,5 @@
 -- What playing a scenario does: the trace of the events that the world gets, and what is written of each.
-use Rattle.std.specs.Prelude.{◌≡◌, ℕ, ◌+◌, nat_lt, nat_le, Bool, true, false, ◌&&◌, not, is_none, List, [], ◌∷◌, ◌++◌, length, min, Some, MatchOption, IsSome, codes, decimal}
+use Rattle.std.specs.Prelude.{◌≡◌, ℕ, ◌+◌, nat_lt, nat_le, Bool, true, false, ◌&&◌, not, is_none, ◌⊎◌, List, [], ◌∷◌, ◌++◌, length, min, Option, Some, MatchOption, IsSome, codes, decimal}
 use Rattle.std.specs.List.{concat, list_all}
 use Rattle.am_world.specs.declared.event.Event.{Event}
 use Rattle.am_world.specs.declared.event.Event.TheVariants as event
@@ -15,6 +15,7 @@ use Rattle.amring.specs.declared.play.Played.TheVariants.{All, BadLine}
 use Rattle.amring.specs.declared.play.Player.{Player}
 use Rattle.amring.specs.declared.report.Try.{Try}
 use Rattle.amring.specs.Line.{command_of}
+use Rattle.amring.specs.Link.{Answers, Carries}
 use Rattle.amring.specs.Names.{place_of, with_name}
 use Rattle.amring.specs.Output.{is_answered}
 use Rattle.amring.specs.Request.{request_text}
@@ -52,28 +53,38 @@ Either false P Q = Q
 abbrev pub goes_on : ℕ → Player → Event → Player → Bool
 goes_on c p e p' = is_none (refusal p.world e) && not (is_answered c (put_out p'.world))
 
--- pieces came on a connection, one after the other; after the last one something is left only if it ended the line
-abbrev pub Come : ℕ → Player → List (List ℕ) → List ℕ → Player → List Happened → Type 0
-Come c p [] left p' trace = (left ≡ []) × (p' ≡ p) × (trace ≡ [])
-Come c p (piece ∷ pieces) left p' trace =
-    (mid : Player) × (first rest : List Happened)
-    × Happens p (event.Bytes c p.moment piece) mid first
-    × (trace ≡ first ++ rest)
-    × Either (goes_on c p (event.Bytes c p.moment piece) mid)
-    (Come c mid pieces left p' rest)
-    ((pieces ≡ []) × (p' ≡ mid) × (rest ≡ []))
-
 -- a piece isn't empty, and has at most 4,096 bytes
 abbrev pub is_piece : List ℕ → Bool
 is_piece piece = nat_lt 0 (length piece) && nat_le (length piece) 4096
 
--- bytes came on a connection, in pieces, all of them unless an event ended the line
-pub record Gives (c : ℕ) (p : Player) (bytes : List ℕ) (p' : Player) (trace : List Happened) : Type 0 where
+-- the piece that would come next of what is left was lost
+pub record Loses (carries : Carries) (left : List ℕ) : Type 0 where
+  pub piece : List ℕ
+  pub after : List ℕ
+  pub cut : left ≡ piece ++ after
+  pub size : is_piece piece ≡ true
+  pub lost : carries piece false
+
+-- pieces came on a connection, one after the other; after the last one something is left only if it ended the line, or
+-- if the next piece was lost
+abbrev pub Come : Carries → ℕ → Player → List (List ℕ) → List ℕ → Player → List Happened → Type 0
+Come carries c p [] left p' trace = ((left ≡ []) ⊎ Loses carries left) × (p' ≡ p) × (trace ≡ [])
+Come carries c p (piece ∷ pieces) left p' trace =
+    (mid : Player) × (first rest : List Happened) × carries piece true
+    × Happens p (event.Bytes c p.moment piece) mid first
+    × (trace ≡ first ++ rest)
+    × Either (goes_on c p (event.Bytes c p.moment piece) mid)
+    (Come carries c mid pieces left p' rest)
+    ((pieces ≡ []) × (p' ≡ mid) × (rest ≡ []))
+
+-- bytes came on a connection, in pieces, all of them unless an event ended the line or a piece was lost
+pub record Gives (carries : Carries) (c : ℕ) (p : Player) (bytes : List ℕ) (p' : Player) (trace : List Happened) :
+    Type 0 where
   pub pieces : List (List ℕ)
   pub left : List ℕ
   pub cut : bytes ≡ concat pieces ++ left
   pub sizes : list_all is_piece pieces ≡ true
-  pub come : Come c p pieces left p' trace
+  pub come : Come carries c p pieces left p' trace
 
 -- the name of a connection is known from now on
 abbrev pub naming : List ℕ → Player → Player
@@ -84,41 +95,44 @@ abbrev pub instance_of : ℕ → ℕ
 instance_of i = min i 255
 
 -- a connection was opened, and then, unless that was refused, a whole request came on it
-abbrev pub Calls : ℕ → Player → ℕ → List ℕ → Player → List Happened → Type 0
-Calls c p i text p' trace =
+abbrev pub Calls : Carries → ℕ → Player → ℕ → List ℕ → Player → List Happened → Type 0
+Calls carries c p i text p' trace =
     (mid : Player) × (first rest : List Happened) × Happens p (event.Open c i) mid first × (trace ≡ first ++ rest)
-    × Either (is_none (refusal p.world (event.Open c i))) (Gives c mid text p' rest) ((p' ≡ mid) × (rest ≡ []))
+    × Either (is_none (refusal p.world (event.Open c i))) (Gives carries c mid text p' rest) ((p' ≡ mid) × (rest ≡ []))
 
 -- the name of a connection became known, and then this holds of the connection, which is the name's place
 abbrev pub OnNamed : Player → List ℕ → (ℕ → Player → Type 0) → Type 0
 OnNamed p name Holds = (c : ℕ) × (place_of name (naming name p).connections ≡ Some c) × Holds c (naming name p)
 
 -- a command was done
-abbrev pub Obeys : Player → Command → Player → List Happened → Type 0
-Obeys p Skip p' trace = (p' ≡ p) × (trace ≡ [])
-Obeys p Pump p' trace = (p' ≡ p) × (trace ≡ [])
-Obeys p (At moment) p' trace = (p' ≡ record p { moment = moment }) × (trace ≡ [])
-Obeys p (Hook status) p' trace = (p' ≡ record p { hook = status }) × (trace ≡ [])
-Obeys p Tick p' trace = Happens p (event.Tick p.moment) p' trace
-Obeys p (Limits tenant limits) p' trace = Happens p (event.Limits tenant limits) p' trace
-Obeys p (Open name i) p' trace = OnNamed p name (λ c q. Happens q (event.Open c (instance_of i)) p' trace)
-Obeys p (Bytes name text) p' trace = OnNamed p name (λ c q. Gives c q text p' trace)
-Obeys p (Call name i request) p' trace =
-    OnNamed p name (λ c q. Calls c q (instance_of i) (request_text request) p' trace)
+abbrev pub Obeys : Carries → Player → Command → Player → List Happened → Type 0
+Obeys carries p Skip p' trace = (p' ≡ p) × (trace ≡ [])
+Obeys carries p Pump p' trace = (p' ≡ p) × (trace ≡ [])
+Obeys carries p (At moment) p' trace = (p' ≡ record p { moment = moment }) × (trace ≡ [])
+Obeys carries p (Hook status) p' trace = (p' ≡ record p { hook = status }) × (trace ≡ [])
+Obeys carries p Tick p' trace = Happens p (event.Tick p.moment) p' trace
+Obeys carries p (Limits tenant limits) p' trace = Happens p (event.Limits tenant limits) p' trace
+Obeys carries p (Open name i) p' trace =
+    OnNamed p name (λ c q. Happens q (event.Open c (instance_of i)) p' trace)
+Obeys carries p (Bytes name text) p' trace = OnNamed p name (λ c q. Gives carries c q text p' trace)
+Obeys carries p (Call name i request) p' trace =
+    OnNamed p name (λ c q. Calls carries c q (instance_of i) (request_text request) p' trace)
 
--- each of these tries got its outcome, one after the other: what the receiver answers now
-abbrev pub Settles : Player → List Try → Player → List Happened → Type 0
-Settles p [] p' trace = (p' ≡ p) × (trace ≡ [])
-Settles p (awaited ∷ tries) p' trace =
-    (mid : Player) × (first rest : List Happened)
-    × Happens p (event.Outcome awaited.attempt awaited.tries p.moment p.hook) mid first
-    × (trace ≡ first ++ rest) × Settles mid tries p' rest
+-- each of these tries got its outcome, one after the other: with the status that was read of what the receiver, to
+-- which its request went, answers now
+abbrev pub Settles : Answers → Player → List Try → Player → List Happened → Type 0
+Settles answers p [] p' trace = (p' ≡ p) × (trace ≡ [])
+Settles answers p (awaited ∷ tries) p' trace =
+    (status : Option ℕ) × (mid : Player) × (first rest : List Happened)
+    × answers awaited.request p.hook status
+    × Happens p (event.Outcome awaited.attempt awaited.tries p.moment status) mid first
+    × (trace ≡ first ++ rest) × Settles answers mid tries p' rest
 
 -- a line was played: its command was done, and then each try that this sent out got its outcome
-abbrev pub Does : Player → Command → Player → List Happened → Type 0
-Does p command p' trace =
-    (mid : Player) × (first rest : List Happened) × Obeys p command mid first × (trace ≡ first ++ rest)
-    × Settles mid (tries_in (outputs first)) p' rest
+abbrev pub Does : Carries → Answers → Player → Command → Player → List Happened → Type 0
+Does carries answers p command p' trace =
+    (mid : Player) × (first rest : List Happened) × Obeys carries p command mid first × (trace ≡ first ++ rest)
+    × Settles answers mid (tries_in (outputs first)) p' rest
 
 -- the last line of a scenario that was played whole
 abbrev pub faults_line : ℕ → List ℕ
@@ -130,12 +144,12 @@ ending All faults = faults_line faults
 ending (BadLine n) faults = []
 
 -- the lines from the n-th on were played, up to the first that is no command
-abbrev pub Plays : ℕ → Player → List (List ℕ) → Played → List Happened → Player → Type 0
-Plays n p [] played trace p' = (played ≡ All) × (trace ≡ []) × (p' ≡ p)
-Plays n p (line ∷ lines) played trace p' = MatchOption (command_of line)
+abbrev pub Plays : Carries → Answers → ℕ → Player → List (List ℕ) → Played → List Happened → Player → Type 0
+Plays carries answers n p [] played trace p' = (played ≡ All) × (trace ≡ []) × (p' ≡ p)
+Plays carries answers n p (line ∷ lines) played trace p' = MatchOption (command_of line)
     ((played ≡ BadLine n) × (trace ≡ []) × (p' ≡ p))
-    (λ command. (mid : Player) × (first rest : List Happened) × Does p command mid first × (trace ≡ first ++ rest)
-    × Plays (n + 1) mid lines played rest p')
+    (λ command. (mid : Player) × (first rest : List Happened) × Does carries answers p command mid first
+    × (trace ≡ first ++ rest) × Plays carries answers (n + 1) mid lines played rest p')
 
 -- where a scenario begins: a new world, no connection, the moment 0, and a receiver that takes all notices
 pub record IsStart (origin : Origin) (p : Player) : Type 0 where

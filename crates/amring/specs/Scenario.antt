@@ -7,6 +7,7 @@ use Rattle.am_world.specs.Simulation.{fault_count}
 use Rattle.am_world.specs.View.{first_watch, names_once}
 use Rattle.amring.specs.declared.play.Played.{Played}
 use Rattle.amring.specs.declared.play.Player.{Player}
+use Rattle.amring.specs.Link.{Answers, Carries}
 use Rattle.amring.specs.Playing.{Plays, IsStart}
 use Rattle.amring.specs.Trace.{Happened, events, outputs, no_fault, unbuilt}
 
@@ -18,20 +19,20 @@ lines_of bytes = slice_split (λ b. b == 10) bytes
 abbrev pub Known : Type 0
 Known = Option (List ℕ)
 
--- lines were played, and this happened; they are the reader's, where its bytes are known
-pub record Course (start : Player) (bytes : Known) (played : Played) (trace : List Happened) (end : Player) :
-    Type 0 where
+-- lines were played over a link, and this happened; they are the reader's, where its bytes are known
+pub record Course (carries : Carries) (answers : Answers) (start : Player) (bytes : Known) (played : Played)
+    (trace : List Happened) (end : Player) : Type 0 where
   pub lines : List (List ℕ)
   pub are_read : IfSome bytes (λ bytes. lines ≡ lines_of bytes)
-  pub plays : Plays 1 start lines played trace end
+  pub plays : Plays carries answers 1 start lines played trace end
 
 -- .. from a new world on, in which so many faults came
-pub record Scenario (origin : Origin) (bytes : Known) (played : Played) (trace : List Happened) (faults : ℕ) :
-    Type 0 where
+pub record Scenario (carries : Carries) (answers : Answers) (origin : Origin) (bytes : Known) (played : Played)
+    (trace : List Happened) (faults : ℕ) : Type 0 where
   pub start : Player
   pub is_start : IsStart origin start
   pub end : Player
-  pub course : Course start bytes played trace end
+  pub course : Course carries answers start bytes played trace end
   pub counted : faults ≡ fault_count end.world
 
 -- wherever a trace is cut: where no fault came before the cut, each tenant is as if alone until there

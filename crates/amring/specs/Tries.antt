@@ -8,7 +8,7 @@ use Rattle.amring.specs.declared.report.Try.{Try}
 -- the try that goes out by an output: a notice is one
 abbrev pub try_of : Output → List Try
 try_of (Reply c bytes) = []
-try_of (Notice attempt tries url bytes) = record { attempt = attempt; tries = tries } ∷ []
+try_of (Notice attempt tries url bytes) = record { attempt = attempt; tries = tries; request = bytes } ∷ []
 
 -- the tries that go out by outputs, in order
 abbrev pub tries_in : List Output → List Try

@@ -5,6 +5,8 @@ mod command;
 mod connections;
 mod ending;
 mod line;
+mod link;
+mod loopback;
 mod number;
 mod options;
 mod play;
@@ -14,8 +16,10 @@ mod stops;
 mod tests;
 
 use am_world::setup::Setup;
+use loopback::Loopback;
 use options::CommandLine;
 use std::io::{BufReader, BufWriter, Write};
+use std::net::Net;
 use std::process::ExitCode;
 use std::{env, io};
 
@@ -57,14 +61,15 @@ fn start<E: Write>(rt: &HostRuntime, errors: &mut E) -> io::Result<ExitCode> {
     }
 }
 
-/// Plays the scenario on standard input.
-fn run<R: Input + Print + AllocGlobal, E: Write>(
+/// Plays the scenario on standard input over loopback sockets.
+fn run<R: Input + Print + AllocGlobal + Net, E: Write>(
     rt: &R,
     setup: Setup,
     errors: &mut E,
 ) -> io::Result<ExitCode> {
+    let mut link = Loopback::open(rt)?;
     let reader = BufReader::new(rt.alloc(), rt.reader())?;
     let mut writer = BufWriter::new(rt.alloc(), io::writer(rt))?;
-    let played = play::play(rt.alloc(), setup, reader, &mut writer, errors)?;
+    let played = play::play(rt.alloc(), setup, &mut link, reader, &mut writer, errors)?;
     ending::tell(errors, played)
 }

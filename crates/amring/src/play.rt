@@ -14,6 +14,7 @@ ghost use Rattle.amring.specs.Tries.{tries_in, try_of};
 use crate::command::{Command, Request};
 use crate::connections::Connections;
 use crate::line::{LineFault, read_command};
+use crate::link::Link;
 use crate::report::{Report, Try};
 use crate::stops::Stops;
 use am_http::ConnectionId;
@@ -40,7 +41,9 @@ pub enum Played {
     BadLine(u64),
 }
 
-/// Plays the scenario that `reader` holds against a new world, and writes its output lines to `writer`.
+/// Plays the scenario that `reader` holds against a new world, and writes its output lines to `writer`. What a line
+/// gives to a connection goes over the link in pieces, and ends where one is lost. Each notice goes over it too, and the
+/// outcome of its try has the status that was read of the answer.
 ///
 /// What is written are the lines of a trace: what happened, event by event. Whatever the other tenants do, a tenant's
 /// outputs in it are, byte for byte and in order, those of a private cluster that has this tenant alone; provided
@@ -48,16 +51,17 @@ pub enum Played {
 /// fault.
 ///
 /// An error is one of reading or writing, or has the kind `OutOfMemory`; what was written stays.
-pub fn play<R: BufRead + Drop, W: Write, E: Write>(
+pub fn play<L: Link, R: BufRead + Drop, W: Write, E: Write>(
     alloc: Global,
     setup: Setup,
+    link: &mut L,
     reader: R,
     writer: &mut W,
     errors: &mut E,
 ) -> io::Result<Played>
     // Where the bytes of the reader aren't known, there are lines of which this holds.
     ensures { IfOk result (λ played. (trace : List Happened) × (faults : ℕ)
-        × Scenario setup.origin (R.remaining reader) played trace faults
+        × Scenario L.carries L.answers setup.origin (R.remaining reader) played trace faults
         × Appends (W.contents writer.old) (W.contents writer.new) (printed trace ++ ending played faults)
         × (faults ≡ 0 → names_once (first_watch setup.origin) (events trace) →
         Alone setup.origin (events trace) (unbuilt trace) (outputs trace))
@@ -70,7 +74,7 @@ pub fn play<R: BufRead + Drop, W: Write, E: Write>(
         moment: 0,
         hook: Some(TAKEN),
     };
-    let played = player.play_lines(alloc, reader, writer, errors)?;
+    let played = player.play_lines(alloc, link, reader, writer, errors)?;
     writer.flush()?;
     Ok(played)
 }
@@ -88,15 +92,16 @@ struct Player {
 impl Player {
     /// Plays the lines that are left, up to one that is no command. The text of each line is written before the next
     /// line is read.
-    fn play_lines<R: BufRead + Drop, W: Write, E: Write>(
+    fn play_lines<L: Link, R: BufRead + Drop, W: Write, E: Write>(
         &mut self,
         alloc: Global,
+        link: &mut L,
         reader: R,
         writer: &mut W,
         errors: &mut E,
     ) -> io::Result<Played>
         ensures { IfOk result (λ played. (trace : List Happened)
-            × Course self.old (R.remaining reader) played trace self.new
+            × Course L.carries L.answers self.old (R.remaining reader) played trace self.new
             × Appends (W.contents writer.old) (W.contents writer.new)
             (printed trace ++ ending played (fault_count self.new.world))) }
     {
@@ -107,7 +112,7 @@ impl Player {
             number += 1;
             match read_command(alloc, line.as_slice()) {
                 Ok(command) => {
-                    let lines = self.play_line(alloc, command)?;
+                    let lines = self.play_line(alloc, link, command)?;
                     stops.tell(&self.world, errors)?;
                     writer.write_all(lines.as_bytes())?;
                 }
@@ -122,42 +127,50 @@ impl Player {
 
     /// Does what a line asks for, and then gives each try that went out its outcome. Gives what is to be written of all
     /// this.
-    fn play_line(&mut self, alloc: Global, command: Command) -> Result<String, AllocError>
+    fn play_line<L: Link>(
+        &mut self,
+        alloc: Global,
+        link: &mut L,
+        command: Command,
+    ) -> Result<String, AllocError>
         ensures { IfOk result (λ lines. (trace : List Happened) × (string_bytes lines ≡ printed trace)
-            × Does self.old command self.new trace) }
+            × Does L.carries L.answers self.old command self.new trace) }
     {
         let mut report = Report::new(alloc);
-        self.obey(alloc, command, &mut report)?;
+        self.obey(alloc, link, command, &mut report)?;
         let tries = mem::replace(&mut report.tries, Vec::new(alloc));
-        self.settle(alloc, tries.as_slice(), &mut report)?;
+        self.settle(alloc, link, tries.as_slice(), &mut report)?;
         let Report { text, .. } = report;
         Ok(text)
     }
 
-    /// Gives each of these tries its outcome, in order.
-    fn settle(
+    /// Sends each of these tries to the receiver, in order, and gives it its outcome.
+    fn settle<L: Link>(
         &mut self,
         alloc: Global,
+        link: &mut L,
         tries: &[Try],
         report: &mut Report,
     ) -> Result<(), AllocError>
-        ensures { OnOk result (Reports report.old report.new (Settles self.old tries.now self.new)) }
+        ensures { OnOk result (Reports report.old report.new (Settles L.answers self.old tries.now self.new)) }
     {
         for awaited in tries {
-            let event = awaited.outcome(self.moment, self.hook);
+            let status = link.tell(awaited.request.as_slice(), self.hook);
+            let event = awaited.outcome(self.moment, status);
             self.bring(alloc, &event, report)?;
         }
         Ok(())
     }
 
     /// Does what a line asks for, and reports it.
-    fn obey(
+    fn obey<L: Link>(
         &mut self,
         alloc: Global,
+        link: &mut L,
         command: Command,
         report: &mut Report,
     ) -> Result<(), AllocError>
-        ensures { OnOk result (Reports report.old report.new (Obeys self.old command self.new)) }
+        ensures { OnOk result (Reports report.old report.new (Obeys L.carries self.old command self.new)) }
     {
         match command {
             Command::Skip | Command::Pump => Ok(()),
@@ -183,7 +196,7 @@ impl Player {
             }
             Command::Bytes { connection, text } => {
                 let connection = self.connections.id(alloc, connection.as_str())?;
-                self.give(alloc, connection, text.as_str().as_bytes(), report)
+                self.give(alloc, link, connection, text.as_str().as_bytes(), report)
             }
             Command::Call {
                 connection,
@@ -192,7 +205,7 @@ impl Player {
             } => {
                 let connection = self.connections.id(alloc, connection.as_str())?;
                 let text = request.to_text(alloc)?;
-                self.call(alloc, connection, instance, text.as_bytes(), report)
+                self.call(alloc, link, connection, instance, text.as_bytes(), report)
             }
         }
     }
@@ -206,19 +219,20 @@ impl Player {
     }
 
     /// Opens a connection and gives it a whole request.
-    fn call(
+    fn call<L: Link>(
         &mut self,
         alloc: Global,
+        link: &mut L,
         connection: ConnectionId,
         instance: u64,
         request: &[u8],
         report: &mut Report,
     ) -> Result<(), AllocError>
         ensures { OnOk result (Reports report.old report.new
-            (Calls connection self.old (instance_of instance) request.now self.new)) }
+            (Calls L.carries connection self.old (instance_of instance) request.now self.new)) }
     {
         if self.open(alloc, connection, instance, report)? {
-            self.give(alloc, connection, request, report)?;
+            self.give(alloc, link, connection, request, report)?;
         }
         Ok(())
     }
@@ -243,18 +257,23 @@ impl Player {
         self.happen(alloc, &event, report)
     }
 
-    /// Gives bytes to a connection, piece by piece, until it is answered or a piece is refused.
-    fn give(
+    /// Gives bytes to a connection, piece by piece as they come over the link, until it is answered, or a piece is
+    /// refused or lost.
+    fn give<L: Link>(
         &mut self,
         alloc: Global,
+        link: &mut L,
         connection: ConnectionId,
         bytes: &[u8],
         report: &mut Report,
     ) -> Result<(), AllocError>
         ensures { OnOk result (Reports report.old report.new
-            (Gives connection self.old bytes.now self.new)) }
+            (Gives L.carries connection self.old bytes.now self.new)) }
     {
         for piece in bytes.chunks(PIECE) {
+            if !link.carry(piece) {
+                return Ok(());
+            }
             let event = Event::Bytes {
                 connection,
                 moment: self.moment,

@@ -4,6 +4,7 @@ ghost use Rattle.am_world.specs.declared.event.Event.TheVariants as event;
 ghost use Rattle.amring.specs.Output.{json_text, reply_line, try_name, notice_line};
 ghost use Rattle.amring.specs.Trace.{refusal_line};
 
+use am_text::Octets;
 use am_world::event::{AttemptName, Event, Refused};
 use serde_json::Value;
 use std::alloc::{AllocError, Global};
@@ -15,6 +16,8 @@ pub struct Try {
     pub attempt: AttemptName,
     /// Which try of the attempt it is.
     pub tries: u8,
+    /// The bytes of its request.
+    pub request: Octets,
 }
 
 impl Try {
@@ -74,13 +77,14 @@ impl Report {
         ensures text { OnOk result (string_bytes self.new.text ≡ string_bytes self.old.text ++
             notice_line attempt.now tries url.now bytes.now) }
         ensures tries { OnOk result (self.new.tries.items ≡ self.old.tries.items ++
-            (record { attempt = attempt.now; tries = tries }) ∷ []) }
+            (record { attempt = attempt.now; tries = tries; request = bytes.now }) ∷ []) }
     {
         let line = notice_line(alloc, attempt, tries, url, bytes)?;
         self.text.push_str(line.as_str())?;
         self.tries.push(Try {
             attempt: same_name(attempt),
             tries,
+            request: Octets::read(alloc, bytes)?,
         })?;
         Ok(())
     }

@@ -1,10 +1,12 @@
 //! Whole scenarios. What they must print was computed apart from this program.
 
 mod isolation;
+pub mod links;
 mod streams;
 
 use crate::play::{Played, play};
 use am_world::setup::Setup;
+use links::Direct;
 use serde_json::Value;
 use std::alloc::Global;
 use std::test::Fail;
@@ -236,7 +238,8 @@ pub fn setup() -> Result<Setup, Fail> {
 fn played(alloc: Global, scenario: &[u8]) -> Result<(Played, Vec<u8>), Fail> {
     let setup = setup()?;
     let mut written = Vec::new(alloc);
-    let played = play(alloc, setup, scenario, &mut written, &mut Vec::new(alloc))?;
+    let errors = &mut Vec::new(alloc);
+    let played = play(alloc, setup, &mut Direct, scenario, &mut written, errors)?;
     Ok((played, written))
 }
 
@@ -292,10 +295,9 @@ fn a_request_may_be_cut_anywhere(rt: HostRuntime) -> Result<(), Fail> {
     Ok(())
 }
 
-#[test]
-fn a_request_of_many_pieces(rt: HostRuntime) -> Result<(), Fail> {
-    let alloc = rt.alloc();
-    let (whole, wanted) = POSTED_AND_READ;
+/// A scenario in which a post comes in five pieces.
+fn many_pieces(alloc: Global) -> Result<String, Fail> {
+    let (whole, _) = POSTED_AND_READ;
     let (posts, reads) = whole.split_once("]\"").ok_or("no post")?;
     let mut scenario = String::from_str(alloc, posts)?;
     for _ in 0..20_000 {
@@ -303,6 +305,14 @@ fn a_request_of_many_pieces(rt: HostRuntime) -> Result<(), Fail> {
     }
     scenario.push_str("]\"")?;
     scenario.push_str(reads)?;
+    Ok(scenario)
+}
+
+#[test]
+fn a_request_of_many_pieces(rt: HostRuntime) -> Result<(), Fail> {
+    let alloc = rt.alloc();
+    let (_, wanted) = POSTED_AND_READ;
+    let scenario = many_pieces(alloc)?;
     let (end, written) = played(alloc, scenario.as_bytes())?;
     assert_eq!(rt; end, Played::All);
     assert!(rt; written.as_slice() == wanted.as_bytes());

@@ -1,5 +1,6 @@
 use super::tell;
 use crate::play::play;
+use crate::tests::links::Direct;
 use crate::tests::setup;
 use std::io;
 use std::io::{BufWriter, Write};
@@ -28,6 +29,7 @@ fn a_bad_line(rt: HostRuntime) -> Result<(), Fail> {
         let played = play(
             alloc,
             setup()?,
+            &mut Direct,
             scenario.as_bytes(),
             &mut written,
             &mut errors,
@@ -62,6 +64,7 @@ fn the_last_write_fails(rt: HostRuntime) -> Result<(), Fail> {
     match play(
         alloc,
         setup()?,
+        &mut Direct,
         b"tick\n".as_slice(),
         &mut writer,
         &mut errors,

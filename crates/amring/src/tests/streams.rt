@@ -1,5 +1,6 @@
 //! Readers and writers that fail.
 
+use super::links::Direct;
 use super::{POSTED_TWICE, setup};
 use crate::play::play;
 use std::io;
@@ -40,7 +41,16 @@ fn a_writer_fails(rt: HostRuntime) -> Result<(), Fail> {
             room,
         };
         let mut errors = Vec::new(alloc);
-        let ended = play(alloc, setup, scenario.as_bytes(), &mut writer, &mut errors).is_ok();
+        let scenario = scenario.as_bytes();
+        let played = play(
+            alloc,
+            setup,
+            &mut Direct,
+            scenario,
+            &mut writer,
+            &mut errors,
+        );
+        let ended = played.is_ok();
         assert_eq!(rt; ended, wanted.len() <= room, "room for {room}");
         let written = room.min(wanted.len());
         assert!(rt;
@@ -83,7 +93,8 @@ fn a_reader_fails(rt: HostRuntime) -> Result<(), Fail> {
                 rest: read.as_bytes(),
             },
         )?;
-        match play(alloc, setup, reader, &mut written, &mut Vec::new(alloc)) {
+        let errors = &mut Vec::new(alloc);
+        match play(alloc, setup, &mut Direct, reader, &mut written, errors) {
             Ok(_) => return Err("a scenario without an end was played".into()),
             Err(fault) => assert_eq!(rt; fault.kind(), io::ErrorKind::ConnectionReset),
         }

@@ -16,6 +16,8 @@ returns-in-Err-clause-ends c = record {
   down = c.stop.ensures.up;
   unread = c.stop.ensures.unread;
   lost = c.stop.ensures.local;
-  cause = rw c.stop.ensures.cause refl;
+  fault = c.in-Err.fault;
+  told = c.stop.ensures.cause;
+  cause = rw c.stop.ensures.refused c.in-Err.ensures.cause;
   silent = c.in-Err.ensures.silent;
 }

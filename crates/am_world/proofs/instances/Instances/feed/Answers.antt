@@ -1,4 +1,7 @@
 use Rattle.std.proofs.Common.{◌≡◌, ◌∙◌, ◌++◌, length, rules, sym, vec_len}
+use Rattle.std.proofs.lemmas.Result.{IfErr-weaker}
+use Rattle.am_world.proofs.Working.{bytes_cause_here}
+use Rattle.am_world.specs.Reaction.{terms_of}
 use Rattle.am_world.proofs.InstancesLemmas.{at_number, bytes_exist, both_ok, bytes_here, changed_at, incarnation_here, number_of, refused_grown, takes_here, within}
 use Rattle.am_world.proofs.instances.Instances.feed.Goals as goal
 
@@ -39,6 +42,15 @@ returns-clause-refused c =
     let here = at_number c.self.inside.list.items c.place.result c.args.number _ c.self.invariant c.place.ensures exists c.index_mut.ensures.value in
     let change = changed_at c.self.inside.list.items c.place.result c.args.number c.feed.new.self c.self.invariant c.place.ensures exists (c.feed.ensures.number ∙ number_of c.args.number _ _ here) in
     rw (← c.self.view_is) (refused_grown c.args.number _ _ _ _ here change c.feed.ensures.refused)
+
+pub returns-clause-cause : goal.returns-clause-cause
+returns-clause-cause c =
+    let exists = bytes_exist c.args.connection c.args.number _ c.self.invariant (rw (← c.self.view_is) at c.requires) in
+    let here = at_number c.self.inside.list.items c.place.result c.args.number _ c.self.invariant c.place.ensures exists c.index_mut.ensures.value in
+    let change = changed_at c.self.inside.list.items c.place.result c.args.number c.feed.new.self c.self.invariant c.place.ensures exists (c.feed.ensures.number ∙ number_of c.args.number _ _ here) in
+    rw (← c.self.view_is) (IfErr-weaker c.feed.result _ _ (λ fault cause before is.
+    bytes_cause_here c.args.number c.args.moment _ fault (λ t. terms_of c.args.service_key.now c.args.limits.now t) _ _ _ _ here change
+    (cause before (sym (bytes_here c.args.connection c.args.number _ _ here) ∙ is))) c.feed.ensures.cause)
 
 pub returns-clause-others : goal.returns-clause-others
 returns-clause-others c =

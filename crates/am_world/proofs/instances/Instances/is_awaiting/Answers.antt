@@ -1,5 +1,6 @@
 use Rattle.std.proofs.Common.{sym}
-use Rattle.am_world.proofs.InstancesLemmas.{awaits_here, awaits_nowhere, found_within}
+use Rattle.am_world.proofs.InstancesLemmas.{found_within}
+use Rattle.am_world.proofs.Working.{awaits_here, awaits_nowhere}
 use Rattle.am_world.proofs.instances.Instances.is_awaiting.Goals as goal
 
 pub returns-in-Some-clause-awaits : goal.returns-in-Some-clause-awaits

@@ -1,6 +1,7 @@
 use Rattle.std.proofs.Common.{◌≡◌, ◌∙◌, length, vec_len, rules}
-use Rattle.std.proofs.lemmas.Result.{IfOk-weaker, on_ok_weaker}
-use Rattle.am_world.proofs.InstancesLemmas.{at_number, bytes_kept, changed_at, number_of, outcome_fits, outcome_here, refused_kept, roster_kept, within}
+use Rattle.std.proofs.lemmas.Result.{IfErr-weaker, IfOk-weaker, on_ok_weaker}
+use Rattle.am_world.proofs.InstancesLemmas.{at_number, bytes_kept, changed_at, number_of, refused_kept, roster_kept, within}
+use Rattle.am_world.proofs.Working.{outcome_cause_here, outcome_fits, outcome_here}
 use Rattle.am_world.proofs.instances.Instances.take_outcome.Goals as goal
 
 pub index_mut-requires : goal.index_mut-requires
@@ -27,6 +28,12 @@ returns-clause-fits c =
     let change = changed_at c.self.inside.list.items c.place.result c.args.attempt.now.instance c.take_outcome.new.self c.self.invariant c.place.ensures c.requires (c.take_outcome.ensures.number ∙ number_of c.args.attempt.now.instance _ _ here) in
     rw (← c.self.view_is) (IfOk-weaker c.take_outcome.result _ _ (λ ok fits terms same.
     outcome_fits c.args.attempt.now.instance c.args.moment terms _ _ _ _ _ c.args.attempt.now.tenant here (fits terms same)) c.take_outcome.ensures.fits)
+
+pub returns-clause-cause : goal.returns-clause-cause
+returns-clause-cause c =
+    let here = at_number c.self.inside.list.items c.place.result c.args.attempt.now.instance _ c.self.invariant c.place.ensures c.requires c.index_mut.ensures.value in
+    rw (← c.self.view_is) (IfErr-weaker c.take_outcome.result _ _ (λ fault cause terms same.
+    outcome_cause_here c.args.attempt.now.instance c.args.moment terms _ _ _ fault _ _ c.args.attempt.now.tenant here (cause terms same)) c.take_outcome.ensures.cause)
 
 pub returns-clause-others : goal.returns-clause-others
 returns-clause-others c =

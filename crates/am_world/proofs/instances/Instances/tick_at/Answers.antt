@@ -1,5 +1,6 @@
 use Rattle.std.proofs.Common.{◌≡◌, ◌∙◌, length, vec_len, rules}
-use Rattle.am_world.proofs.InstancesLemmas.{at_number, changed_at, number_of, turn_here, within}
+use Rattle.am_world.proofs.InstancesLemmas.{at_number, changed_at, number_of, within}
+use Rattle.am_world.proofs.Working.{turn_here}
 use Rattle.am_world.proofs.instances.Instances.tick_at.Goals as goal
 
 pub index_mut-requires : goal.index_mut-requires

@@ -23,7 +23,11 @@ pub returns-in-Err-clause-step : goal.returns-in-Err-clause-step
 returns-in-Err-clause-step c =
     let allowed : nat_lt last_moment c.args.moment ≡ false = grind (arith, nat_tests) in
     let others = elsewhere_then c.in-Some.reader _ _ _ c.feed.ensures.others c.stop.ensures.others in
-    inr (faulted_at c.args.self.now _ _ c.in-Some.reader (rw (allowed, sym c.in-Some.ensures.reader) refl) c.in-Some.ensures.reads c.stop.ensures.down (rw c.stop.ensures.cause refl) others
+    inr (faulted_at c.args.self.now _ _ c.in-Some.reader (rw (allowed, sym c.in-Some.ensures.reader) refl) c.in-Some.ensures.reads c.stop.ensures.down (record {
+      fault = c.in-Err.fault;
+      told = c.stop.ensures.cause;
+      cause = λ before is. rw (c.stop.ensures.refused c.in-Some.reader, ← c.effective-at.ensures, ← c.as_slice.ensures) (c.in-Err.ensures.cause before is);
+    }) others
     (incarnations_stay c.in-Some.reader _ _ (c.stop.ensures.incarnation ∙ c.feed.ensures.incarnation) others)
     (c.stop.ensures.outputs ∙ c.in-Err.ensures.silent) c.stop.ensures.counted c.stop.ensures.clock c.stop.ensures.limits c.stop.ensures.service_key
     (keep_then _ _ _ c.feed.ensures.refused (keep_same _ _ c.stop.ensures.refused)))

@@ -1,4 +1,5 @@
 use Rattle.std.proofs.Common.{◌∙◌, inl, inr, refl, sym}
+use Rattle.am_item.specs.declared.fault.Fault.TheVariants.{OutOfMemory}
 use Rattle.am_world.proofs.Built.{keep_same}
 use Rattle.am_world.proofs.Faults.{elsewhere_then, faulted_at}
 use Rattle.am_world.proofs.Kept.{kept_not_up, kept_open, itself, incarnation_all}
@@ -15,7 +16,7 @@ returns-in-Ok-clause-step c = inl (
 pub returns-in-Err-clause-step : goal.returns-in-Err-clause-step
 returns-in-Err-clause-step c =
     let up = sym c.is_up.ensures.up ∙ c.if-not-is_up.false in
-    inr (faulted_at c.args.self.now _ _ c.args.instance (rw up refl) (itself c.args.instance) c.stop.ensures.down (rw c.stop.ensures.cause refl)
+    inr (faulted_at c.args.self.now _ _ c.args.instance (rw up refl) (itself c.args.instance) c.stop.ensures.down (record { fault = OutOfMemory; told = c.stop.ensures.cause; cause = refl })
     (elsewhere_then c.args.instance _ _ _ c.in-Err.ensures.others c.stop.ensures.others)
     (incarnation_all c.args.instance _ _ _ c.begin.ensures.roster c.stop.ensures.incarnation c.stop.ensures.others)
     c.stop.ensures.outputs c.stop.ensures.counted c.stop.ensures.clock c.stop.ensures.limits c.stop.ensures.service_key

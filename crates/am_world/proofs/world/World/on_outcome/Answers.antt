@@ -31,7 +31,12 @@ returns-in-Err-clause-step c =
     let allowed : nat_lt last_moment c.args.moment ≡ false = grind (arith, nat_tests) in
     inr (faulted_at c.args.self.now _ _ c.args.attempt.now.instance
     (rw (allowed, sym c.is_awaiting.ensures.awaits ∙ c.if-not-is_awaiting.false) refl) (itself c.args.attempt.now.instance)
-    c.stop.ensures.down (rw c.stop.ensures.cause refl)
+    c.stop.ensures.down (record {
+      fault = c.in-Err.fault;
+      told = c.stop.ensures.cause;
+      cause = rw (← c.effective-at.ensures)
+          (c.in-Err.ensures.cause (terms_of c.args.self.now.service_key c.args.self.now.limits c.args.attempt.now.tenant) (sym c.of-limits.ensures));
+    })
     (elsewhere_then c.args.attempt.now.instance _ _ _ c.take_outcome.ensures.others c.stop.ensures.others)
     (incarnation_all c.args.attempt.now.instance _ _ _ c.take_outcome.ensures.roster c.stop.ensures.incarnation c.stop.ensures.others)
     c.stop.ensures.outputs c.stop.ensures.counted c.stop.ensures.clock c.stop.ensures.limits c.stop.ensures.service_key

@@ -3,7 +3,7 @@ use Rattle.amring.proofs.PlayingLemmas.{grows_more, either_first, either_second}
 use Rattle.amring.proofs.play.Player.call.Goals as goal
 
 pub returns-in_ok-give : goal.returns-in_ok-give
-returns-in_ok-give c =
+returns-in_ok-give g c =
     let first = c.in_ok-open.ensures.happens in
     let rest = c.in_ok-give.ensures in (
       first.0 ++ rest.0,
@@ -19,7 +19,7 @@ returns-in_ok-give c =
     )
 
 pub returns-else-branch : goal.returns-else-branch
-returns-else-branch c =
+returns-else-branch g c =
     let first = c.in_ok-open.ensures.happens in (
       first.0,
       first.1,

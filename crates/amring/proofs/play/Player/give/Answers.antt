@@ -5,11 +5,24 @@ use Rattle.am_world.specs.Simulation.{put_out}
 use Rattle.am_world.specs.declared.event.Event.TheVariants as event
 use Rattle.amring.specs.Output.{is_answered}
 use Rattle.amring.specs.Playing.{Happens, goes_on, is_piece}
-use Rattle.amring.proofs.PlayingLemmas.{grows_more, gives_nothing, gives_more, gives_last, piece_fits}
+use Rattle.amring.proofs.PlayingLemmas.{grows_more, gives_nothing, gives_lost, gives_more, gives_last, piece_fits}
 use Rattle.amring.proofs.play.Player.give.Goals as goal
 
+pub returns-then-not-carry : goal.returns-then-not-carry
+returns-then-not-carry g c =
+    let known = c.loop-piece.invariant in
+    let steps = c.in-Some.ensures.steps in
+    let piece = c.in-Some.piece.now in
+    let fits : is_piece piece ≡ true = piece_fits _ piece _ known.size steps.1.1 steps.1.2 in (
+      known.done,
+      known.grows,
+      rw append-nil at (known.gives c.loop-piece.self []
+          (rw steps.1.0 (gives_lost g.L.Link.carries c.args.connection c.loop-piece.self piece _ fits
+          c.if-not-carry.ensures))),
+    )
+
 pub returns-then-not-goes_on : goal.returns-then-not-goes_on
-returns-then-not-goes_on c =
+returns-then-not-goes_on g c =
     let known = c.loop-piece.invariant in
     let steps = c.in-Some.ensures.steps in
     let prints = c.in_ok-is_taken.ensures.happens in
@@ -24,11 +37,12 @@ returns-then-not-goes_on c =
       known.done ++ prints.0,
       grows_more _ _ _ known.done prints.0 known.grows prints.1,
       known.gives c.happen.new.self prints.0
-          (rw steps.1.0 (gives_last c.args.connection p c.happen.new.self piece _ prints.0 fits happens ends)),
+          (rw steps.1.0 (gives_last g.L.Link.carries c.args.connection p c.happen.new.self piece _ prints.0 fits
+          c.if-not-carry.ensures happens ends)),
     )
 
 pub loop-piece-preserved-else-not-goes_on : goal.loop-piece-preserved-else-not-goes_on
-loop-piece-preserved-else-not-goes_on c =
+loop-piece-preserved-else-not-goes_on g c =
     let known = c.loop-piece.invariant in
     let steps = c.in-Some.ensures.steps in
     let prints = c.in_ok-is_taken.ensures.happens in
@@ -49,15 +63,16 @@ loop-piece-preserved-else-not-goes_on c =
       grows = grows_more _ _ _ known.done prints.0 known.grows prints.1;
       gives = λ q rest given. rw (append_assoc known.done prints.0 rest)
           (known.gives q (prints.0 ++ rest)
-          (rw steps.1.0 (gives_more c.args.connection p c.happen.new.self q piece _ prints.0 rest fits happens
-          goes given)));
+          (rw steps.1.0 (gives_more g.L.Link.carries c.args.connection p c.happen.new.self q piece _ prints.0 rest fits
+          c.if-not-carry.ensures happens goes given)));
     }
 
 pub returns : goal.returns
-returns c =
+returns g c =
     let known = c.loop-piece.invariant in
     let none : chunks_rest c.loop-piece.piece-iterator ≡ [] = nil_from_length _ c.in-None.ensures.steps.1.0 in (
       known.done,
       known.grows,
-      rw append-nil at (known.gives c.loop-piece.self [] (rw none (gives_nothing c.args.connection c.loop-piece.self))),
+      rw append-nil at (known.gives c.loop-piece.self []
+          (rw none (gives_nothing g.L.Link.carries c.args.connection c.loop-piece.self))),
     )

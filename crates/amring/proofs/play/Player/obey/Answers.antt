@@ -5,7 +5,7 @@ use Rattle.amring.specs.Request.{request_text}
 use Rattle.amring.proofs.play.Player.obey.Goals as goal
 
 pub returns-in_ok-text-in-Call : goal.returns-in_ok-text-in-Call
-returns-in_ok-text-in-Call c =
+returns-in_ok-text-in-Call g c =
     let id = c.in_ok-connection-in-Call in
     let place : place_of c.in-Call.connection (with_name c.in-Call.connection c.args.self.now.connections) ≡ Some
     id.connection =

@@ -7,7 +7,7 @@ use Rattle.amring.specs.declared.report.Try.{Try}
 use Rattle.amring.proofs.play.Player.play_line.Goals as goal
 
 pub returns : goal.returns
-returns c =
+returns g c =
     let obeyed = c.in_ok-obey.ensures in
     let settled = c.in_ok-settle.ensures in
     let tries : c.as_slice.result.now ≡ tries_in (outputs obeyed.0) =

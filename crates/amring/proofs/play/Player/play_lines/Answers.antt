@@ -16,7 +16,7 @@ loop-line-init g c =
       count = search rules;
       trace = [];
       appends = appends_nothing _;
-      upto = upto_first c.args.self.now (g.R.Read.remaining c.args.reader) _ left;
+      upto = upto_first g.L.Link.carries g.L.Link.answers c.args.self.now (g.R.Read.remaining c.args.reader) _ left;
     }
 
 pub returns-in-Err-NotACommand : goal.returns-in-Err-NotACommand
@@ -25,7 +25,8 @@ returns-in-Err-NotACommand g c =
     let next = rw (c.in_ok-line.was, known.byte) at c.in-Some.ensures.steps.2 in
     let bad : command_of c.in_ok-line.line.items ≡ None =
     rw (c.in-Err-NotACommand.field-0-is, c.as_slice.ensures.value) at c.in-Err-NotACommand.ensures in
-    let course = upto_bad c.args.self.now c.loop-line.self (g.R.Read.remaining c.args.reader)
+    let course =
+    upto_bad g.L.Link.carries g.L.Link.answers c.args.self.now c.loop-line.self (g.R.Read.remaining c.args.reader)
     (split_known_bytes g.R.Read.remaining c.loop-line.line-iterator) c.loop-line.number c.in_ok-line.line.items
     known.trace known.upto next.0 bad in (
       known.trace,
@@ -49,7 +50,8 @@ loop-line-preserved g c =
       appends = rw (flat_map-append text_of known.trace played.0)
           (appends_more _ _ _ (printed known.trace) (printed played.0) known.appends
           (rw (c.as_bytes.ensures.value, played.1) at c.in_ok-write_all-in-Ok.ensures.bytes));
-      upto = upto_more c.args.self.now c.loop-line.self c.play_line.new.self (g.R.Read.remaining c.args.reader)
+      upto = upto_more g.L.Link.carries g.L.Link.answers c.args.self.now c.loop-line.self c.play_line.new.self
+          (g.R.Read.remaining c.args.reader)
           (split_known_bytes g.R.Read.remaining c.loop-line.line-iterator)
           (split_known_bytes g.R.Read.remaining c.next.new.self) c.loop-line.number c.in_ok-line.line.items
           c.in-Ok.command known.trace played.0 known.upto next.0 next.1 is played.2;
@@ -58,7 +60,8 @@ loop-line-preserved g c =
 pub returns : goal.returns
 returns g c =
     let known = c.loop-line.invariant in
-    let course = upto_end c.args.self.now c.loop-line.self (g.R.Read.remaining c.args.reader)
+    let course =
+    upto_end g.L.Link.carries g.L.Link.answers c.args.self.now c.loop-line.self (g.R.Read.remaining c.args.reader)
     (split_known_bytes g.R.Read.remaining c.loop-line.line-iterator) c.loop-line.number known.trace known.upto
     c.in-None.ensures.steps.2 in (
       known.trace,

@@ -11,6 +11,6 @@ invariant-loop-line g l = record {
   count : l.number + pieces_left_to_read l.line-iterator ≤ 2 ^ 64 - 1;
   trace : List Happened;
   appends : Appends (g.W.Write.contents l.fn.writer) (g.W.Write.contents l.writer) (printed trace);
-  upto : Upto l.fn.self (g.R.Read.remaining l.fn.reader) l.self
+  upto : Upto g.L.Link.carries g.L.Link.answers l.fn.self (g.R.Read.remaining l.fn.reader) l.self
       (split_known_bytes g.R.Read.remaining l.line-iterator) l.number trace;
 }

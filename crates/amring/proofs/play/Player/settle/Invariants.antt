@@ -6,9 +6,10 @@ use Rattle.amring.proofs.play.Player.settle.Given as goal
 
 -- what happened so far stands before what the tries that are left will bring
 abbrev pub invariant-loop-awaited : goal.invariant-loop-awaited
-invariant-loop-awaited l = record {
+invariant-loop-awaited g l = record {
   done : List Happened;
   grows : Grows l.fn.report l.report done;
-  settles : (p : Player) (rest : List Happened) → Settles l.self (drop l.awaited-index l.tries) p rest →
-      Settles l.fn.self l.fn.tries p (done ++ rest);
+  settles : (p : Player) (rest : List Happened) →
+      Settles g.L.Link.answers l.self (drop l.awaited-index l.tries) p rest →
+      Settles g.L.Link.answers l.fn.self l.fn.tries p (done ++ rest);
 }

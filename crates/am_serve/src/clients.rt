@@ -1,0 +1,186 @@
+//! The table of clients.
+ghost use Rattle.std.specs.Prelude.{◌≡◌, ◌≢◌, ◌↔◌, ◌+◌, ◌-◌, ◌*◌, ◌<◌, ◌≤◌, ℕ, [], Some, None, IfNone, IfOk, IfSome, IsTrue, MatchOption, false, true};
+ghost use Rattle.slab.specs.Slab.{get, slab_len};
+ghost use Rattle.am_serve.specs.Clients.{IsStale};
+ghost use Rattle.am_serve.specs.Pools.{excess_in, held_in};
+ghost use Rattle.am_serve.specs.Tables.{Adds, LetsGo, Others, Refuses, TakesTurnAt};
+
+use crate::client::{Client, OWN_BYTES, Turn};
+use crate::host::Host;
+use crate::socket::Socket;
+use slab::Slab;
+use std::alloc::{AllocError, Global};
+use std::time::Instant;
+
+/// How many bytes all clients may hold undecided past their own shares.
+pub const POOL_BYTES: usize = 33_554_432;
+
+/// The clients of a server, at most as many as its limit. Each is known by its key, and to the host by its number.
+///
+/// A host holds the bytes of a request undecided until the request is whole. Each client may have 32 KiB of them of its
+/// own; what it has past that comes out of a pool of 32 MiB. While the pool has no room, a client that would need it
+/// isn't read.
+#[derive(Drop)]
+pub struct Clients<S: Socket> {
+    clients: Slab<Client<S>>,
+    limit: usize,
+    // How many connections were opened in the host: the next one's number.
+    opened: u64,
+    // How many bytes are taken out of the pool.
+    pooled: usize,
+    ghost bounded: { slab_len clients ≤ limit },
+    ghost room: { limit ≤ clients.capacity },
+    ghost counted: { pooled ≡ excess_in clients.slots },
+    ghost pool: { pooled ≤ 33554432 },
+}
+
+impl<S: Socket> Clients<S> {
+    /// No clients, with the memory for as many as the limit: the table takes no more.
+    ///
+    /// # Errors
+    /// Out of memory.
+    pub fn new(alloc: Global, limit: usize) -> Result<Clients<S>, AllocError>
+        ensures empty { IfOk result (λ table. table.clients.slots ≡ []) }
+        ensures limit { IfOk result (λ table. table.limit ≡ limit) }
+        ensures opened { IfOk result (λ table. table.opened ≡ 0) }
+    {
+        Ok(Clients {
+            clients: Slab::with_capacity(alloc, limit)?,
+            limit,
+            opened: 0,
+            pooled: 0,
+        })
+    }
+
+    /// How many clients there are.
+    pub fn len(&self) -> usize
+        ensures count { result ≡ slab_len self.now.clients }
+        // What all clients together hold undecided.
+        ensures memory { held_in self.now.clients.slots ≤ 32768 * result + 33554432 }
+    {
+        self.clients.len()
+    }
+
+    /// Whether there are none.
+    pub fn is_empty(&self) -> bool
+        ensures { IsTrue result ↔ (slab_len self.now.clients ≡ 0) }
+    {
+        self.clients.len() == 0
+    }
+
+    /// Whether there are as many as the limit.
+    pub fn is_full(&self) -> bool
+        ensures { IsTrue result ↔ (self.now.limit ≤ slab_len self.now.clients) }
+    {
+        self.clients.len() >= self.limit
+    }
+
+    /// How many connections were opened in the host: the next one has this number.
+    pub fn opened(&self) -> u64
+        ensures { result ≡ self.now.opened }
+    {
+        self.opened
+    }
+
+    /// All keys are below this.
+    pub fn capacity(&self) -> usize
+        ensures value { result ≡ self.now.clients.capacity }
+        ensures keys { (key : ℕ) → result ≤ key → get self.now.clients key ≡ None }
+    {
+        self.clients.capacity()
+    }
+
+    /// The key that the next client gets.
+    pub fn next_key(&self) -> usize
+        ensures key { result ≡ self.now.clients.vacant_key }
+        ensures vacant { get self.now.clients result ≡ None }
+    {
+        self.clients.vacant_key()
+    }
+
+    /// Opens a connection in the host under the next number, and gives the client's key. `None`: the host doesn't take
+    /// it, and the socket is dropped. The number is used either way. After 2^64 - 1 numbers none is opened any more.
+    pub fn add<H: Host>(&mut self, socket: S, host: &mut H, now: Instant) -> Option<usize>
+        requires { slab_len self.old.clients < self.old.limit }
+        ensures added { IfSome result (λ key. Adds H.opens self.old.clients self.new.clients key socket self.old.opened self.new.opened now host.old host.new) }
+        ensures refused { IfNone result (Refuses H.opens self.old.clients self.new.clients self.old.opened self.new.opened host.old host.new) }
+        ensures limit { self.new.limit ≡ self.old.limit }
+    {
+        if self.opened == u64::MAX {
+            return None;
+        }
+        let connection = self.opened;
+        self.opened += 1;
+        if !host.open(connection) {
+            return None;
+        }
+        let client = Client::new(socket, connection, now);
+        Some(self.clients.insert_reserved(client))
+    }
+
+    /// Gives the client of this key its turn: at most 16 reads of 4,096 bytes and writes. Each piece that it reads goes
+    /// to the host under the client's number, until the host gives its reply; that is written. A reply of success closes
+    /// the connection at once; after any other what the client still sends is thrown away until it ends, since the reply
+    /// may be lost on its way where bytes are left unread. A client that is lost while the host is undecided is closed in
+    /// the host. `None`: there is no such client.
+    pub fn turn<H: Host>(
+        &mut self,
+        key: usize,
+        host: &mut H,
+        now: Instant,
+        buffer: &mut [u8; 4096],
+    ) -> Option<Turn>
+        ensures turned { TakesTurnAt S.remaining S.contents S.blocked S.broken H.takes H.closes now self.old.clients self.new.clients key
+            (get self.old.clients key) host.old host.new result }
+        ensures others { Others self.old.clients self.new.clients key }
+        ensures opened { self.new.opened ≡ self.old.opened }
+        ensures limit { self.new.limit ≡ self.old.limit }
+    {
+        let pooled = self.pooled;
+        let client = self.clients.get_mut(key)?;
+        let others = pooled - client.excess();
+        let turn = client.turn(host, now, buffer, OWN_BYTES + (POOL_BYTES - others));
+        self.pooled = others + client.excess();
+        if turn.lets_go() {
+            self.let_go(key, host);
+        }
+        Some(turn)
+    }
+
+    /// Lets go of the client of this key where no byte was read or written for 5 seconds, or where it was there for 40,
+    /// and says whether it did. Where the host is undecided, it is closed there. Time in which the client waited for room
+    /// doesn't count as silence, as long as it gets its turns meanwhile.
+    pub fn judge<H: Host>(&mut self, key: usize, host: &mut H, now: Instant) -> bool
+        ensures stale { MatchOption (get self.old.clients key) (result ≡ false) (λ client. IsTrue result ↔ IsStale client now) }
+        ensures goes { result ≡ true → IfSome (get self.old.clients key) (λ client. LetsGo H.closes client (get self.new.clients key) host.old host.new) }
+        ensures stays { result ≡ false → (self.new ≡ self.old) × (host.new ≡ host.old) }
+        ensures others { Others self.old.clients self.new.clients key }
+        ensures opened { self.new.opened ≡ self.old.opened }
+        ensures limit { self.new.limit ≡ self.old.limit }
+    {
+        let Some(client) = self.clients.get(key) else {
+            return false;
+        };
+        if !client.is_stale(now) {
+            return false;
+        }
+        self.let_go(key, host);
+        true
+    }
+
+    // Lets go of a client, and closes it in the host where that is undecided.
+    fn let_go<H: Host>(&mut self, key: usize, host: &mut H)
+        ensures goes { IfSome (get self.old.clients key) (λ client. LetsGo H.closes client (get self.new.clients key) host.old host.new) }
+        ensures others { Others self.old.clients self.new.clients key }
+        ensures opened { self.new.opened ≡ self.old.opened }
+        ensures limit { self.new.limit ≡ self.old.limit }
+    {
+        let Some(client) = self.clients.try_remove(key) else {
+            return;
+        };
+        self.pooled -= client.excess();
+        if client.is_asking() {
+            host.close(client.connection());
+        }
+    }
+}

@@ -1,0 +1,22 @@
+//! HTTP clients and calls of webhooks over sockets that never wait. It has no handle, no clock and no poll: whoever
+//! has these gives each client and each call its turns.
+#![tactic(auto)]
+
+mod call;
+mod calls;
+mod client;
+mod clients;
+mod dialed;
+mod host;
+mod outgoing;
+mod socket;
+mod status;
+#[cfg(test)]
+mod tests;
+
+pub use calls::{Calls, Progress};
+pub use client::{OWN_BYTES, Turn};
+pub use clients::{Clients, POOL_BYTES};
+pub use dialed::Dialed;
+pub use host::{Host, Verdict};
+pub use socket::{Moved, PIECE_BYTES, Socket, read_from, write_to};

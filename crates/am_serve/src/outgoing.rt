@@ -1,0 +1,62 @@
+//! Bytes on their way out.
+ghost use Rattle.std.specs.Prelude.{◌≡◌, ◌≢◌, ◌≤◌, ◌<◌, ◌↔◌, [], IsTrue, drop, slice_get, vec_len};
+ghost use Rattle.std.specs.Io.KnownBytes.{Keeps};
+ghost use Rattle.am_serve.specs.Sockets.{Leaves};
+
+use crate::socket::{Moved, Socket};
+
+/// Bytes of which a first part was sent.
+#[derive(Drop)]
+pub struct Outgoing {
+    bytes: Vec<u8>,
+    sent: usize,
+    ghost within: { sent ≤ vec_len bytes },
+}
+
+impl Outgoing {
+    ghost use Rattle.am_serve.specs.Outgoings.{Sends, unsent};
+
+    // None of these bytes was sent yet.
+    pub fn new(bytes: Vec<u8>) -> Outgoing
+        ensures bytes { result.bytes ≡ bytes }
+        ensures unsent { unsent result ≡ bytes.items }
+    {
+        Outgoing { bytes, sent: 0 }
+    }
+
+    // Whether all bytes were sent.
+    pub fn is_sent(&self) -> bool
+        ensures { IsTrue result ↔ (unsent self.now ≡ []) }
+    {
+        self.rest().is_empty()
+    }
+
+    // The byte at an index of the whole, if there is one.
+    pub fn byte(&self, index: usize) -> Option<u8>
+        ensures { result ≡ slice_get self.now.bytes.items index }
+    {
+        self.bytes.get(index).copied()
+    }
+
+    // What wasn't sent yet.
+    fn rest(&self) -> &[u8]
+        ensures { result.now ≡ unsent self.now }
+    {
+        &self.bytes[self.sent..]
+    }
+
+    // Writes a first part of what wasn't sent yet.
+    pub fn write<S: Socket>(&mut self, socket: &mut S) -> Moved
+        ensures bytes { self.new.bytes.items ≡ self.old.bytes.items }
+        ensures sends { Sends (S.contents socket.old) (S.contents socket.new) result (unsent self.old) (unsent self.new) }
+        ensures kept { Keeps (S.remaining socket.old) (S.remaining socket.new) }
+        ensures some { result ≢ Moved.Bytes 0 }
+        ensures leaves { Leaves (S.blocked socket.new) (S.broken socket.new) result }
+    {
+        let moved = socket.write(self.rest());
+        if let Moved::Bytes(count) = moved {
+            self.sent += count;
+        }
+        moved
+    }
+}
