@@ -1,5 +1,5 @@
 -- The patterns of silences that are stored are those that their request has, or those of what is held.
-use Rattle.std.proofs.Common.{◌≡◌, ℕ, ◌+◌, List, [], ◌∷◌, ◌++◌, Bool, true, false, if◌then◌else◌, Option, None, Some, Result, Ok, Err, length, map, nat_le, nat_lt, refl, sym, ap, ◌∙◌, inl, inr, append-nil, option_and_then, subst}
+use Rattle.std.proofs.Common.{◌≡◌, ℕ, ◌+◌, List, [], ◌∷◌, ◌++◌, Bool, true, false, if◌then◌else◌, Option, None, Some, Result, Ok, Err, length, nat_le, nat_lt, refl, sym, ap, ◌∙◌, inl, inr, append-nil, option_and_then, subst}
 use Rattle.std.specs.Option.{option_to_list}
 use Rattle.std.proofs.lemmas.Bool.{cases_Bool}
 use Rattle.std.proofs.lemmas.List.Elements.{Contains-append_left, Contains-append_right, Contains-append_cases}
@@ -33,7 +33,6 @@ use Rattle.am_silence.specs.declared.state.SilenceState.{SilenceState}
 use Rattle.am_silence.specs.declared.state.SilenceState.TheVariants.{Pending, Active, Expired}
 use Rattle.am_silence.specs.declared.written.Written.{Written}
 use Rattle.am_silence.specs.declared.written.WrittenMatcher.{WrittenMatcher}
-use Rattle.am_silence.proofs.PostedLemmas.{some_named_is}
 use Rattle.am_words.specs.Draws.{new_id}
 use Rattle.am_words.specs.Ids.{id_in}
 use Rattle.am_words.specs.Words.{words_in}
@@ -214,20 +213,21 @@ taking_same : (takes : Bool) (ms taking : List MatcherText) →
 taking_same true ms taking e = absurd (cc)
 taking_same false ms taking e = cc
 
--- matchers that are judged are those that were written
-judged_are : (ws : List WrittenMatcher) (ms : List MatcherText) → silences.matchers_judged ws ≡ Ok ms → ms ≡ map silences.matcher_of ws
+-- matchers that are judged are those that were named
+judged_are : (ws : List WrittenMatcher) (ms : List MatcherText) → silences.matchers_judged ws ≡ Ok ms → silences.some_named ws ≡ Ok ms
 unfolding silences.matchers_judged
 judged_are ws ms e =
     let named = both_done (silences.some_named ws) _ ms e in
     let patterned = both_done (silences.with_patterns named.0) _ ms named.1.1 in
     let first : named.0 ≡ patterned.0 = patterned_same (pattern_refusal is_pattern (patterns_of named.0)) named.0 patterned.0 patterned.1.0 in
     let last : patterned.0 ≡ ms = taking_same (all_take patterned.0 []) patterned.0 ms patterned.1.1 in
-    sym (first ∙ last) ∙ some_named_is ws named.0 named.1.0
+    named.1.0 ∙ ap (λ (xs : List MatcherText). Ok xs) (first ∙ last)
 
 with_matchers : (moment : ℕ) (w : Written) (outcome : Result (List MatcherText) SilenceRefusal) → silences.matchers_judged w.matchers ≡ outcome →
-    HasPatterns (patterns_of (map silences.matcher_of w.matchers)) (outcome >>= λ matchers. silences.times_judged moment (silences.posted_with w matchers))
+    HasPatterns (silences.patterns_named (silences.some_named w.matchers)) (outcome >>= λ matchers. silences.times_judged moment (silences.posted_with w matchers))
 with_matchers moment w (Ok ms) is =
-    subst (λ (own : List MatcherText). HasPatterns (patterns_of own) (silences.times_judged moment (silences.posted_with w ms))) (judged_are w.matchers ms is)
+    subst (λ (named : Result (List MatcherText) SilenceRefusal). HasPatterns (silences.patterns_named named) (silences.times_judged moment (silences.posted_with w ms)))
+    (sym (judged_are w.matchers ms is))
     (times_patterns moment (silences.posted_with w ms))
 with_matchers moment w (Err reason) is = tt
 

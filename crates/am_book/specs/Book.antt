@@ -1,5 +1,5 @@
 -- A book as pairs of a tenant and an item.
-use Rattle.std.specs.Prelude.{◌≡◌, List, ℕ, [], ◌∷◌, ◌++◌, Option, Some, None, if◌then◌else◌}
+use Rattle.std.specs.Prelude.{◌≡◌, ◌<◌, List, ℕ, [], ◌∷◌, ◌++◌, length, take, Option, Some, None, if◌then◌else◌}
 use Rattle.std.specs.BTreeMap.{BTreeMap, IsOrdered, get, values}
 use Rattle.std.specs.BTreeSet.{BTreeSet}
 use Rattle.std.specs.Cmp.Lexicographic.{slice_cmp}
@@ -7,7 +7,7 @@ use Rattle.std.specs.List.{All}
 use Rattle.std.specs.Ordering.{nat_cmp}
 use Rattle.am_tenant.specs.Names.{same}
 use Rattle.am_item.specs.declared.item.Item.{Item}
-use Rattle.am_item.specs.Best.{IsRising}
+use Rattle.am_item.specs.Best.{IsRising, all_joined}
 use Rattle.am_book.specs.Row.{has_row, tells}
 use Rattle.am_book.specs.declared.row.Row.{Row}
 
@@ -47,3 +47,9 @@ held_of t tenants = found_items (get (slice_cmp nat_cmp) tenants t)
 -- the rows are exactly those of what is held
 abbrev pub AreTold : BTreeSet Row → BTreeMap (List ℕ) (List Item) → Type 0
 AreTold rows tenants = (row : Row) → has_row rows row ≡ tells row (held_of row.tenant tenants)
+
+-- what is held after some of these items joined it, one after the other: the first ones, but not all
+pub record IsPartlyJoined (held items now : List Item) : Type 0 where
+  pub count : ℕ
+  pub fewer : count < length items
+  pub joined : now ≡ all_joined held (take count items)

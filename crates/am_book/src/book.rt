@@ -8,7 +8,7 @@ ghost use Rattle.am_tenant.specs.Names.{same};
 ghost use Rattle.am_item.specs.Best.{IsRising, all_joined, item_at, joined};
 ghost use Rattle.am_item.specs.Key.{has_key, key_of};
 ghost use Rattle.am_item.specs.Retirement.{is_retired, standing_of};
-ghost use Rattle.am_book.specs.Book.{AreHeld, held_of, items_of, pairs_of};
+ghost use Rattle.am_book.specs.Book.{AreHeld, IsPartlyJoined, held_of, items_of, pairs_of};
 ghost use Rattle.am_book.specs.Row.{has_row, is_row_of, same_row, tells};
 ghost use Rattle.am_book.specs.declared.row.Row.{Row};
 
@@ -75,8 +75,8 @@ impl Book {
         put_in(alloc, held, &mut self.rows, tenant, item)
     }
 
-    /// Puts items of a tenant, as [`Book::put`] does one after the other. After an error, which is out of memory,
-    /// the first of them may be there; other tenants' items stay.
+    /// Puts items of a tenant, as [`Book::put`] does one after the other. After an error, which is out of memory and
+    /// comes of one of them, those before it are put and no others; other tenants' items stay.
     pub fn put_all(
         &mut self,
         alloc: Global,
@@ -84,6 +84,7 @@ impl Book {
         items: Vec<Item>,
     ) -> Result<(), AllocError>
         ensures joined { OnOk result ((t : List ℕ) → items_of t self.new ≡ (if same t tenant.now then all_joined (items_of t self.old) items.items else items_of t self.old)) }
+        ensures own { OnErr result (IsPartlyJoined (items_of tenant.now self.old) items.items (items_of tenant.now self.new)) }
         ensures others { OnErr result ((t : List ℕ) → same t tenant.now ≡ false → items_of t self.new ≡ items_of t self.old) }
     {
         for item in items {

@@ -190,6 +190,8 @@ impl Shared for Groups {
 
     ghost stands = { λ _. Unit {0} };
 
+    ghost refuses = { ⊥ };
+
     fn drop_tenant(&mut self, tenant: &TenantName) -> Result<(), Failure<ShareRefusal>> {
         self.clear(tenant);
         Ok(())

@@ -65,6 +65,7 @@ impl Attempts {
         ensures sending { IfOk result (λ sending. sending ≡ sending_of ((desk_of tenant.now self.old).used + 1) 1 notice) }
         ensures each { OnOk result ((t : List ℕ) → desk_of t self.new ≡ (if same t tenant.now then started notice (desk_of t self.old) else desk_of t self.old)) }
         ensures fault { IsErrOf result Fault.CountsExhausted ↔ (2 ^ 62 ≤ (desk_of tenant.now self.old).used) }
+        ensures no_pattern { IsErrOf result Fault.PatternNotBuilt → ⊥ }
         ensures err { OnErr result (IsSameOrWithout notice.key tenant.now self.old self.new) }
         ensures others { LeavesOthers tenant.now self.old.attempts self.new.attempts }
     {
@@ -160,6 +161,8 @@ impl Shared for Attempts {
     ghost pairs = { λ a. a.attempts };
 
     ghost stands = { λ _. ⊤ };
+
+    ghost refuses = { ⊥ };
 
     fn drop_tenant(&mut self, tenant: &TenantName) -> Result<(), Failure<ShareRefusal>> {
         self.clear(tenant);

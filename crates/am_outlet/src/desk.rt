@@ -131,6 +131,7 @@ impl Desk {
         ensures started { OnOk result (self.new ≡ started notice self.old) }
         ensures sending { IfOk result (λ sending. sending ≡ sending_of (self.old.used + 1) 1 notice) }
         ensures fault { IsErrOf result Fault.CountsExhausted ↔ (2 ^ 62 ≤ self.old.used) }
+        ensures no_pattern { IsErrOf result Fault.PatternNotBuilt → ⊥ }
         ensures err { OnErr result ((self.new ≡ self.old) ⊎ (self.new ≡ without notice.key self.old)) }
     {
         if self.used >= GREATEST_COUNT {

@@ -3,8 +3,11 @@ use Rattle.std.proofs.Common.{◌≡◌, ℕ, ◌+◌, ◌≤◌, nat_le, true, 
 use Rattle.std.proofs.lemmas.Bool.{cases_Bool}
 use Rattle.std.proofs.lemmas.Bool.Decides.{nat_tests}
 use Rattle.am_outlet.specs.declared.attempt.Notice.{Notice}
+use Rattle.am_item.specs.declared.fault.Fault.{Fault}
+use Rattle.am_item.specs.declared.fault.Fault.TheVariants.{CountsExhausted, OutOfMemory, PatternNotBuilt}
 use Rattle.am_replica.specs.Delivery.{started_if}
-use Rattle.am_replica.specs.Local.{Local, stays}
+use Rattle.am_replica.specs.Held.{StopsFor}
+use Rattle.am_replica.specs.Local.{Local, Reaction, stays}
 
 -- it doesn't where it had not reached it
 pub fits : (used : ℕ) → (4611686018427387904 ≤ used → ⊥) → nat_le (used + 1) 4611686018427387904 ≡ true
@@ -25,3 +28,10 @@ started b notice local room = rw room refl
 -- what went well is no error
 pub no_error : {T E : Type 0} (x : T) (e : E) → IsErrOf (Ok x) e → ⊥
 no_error x e is = cc
+
+-- a fault is one of a count that passed the greatest, or of memory
+pub stops_for : (reaction : Reaction) (fault : Fault) → (fault ≡ CountsExhausted → reaction.fits ≡ false) → (fault ≡ PatternNotBuilt → ⊥) →
+    StopsFor reaction fault
+stops_for reaction CountsExhausted counts never = counts refl
+stops_for reaction OutOfMemory counts never = tt
+stops_for reaction PatternNotBuilt counts never = never refl

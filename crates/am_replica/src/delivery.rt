@@ -70,8 +70,7 @@ impl Parts {
         }
         match self.agenda.start(alloc, tenant, notice) {
             Ok(sending) => Ok(Some(sending)),
-            Err(Fault::CountsExhausted) => Err(Fault::CountsExhausted),
-            Err(_) => Err(Fault::OutOfMemory),
+            Err(fault) => Err(fault),
         }
     }
 

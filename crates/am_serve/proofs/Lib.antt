@@ -4,3 +4,7 @@ pub mod Turns
 pub mod Calling
 pub mod CallTurns
 pub mod Misses
+pub mod LaneChanges
+pub mod LaneTurns
+pub mod LaneWrites
+pub mod LanePushes

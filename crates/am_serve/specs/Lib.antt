@@ -6,3 +6,4 @@ pub mod Tables
 pub mod Statuses
 pub mod Calls
 pub mod CallTables
+pub mod Lanes

@@ -1,6 +1,9 @@
-//! Clients and calls over sockets in memory.
+//! Clients and calls over sockets in memory, and the turns of tenants.
 
-use crate::{Calls, Clients, Dialed, Host, Moved, Progress, Socket, Turn, Verdict, read_from};
+use crate::{
+    Calls, Clients, Dialed, Host, Lanes, Moved, Progress, Socket, Turn, Verdict, read_from,
+};
+use am_tenant::TenantName;
 use std::alloc::Global;
 use std::io;
 use std::test::Fail;
@@ -221,5 +224,37 @@ fn calls_end(rt: HostRuntime) -> Result<(), Fail> {
         let later = now.checked_add(Duration::from_secs(5)).ok_or("no time")?;
         assert!(rt; calls.judge(key, later) == Some(8));
     }
+    Ok(())
+}
+
+#[test]
+fn tenants_leave_places(rt: HostRuntime) -> Result<(), Fail> {
+    let first = TenantName::read(b"first")?;
+    let second = TenantName::read(b"second")?;
+    let mut lanes = Lanes::new(rt.alloc());
+    for number in 0..300 {
+        lanes.push(first, number)?;
+    }
+    // The places that are free, and what begins. None of it ends. After five turns two items of the second tenant came.
+    let table = [
+        (8, Some(0)),
+        (7, Some(1)),
+        (6, Some(2)),
+        (5, Some(3)),
+        (4, None),
+        (4, Some(300)),
+        (3, Some(301)),
+        (2, None),
+    ];
+    for (turn, (free, expected)) in table.into_iter().enumerate() {
+        if turn == 5 {
+            lanes.push(second, 300)?;
+            lanes.push(second, 301)?;
+        }
+        assert!(rt; lanes.pop(free).map(|taken| taken.1) == expected);
+    }
+    lanes.end(&first);
+    lanes.end(&first);
+    assert!(rt; lanes.pop(4).map(|taken| taken.1) == Some(4));
     Ok(())
 }

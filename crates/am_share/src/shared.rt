@@ -1,6 +1,6 @@
 //! The trait of a part that all tenants share.
 
-ghost use Rattle.std.specs.Prelude.{◌≡◌, ℕ, List, OnErr, OnOk};
+ghost use Rattle.std.specs.Prelude.{◌≡◌, ℕ, List, IfErr, OnErr, OnOk};
 ghost use Rattle.am_share.specs.Pairs.{Drops};
 
 use crate::refusal::ShareRefusal;
@@ -20,11 +20,15 @@ pub trait Shared {
     // has returned what was written and the part was not shut.
     ghost stands: { Self → Type 0 };
 
+    // That a call may be refused: never, where it lies in memory.
+    ghost refuses: { Type 0 };
+
     /// Drops all that the part holds of a tenant.
     ///
     /// # Errors
-    /// `Database`, or out of memory. Nothing is dropped.
+    /// `Database`, or out of memory, of what lies on a disk. Nothing is dropped.
     fn drop_tenant(&mut self, tenant: &TenantName) -> Result<(), Failure<ShareRefusal>>
         ensures dropped { stands self.old → stands self.new → OnOk result (Drops tenant.now (pairs self.old) (pairs self.new)) }
-        ensures err { stands self.old → stands self.new → OnErr result (pairs self.new ≡ pairs self.old) };
+        ensures err { stands self.old → stands self.new → OnErr result (pairs self.new ≡ pairs self.old) }
+        ensures refusal { IfErr result (λ _. refuses) };
 }

@@ -1,5 +1,5 @@
 -- Which pattern decides where one is refused.
-use Rattle.std.proofs.Common.{◌≡◌, ℕ, zero, suc, ◌<◌, List, [], ◌∷◌, ◌++◌, All, Bool, true, false, ◌&&◌, ◌||◌, not, Ok, Err, length, slice_index_or, map, sym, ap, ◌∙◌, inl, inr, arith, true≢false}
+use Rattle.std.proofs.Common.{◌≡◌, ℕ, zero, suc, ◌<◌, List, [], ◌∷◌, ◌++◌, All, Bool, true, false, ◌&&◌, ◌||◌, not, Ok, Err, length, slice_index_or, sym, ap, ◌∙◌, inl, inr, arith, true≢false}
 use Rattle.std.specs.List.{list_any}
 use Rattle.std.proofs.lemmas.Bool.{cases_Bool}
 use Rattle.std.proofs.lemmas.Bool.Decides.{leb_tells}
@@ -20,11 +20,10 @@ use Rattle.am_match.specs.Matchers.{MatcherText, is_on_pattern, patterns_of}
 use Rattle.am_match.specs.declared.refusal.MatcherRefusal.{MatcherRefusal}
 use Rattle.am_match.specs.declared.refusal.MatcherRefusal.TheVariants.{NoMatchers, BadPattern, LongPattern, BuildRefused}
 use Rattle.am_silence.specs.Deciding.{FirstDecides, IsOfNoPattern}
-use Rattle.am_silence.specs.Posted.{matcher_of, some_named}
+use Rattle.am_silence.specs.Posted.{patterns_named, some_named}
 use Rattle.am_silence.specs.declared.written.WrittenMatcher.{WrittenMatcher}
 use Rattle.am_silence.specs.declared.refusal.SilenceRefusal.{SilenceRefusal}
 use Rattle.am_silence.specs.declared.refusal.SilenceRefusal.TheVariants.{WithoutMatchers, TakesEmpty, EndsByStart, Unknown, Ended, BadForm, BadMatcher}
-use Rattle.am_silence.proofs.PostedLemmas.{some_named_is}
 
 -- patterns that are refused
 pub patterns_decide : (ps : List (List ℕ)) (old new : Cache) (refusal : MatcherRefusal) → IsPatternRefusal ps old new refusal →
@@ -159,10 +158,10 @@ asked_again ms old new refusal fine patterns (m, (k, within, at), found) =
 
 -- ---- from one call to the next
 
--- what was named has the patterns that were written
+-- matchers that are named have the patterns that decide
 pub named_decide : (ws : List WrittenMatcher) (ms : List MatcherText) (old new : Cache) (failure : Failure SilenceRefusal) → some_named ws ≡ Ok ms →
-    ForRefused failure (FirstDecides (patterns_of ms) old new) → ForRefused failure (FirstDecides (patterns_of (map matcher_of ws)) old new)
-named_decide ws ms old new failure named' decides = rw (← some_named_is ws ms named') decides
+    ForRefused failure (FirstDecides (patterns_of ms) old new) → ForRefused failure (FirstDecides (patterns_named (some_named ws)) old new)
+named_decide ws ms old new failure named' decides = rw named' decides
 
 -- a stop behind a call that refused nothing
 stops_behind : (ps : List (List ℕ)) (refusal : PatternRefusal) (start old new : Cache) → Stays start old → StopsAt ps refusal old new → StopsAt ps refusal start new

@@ -1,5 +1,5 @@
 -- The silences that take label sets, one silence after another.
-use Rattle.std.proofs.Common.{◌≡◌, Bor, ◌<◌, ◌+◌, ℕ, zero, suc, List, [], ◌∷◌, ◌++◌, length, take, get_or, map, append-nil, filter, Bool, refl, sym, ap, ◌∙◌, inl, inr, arith, if◌then◌else◌}
+use Rattle.std.proofs.Common.{◌≡◌, Bor, ◌<◌, ◌≤◌, ◌+◌, ℕ, zero, suc, List, [], ◌∷◌, ◌++◌, length, take, get_or, map, append-nil, filter, Bool, refl, sym, ap, ◌∙◌, inl, inr, arith, if◌then◌else◌}
 use Rattle.std.specs.List.{Contains}
 use Rattle.std.proofs.lemmas.Bool.{cases_Bool}
 use Rattle.std.proofs.lemmas.List.{map-append, take_more}
@@ -12,7 +12,7 @@ use Rattle.am_pattern.specs.Cache.{Cache}
 use Rattle.am_pattern.specs.declared.refusal.PatternRefusal.{PatternRefusal}
 use Rattle.am_pattern.proofs.AskingLemmas.{stays-trans}
 use Rattle.am_match.specs.Asking.{IsFailureAmong}
-use Rattle.am_match.specs.Matchers.{MatcherText}
+use Rattle.am_match.specs.Matchers.{MatcherText, is_on_pattern, patterns_of}
 use Rattle.am_match.specs.Meaning.{all_take}
 use Rattle.am_match.proofs.NarrowLemmas.{failure_of_one}
 use Rattle.am_silence.specs.Held.{SilenceValue, held_silence, matchers_in, taking}
@@ -75,6 +75,44 @@ pub failure_among_more : (all ms : List MatcherText) (start old new : Cache) (fa
 failure_among_more all ms start old new OutOfMemory among stays found = stays-trans start old new stays found
 failure_among_more all ms start old new (Refused refusal) among stays (m, there, refused) =
     failure_of_one all m start old new (Refused refusal) (among m there) stays refused
+
+-- ---- how many patterns are asked for
+
+patterns-append : (ms ns : List MatcherText) → length (patterns_of (ms ++ ns)) ≡ length (patterns_of ms) + length (patterns_of ns)
+patterns-append [] ns = omega arith
+patterns-append (m ∷ ms) ns =
+    let rest = patterns-append ms ns in
+    elim (cases_Bool (is_on_pattern m.operator)) [ inl on ↦ rw on (omega (arith, rest)) | inr off ↦ rw off rest ]
+
+-- the patterns of the first of the silences
+abbrev first_patterns : List HeldSilence → ℕ → List (List ℕ)
+first_patterns silences i = patterns_of (matchers_in (map held_silence (take i silences)))
+
+-- of one silence more
+pub silences-more : (silences : List HeldSilence) (i : ℕ) (s : HeldSilence) → i < length silences → s ≡ get_or silences i s →
+    length (first_patterns silences (i + 1)) ≡ length (first_patterns silences i) + length (patterns_of s.held.now.value.matchers)
+silences-more [] i s within is = absurd (omega (arith, within))
+silences-more (first ∷ silences) zero s within is =
+    let whole = patterns-append first.held.now.value.matchers [] in
+    let same = ap (λ (x : HeldSilence). length (patterns_of x.held.now.value.matchers)) is in
+    omega (arith, whole, same)
+silences-more (first ∷ silences) (suc i) s within is =
+    let more = silences-more silences i s (omega (arith, within)) is in
+    let whole = patterns-append first.held.now.value.matchers (matchers_in (map held_silence (take (i + 1) silences))) in
+    let front = patterns-append first.held.now.value.matchers (matchers_in (map held_silence (take i silences))) in
+    let next : suc i + 1 ≡ suc (i + 1) = omega arith in
+    ap (λ n. length (first_patterns (first ∷ silences) n)) next ∙ omega (arith, more, whole, front)
+
+-- of some of them, no more than of all
+pub silences-some : (silences : List HeldSilence) (i : ℕ) →
+    length (first_patterns silences i) ≤ length (patterns_of (matchers_in (map held_silence silences)))
+silences-some silences zero = omega arith
+silences-some [] (suc i) = omega arith
+silences-some (first ∷ silences) (suc i) =
+    let some = silences-some silences i in
+    let whole = patterns-append first.held.now.value.matchers (matchers_in (map held_silence silences)) in
+    let front = patterns-append first.held.now.value.matchers (matchers_in (map held_silence (take i silences))) in
+    omega (arith, some, whole, front)
 
 -- ---- before the first silence
 

@@ -1,5 +1,5 @@
 -- What a posted body comes to: a silence, or the first refusal that it meets.
-use Rattle.std.specs.Prelude.{ℕ, nat_le, List, [], ◌∷◌, map, Option, Result, Ok, Err, if◌then◌else◌}
+use Rattle.std.specs.Prelude.{ℕ, nat_le, List, [], ◌∷◌, Option, Result, Ok, Err, if◌then◌else◌}
 use Rattle.am_text.specs.Outcome.{◌>>=◌, outcome_as, outcome_map}
 use Rattle.am_labels.specs.Labels.{is_label_name}
 use Rattle.am_json.specs.Reading.{json}
@@ -106,10 +106,15 @@ posted moment body = written_in body >>= λ w. judged moment w
 
 -- ---- its patterns
 
+-- those of matchers that are named: where they are refused for that, no pattern is asked
+abbrev pub patterns_named : Result (List MatcherText) SilenceRefusal → List (List ℕ)
+patterns_named (Ok matchers) = patterns_of matchers
+patterns_named (Err refusal) = []
+
 abbrev pub patterns_written : Result Written SilenceRefusal → List (List ℕ)
-patterns_written (Ok w) = patterns_of (map matcher_of w.matchers)
+patterns_written (Ok w) = patterns_named (some_named w.matchers)
 patterns_written (Err refusal) = []
 
--- the texts that a body has as patterns
+-- the texts that a body has as patterns, once it is of its form and its matchers are on label names
 unfoldable pub patterns_in_body : List ℕ → List (List ℕ)
 patterns_in_body body = patterns_written (written_in body)

@@ -1,6 +1,6 @@
 //! The silences that are held of one tenant.
 
-ghost use Rattle.std.specs.Prelude.{◌≡◌, All, IfErr, IfOk, map, option_map};
+ghost use Rattle.std.specs.Prelude.{◌≡◌, ◌+◌, ◌≤◌, All, IfErr, IfOk, length, map, option_map};
 ghost use Rattle.am_text.specs.Outcome.{Gives};
 ghost use Rattle.am_pattern.specs.Asking.{Asked};
 ghost use Rattle.am_pattern.specs.Taking.{IsPattern};
@@ -161,6 +161,7 @@ impl<'a> SilenceBook<'a> {
     ) -> Result<Vec<Vec<SilenceId>>, Failure<PatternRefusal>>
         ensures silencing { IfOk result (λ v. map (λ ids. ids.items) v.items ≡ map (λ set. silencing moment self.now set.now) sets.now) }
         ensures asked { Asked result cache.old cache.new }
+        ensures misses { cache.new.misses ≤ cache.old.misses + length (patterns_of (matchers_in (active_among moment self.now))) }
         ensures failure { IfErr result (IsFailureAmong (matchers_in (active_among moment self.now)) cache.old cache.new) }
 
         // Where these are patterns of which no build was refused, nothing but memory can fail.

@@ -1,6 +1,6 @@
 //! A posted silence.
 
-ghost use Rattle.std.specs.Prelude.{◌≡◌, [], All, IfErr, IfOk, OnOk, Ok, true, map};
+ghost use Rattle.std.specs.Prelude.{◌≡◌, [], All, IfErr, IfOk, OnOk, Ok, true};
 ghost use Rattle.am_text.specs.Outcome.{ForRefused, Gives};
 ghost use Rattle.am_pattern.specs.Asking.{Asked};
 ghost use Rattle.am_pattern.specs.Taking.{IsPattern};
@@ -8,7 +8,7 @@ ghost use Rattle.am_match.specs.Checking.{AreRefusedRightly, IsFine};
 ghost use Rattle.am_match.specs.Matchers.{patterns_of};
 ghost use Rattle.am_match.specs.Meaning.{all_take};
 ghost use Rattle.am_silence.specs.Deciding.{FirstDecides, IsOfNoPattern};
-ghost use Rattle.am_silence.specs.Posted.{each_named, judged, matcher_of, matchers_judged, named, patterns_in_body, posted, posted_of, some_named, times_judged, with_patterns, written_in};
+ghost use Rattle.am_silence.specs.Posted.{each_named, judged, matchers_judged, named, patterns_in_body, patterns_named, posted, posted_of, some_named, times_judged, with_patterns, written_in};
 ghost use Rattle.am_silence.specs.Unbuilt.{GivesUnless, IsUnbuilt};
 
 use crate::fields::written_of;
@@ -80,10 +80,10 @@ fn judged(
     moment: Moment,
     cache: &mut PatternCache,
 ) -> Result<PostedSilence, Failure<SilenceRefusal>>
-    ensures read { GivesUnless (IsUnbuilt cache.new.refused (patterns_of (map matcher_of written.matchers))) posted_of result (judged moment written) }
+    ensures read { GivesUnless (IsUnbuilt cache.new.refused (patterns_named (some_named written.matchers))) posted_of result (judged moment written) }
     ensures patterns { IfOk result (λ p. All IsPattern (patterns_of p.matchers.items)) }
     ensures asked { Asked result cache.old cache.new }
-    ensures first { IfErr result (λ failure. ForRefused failure (FirstDecides (patterns_of (map matcher_of written.matchers)) cache.old cache.new)) }
+    ensures first { IfErr result (λ failure. ForRefused failure (FirstDecides (patterns_named (some_named written.matchers)) cache.old cache.new)) }
 {
     let matchers = matchers_judged(alloc, written.matchers.as_slice(), cache)?;
     times_judged(
@@ -105,10 +105,10 @@ fn matchers_judged(
     written: &[WrittenMatcher],
     cache: &mut PatternCache,
 ) -> Result<Vec<Matcher>, Failure<SilenceRefusal>>
-    ensures read { GivesUnless (IsUnbuilt cache.new.refused (patterns_of (map matcher_of written.now))) (λ v. v.items) result (matchers_judged written.now) }
+    ensures read { GivesUnless (IsUnbuilt cache.new.refused (patterns_named (some_named written.now))) (λ v. v.items) result (matchers_judged written.now) }
     ensures patterns { IfOk result (λ v. All IsPattern (patterns_of v.items)) }
     ensures asked { Asked result cache.old cache.new }
-    ensures first { IfErr result (λ failure. ForRefused failure (FirstDecides (patterns_of (map matcher_of written.now)) cache.old cache.new)) }
+    ensures first { IfErr result (λ failure. ForRefused failure (FirstDecides (patterns_named (some_named written.now)) cache.old cache.new)) }
 {
     let matchers = some_named(alloc, written)?;
     check(alloc, &matchers, cache)?;

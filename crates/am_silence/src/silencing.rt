@@ -1,10 +1,11 @@
 //! Which silences take label sets.
 
-ghost use Rattle.std.specs.Prelude.{◌≡◌, [], ◌<◌, true, All, List, IfErr, IfOk, OnOk, filter, get_or, length, map};
+ghost use Rattle.std.specs.Prelude.{◌≡◌, ◌+◌, ◌<◌, ◌≤◌, [], true, All, List, IfErr, IfOk, OnOk, filter, get_or, length, map};
 ghost use Rattle.std.specs.List.{range_with_len, zip};
 ghost use Rattle.am_labels.specs.declared.Label.{Label};
 ghost use Rattle.am_pattern.specs.Asking.{Asked};
 ghost use Rattle.am_match.specs.Asking.{IsFailureAmong};
+ghost use Rattle.am_match.specs.Matchers.{patterns_of};
 ghost use Rattle.am_match.specs.Meaning.{all_take};
 ghost use Rattle.am_silence.specs.Held.{held_silence, matchers_in, taking};
 ghost use Rattle.am_silence.specs.Places.{ArePlaces, IsEnough, places_from, pushed_at};
@@ -31,6 +32,7 @@ pub(crate) fn silencing(
     ensures taking { IfOk result (λ v. map (λ ids. ids.items) v.items
         ≡ map (λ labels. taking (map held_silence silences.now) labels) (map (λ set. set.now) sets.now)) }
     ensures asked { Asked result cache.old cache.new }
+    ensures misses { cache.new.misses ≤ cache.old.misses + length (patterns_of (matchers_in (map held_silence silences.now))) }
     ensures failure { IfErr result (IsFailureAmong (matchers_in (map held_silence silences.now)) cache.old cache.new) }
 {
     let places = places_of(alloc, silences, sets)?;
@@ -85,6 +87,7 @@ fn taken_places(
     requires { ArePlaces (map (λ set. set.now) sets.now) places.now }
     ensures taken { IfOk result (λ v. v.items ≡ places_from 0 (all_take matchers.now) (map (λ set. set.now) sets.now)) }
     ensures asked { Asked result cache.old cache.new }
+    ensures misses { cache.new.misses ≤ cache.old.misses + length (patterns_of matchers.now) }
     ensures failure { IfErr result (IsFailureAmong matchers.now cache.old cache.new) }
 {
     let candidates = match least_places(alloc, matchers, places)? {
@@ -116,6 +119,7 @@ fn ask(
     requires { IsEnough matchers.now (map (λ set. set.now) sets.now) candidates.items }
     ensures taken { IfOk result (λ v. v.items ≡ places_from 0 (all_take matchers.now) (map (λ set. set.now) sets.now)) }
     ensures asked { Asked result cache.old cache.new }
+    ensures misses { cache.new.misses ≤ cache.old.misses + length (patterns_of matchers.now) }
     ensures failure { IfErr result (IsFailureAmong matchers.now cache.old cache.new) }
 {
     let asked = sets_at(alloc, &candidates, sets)?;

@@ -24,3 +24,6 @@ pub mod InOrder
 pub mod Readings
 pub mod Puts
 pub mod RowsOf
+pub mod Identifiers
+pub mod Unique
+pub mod KeyOrder

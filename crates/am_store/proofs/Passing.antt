@@ -82,7 +82,7 @@ module _ (old new : State) (store : IsStore old.now) (rows : List Row) where
       let all = All-permutation IsConfig tree rows same (All-from_recursion IsConfig tree store.configs) in
       let answer = (reads_as select_all_configs [] old new store_schema store.schema _ select_all_configs_is select_all_configs_plain select_all_configs_unlisted rows shown).answer Null in
       let apart = IsDistinct-IsPermutation same_id same_id-sym tree rows same (distinct_from_apart tree store.configs_apart) in
-      record { all = all; ids = all_have_ids IsConfig config_id rows all; rising = rising_answer 1 _ (overlay old.now.trees []) rows answer apart }
+      record { all = all; ids = all_have_ids IsConfig config_id rows all; rising = rising_answer 1 [] columns7 0 (λ env. refl) (overlay old.now.trees []) [] rows answer apart }
 
   pub silences_pass : Shown select_all_silences [] old new rows → ArePassed IsSilenceRow rows
   silences_pass shown =
@@ -94,4 +94,4 @@ module _ (old new : State) (store : IsStore old.now) (rows : List Row) where
       let all = All-permutation IsSilenceRow tree rows same (All-from_recursion IsSilenceRow tree store.silences) in
       let answer = (reads_as select_all_silences [] old new store_schema store.schema _ select_all_silences_is select_all_silences_plain select_all_silences_unlisted rows shown).answer Null in
       let apart = IsDistinct-IsPermutation same_id same_id-sym tree rows same (distinct_from_apart tree store.silences_apart) in
-      record { all = all; ids = all_have_ids IsSilenceRow silence_id rows all; rising = rising_answer 3 _ (overlay old.now.trees []) rows answer apart }
+      record { all = all; ids = all_have_ids IsSilenceRow silence_id rows all; rising = rising_answer 3 [] columns13 0 (λ env. refl) (overlay old.now.trees []) [] rows answer apart }

@@ -67,7 +67,7 @@ none_passes p (x ∷ xs) none = let parts = or_parts (p x) (list_any p xs) none 
 abbrev pub same_id : Row → Row → Bool
 same_id a b = is_eq (value_cmp (rowid a) (rowid b))
 
-is_eq-reverse : (o : Ordering) → is_eq (ordering_reverse o) ≡ is_eq o
+pub is_eq-reverse : (o : Ordering) → is_eq (ordering_reverse o) ≡ is_eq o
 is_eq-reverse Less = refl
 is_eq-reverse Equal = refl
 is_eq-reverse Greater = refl

@@ -58,7 +58,7 @@ pub pushed : (items : List Item) (x : Item) (y : Stored) → stored_item x ≡ S
 pushed items x y is = filter_map-append stored_item items (x ∷ []) ∙ ap (λ o. stored_items items ++ cons_option o []) is
 
 -- one row more
-pub one_more : (f : Row → Stored) (rows : List Row) (i : ℕ) (row : Row) (done : List Stored) → i < length rows → row ≡ get_or rows i row
+pub one_more : {X : Type 0} (f : Row → X) (rows : List Row) (i : ℕ) (row : Row) (done : List X) → i < length rows → row ≡ get_or rows i row
     → (done ++ map f (take i rows)) ++ f row ∷ [] ≡ done ++ map f (take (i + 1) rows)
 one_more f rows i row done within is =
     append_assoc done (map f (take i rows)) (f row ∷ [])

@@ -27,7 +27,7 @@ use Rattle.am_store.proofs.Latest.{Pair, is_at}
 
 -- ---- tests of WHERE
 
-truth_is : (b : Bool) → is_true (from_truth (Some b)) ≡ b
+pub truth_is : (b : Bool) → is_true (from_truth (Some b)) ≡ b
 truth_is true = refl
 truth_is false = refl
 

@@ -1,6 +1,7 @@
 -- How rows are read.
-use Rattle.std.specs.Prelude.{◌≡◌, ◌||◌, ◌+◌, ℕ, pos, Bool, not, List, Some, Result, IfErr, IsTrue}
+use Rattle.std.specs.Prelude.{◌≡◌, ◌||◌, ◌+◌, ◌++◌, ℕ, pos, Bool, not, List, map, All, Some, Result, IfErr, IsTrue}
 use Rattle.std.specs.List.{list_any}
+use Rattle.std.specs.List.Sorted.{IsStrictlySortedBy}
 use Rattle.sqlite.specs.declared.types.Value.TheVariants.{Int, Text}
 use Rattle.sqlite.specs.declared.error.Error.{Error}
 use Rattle.sqlite.specs.declared.error.Error.TheVariants.{SqliteFailure}
@@ -14,8 +15,9 @@ use Rattle.am_item.specs.declared.stamp.Stamp.{Stamp}
 use Rattle.am_item.specs.Stamp.{stamp_cmp}
 use Rattle.std.specs.Ordering.{is_gt}
 use Rattle.am_item.specs.declared.item.Item.{Item}
+use Rattle.am_item.specs.Key.{Key, key_cmp}
 use Rattle.am_store.specs.Rows.{IsConfig, IsSilenceRow, IsStamp, config_in, pairs_in, silence_in, stamp_at}
-use Rattle.am_store.specs.Stored.{stored_item}
+use Rattle.am_store.specs.Stored.{key_in, stored_item}
 
 -- there is a value, unless memory ran out
 abbrev pub GivesValue : {X R : Type 0} → Result X (Failure R) → Type 0
@@ -48,6 +50,23 @@ pub record ReadsSilence (row : Row) (tenant : List ℕ) (item : Item) : Type 0 w
   pub is : IsSilenceRow row
   pub tenant_is : (silence_in row).0 ≡ tenant
   pub item_is : stored_item item ≡ Some (silence_in row).1
+
+-- the key of the configuration, or of the silence, that a row holds
+abbrev pub config_key : Row → Key
+config_key row = key_in (config_in row).1.value
+
+abbrev pub silence_key : Row → Key
+silence_key row = key_in (silence_in row).1.value
+
+-- each key is below those after it
+abbrev pub KeysRise : List Key → Type 0
+KeysRise keys = IsStrictlySortedBy key_cmp keys
+
+-- the rows are those of configurations and of silences, and in order of their keys, of which none comes twice
+pub record AreInOrder (configs silences : List Row) : Type 0 where
+  pub are_configs : All IsConfig configs
+  pub are_silences : All IsSilenceRow silences
+  pub keys : KeysRise (map config_key configs ++ map silence_key silences)
 
 -- the first column is the name of a tenant
 pub record IsNamed (row : Row) : Type 0 where

@@ -131,6 +131,8 @@ impl<S: Alter> Store<S> {
             → IfOk result (λ items. IsPermutation (things_of tenant.now (pairs_in (state S.Store self.old).now.trees))
             (stored_items items.items)) }
         ensures order { IfOk result (λ items. IsRising items.items) }
+        ensures passes { HasCleanDisk (state S.Store self.new) → IsStore (state S.Store self.old).now
+            → IsNotForeign result }
         ensures rests { (HasCleanDisk (state S.Store self.old) → IsStore (state S.Store self.old).now)
             → Rests (state S.Store self.old) (state S.Store self.new) }
         ensures same { HasCleanDisk (state S.Store self.new) → IsStore (state S.Store self.old).now
@@ -211,6 +213,8 @@ impl<S: Alter> Shared for Store<S> {
     ghost pairs = { λ store. pairs_in (state S.Store store).now.trees };
 
     ghost stands = { Stands S.Store };
+
+    ghost refuses = { Unit {0} };
 
     fn drop_tenant(&mut self, tenant: &TenantName) -> Result<(), Failure<ShareRefusal>> {
         match self.drop_tenant(tenant) {

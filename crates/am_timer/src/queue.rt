@@ -113,6 +113,8 @@ impl Shared for TimerQueue {
 
     ghost stands = { λ _. ⊤ };
 
+    ghost refuses = { ⊥ };
+
     fn drop_tenant(&mut self, tenant: &TenantName) -> Result<(), Failure<ShareRefusal>> {
         leave(&mut self.by_due, &mut self.dues, tenant);
         Ok(())

@@ -72,7 +72,7 @@ faulted_limits w w' tenant limits instances outputs counted clock same service_k
   taken = refl;
   stopped = λ i. false;
   worked = λ i never. absurd cc;
-  some = λ none i. refl;
+  some = λ none. refl;
   down = λ i never. absurd cc;
   causes = λ i never. absurd cc;
   others = λ i idle. ap (instance_at i) instances;

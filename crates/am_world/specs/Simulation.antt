@@ -123,6 +123,15 @@ works w (event.Limits tenant limits) j = false
 works w (event.Tick moment) j = up_at j w.instances
 works w (event.Outcome attempt tries moment status) j = j == attempt.instance
 
+-- the event asks work of no instance, whatever the world
+abbrev pub asks_none : Event → Bool
+asks_none (event.Open c i) = false
+asks_none (event.Bytes c moment piece) = false
+asks_none (event.Close c) = false
+asks_none (event.Limits tenant limits) = true
+asks_none (event.Tick moment) = false
+asks_none (event.Outcome attempt tries moment status) = false
+
 -- why an event stops an instance of which it asks work: by what the instance had, and by the patterns that it had been refused
 -- the build of then; memory may run out anywhere
 abbrev pub StopsBy : World → Event → ℕ → Fault → List (List ℕ) → Type 0
@@ -149,13 +158,13 @@ pub record StoppedBy (w : World) (e : Event) (i : ℕ) (w' : World) : Type 0 whe
 abbrev pub faults_of : (ℕ → Bool) → ℕ
 faults_of stopped = max 1 (length (filter stopped numbers))
 
--- an event that met a fault: it wasn't refused, and instances of which it asked work stopped. They are down, each for its
--- cause, and have put nothing out; every instance that had no work is as it was
+-- an event that met a fault: it wasn't refused, and instances of which it asked work stopped, one at least where it asks work of
+-- any. They are down, each for its cause, and have put nothing out; every instance that had no work is as it was
 pub record Faulted (w : World) (e : Event) (w' : World) : Type 0 where
   pub taken : refusal w e ≡ None
   pub stopped : ℕ → Bool
   pub worked : (i : ℕ) → stopped i ≡ true → works w e i ≡ true
-  pub some : ((i : ℕ) → stopped i ≡ false) → (i : ℕ) → works w e i ≡ false
+  pub some : ((i : ℕ) → stopped i ≡ false) → asks_none e ≡ true
   pub down : (i : ℕ) → stopped i ≡ true → IsDownAt i w'.instances
   pub causes : (i : ℕ) → stopped i ≡ true → StoppedBy w e i w'
   pub others : (i : ℕ) → works w e i ≡ false → instance_at i w'.instances ≡ instance_at i w.instances

@@ -123,16 +123,14 @@ limits_of s = do
   notices ← number_of d.1
   Some (Limits tenant (record { alerts = a.0; silences = b.0; configuration = c.0; silence = d.0; notices = notices }))
 
--- the status code of an answer, a number of three digits
-unfoldable pub status_of : List ℕ → Option ℕ
-status_of s = do
-  n ← number_of s
-  if nat_le 100 n && nat_le n 999 then Some n else None
+-- the status of an answer that has this number: none where it isn't of three digits
+abbrev pub status_in : ℕ → Option ℕ
+status_in n = if nat_le 100 n && nat_le n 999 then Some n else None
 
 -- what stands behind `hook `
 unfoldable pub hook_of : List ℕ → Option Command
 hook_of s =
-    if bytes_eq s (codes "none") then Some (Hook None) else option_map (λ status. Hook (Some status)) (status_of s)
+    if bytes_eq s (codes "none") then Some (Hook None) else option_map (λ n. Hook (status_in n)) (number_of s)
 
 -- a command that is one word
 unfoldable pub lone_command : List ℕ → Option Command

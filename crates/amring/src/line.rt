@@ -1,6 +1,6 @@
 ghost use Rattle.std.specs.Prelude.{◌≡◌, option_map};
 ghost use Rattle.amring.specs.Number.{number_of};
-ghost use Rattle.amring.specs.Line.{Reads, split, both, word_of, word_then, string_of, command_of, text_command, lone_command, named_command, at_of, open_of, bytes_of, call_of, limits_of, hook_of, status_of, number_then, request_of, target_of, tenant_named};
+ghost use Rattle.amring.specs.Line.{Reads, split, both, word_of, word_then, string_of, command_of, text_command, lone_command, named_command, at_of, open_of, bytes_of, call_of, limits_of, hook_of, status_in, number_then, request_of, target_of, tenant_named};
 
 use crate::command::{Command, Request};
 use crate::number::number;
@@ -167,20 +167,18 @@ fn read_hook(rest: &str) -> Result<Command, LineFault>
     if rest == "none" {
         return Ok(Command::Hook(None));
     }
-    let status = read_status(rest)?;
-    Ok(Command::Hook(Some(status)))
+    let number = read_number(rest)?;
+    Ok(Command::Hook(status_in(number)))
 }
 
-/// The status code of an answer, which has three digits (RFC 9110 section 15).
-#[tactic(auto, unfolding(crate::specs::Line::status_of))]
-fn read_status(word: &str) -> Result<u16, LineFault>
-    ensures { Reads (λ n. n) result (status_of word.now) }
+/// The status of an answer that has this number: none where it isn't of three digits (RFC 9110 section 15).
+fn status_in(number: u64) -> Option<u16>
+    ensures { result ≡ status_in number }
 {
-    let number = read_number(word)?;
     if 100 <= number && number <= 999 {
-        Ok(number as u16)
+        Some(number as u16)
     } else {
-        Err(LineFault::NotACommand)
+        None
     }
 }
 

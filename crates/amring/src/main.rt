@@ -11,6 +11,7 @@ mod number;
 mod options;
 mod play;
 mod report;
+mod serve;
 mod stops;
 #[cfg(test)]
 mod tests;
@@ -53,6 +54,7 @@ fn start<E: Write>(rt: &HostRuntime, errors: &mut E) -> io::Result<ExitCode> {
     };
     match options::options(rt.alloc(), words.as_slice())? {
         CommandLine::Run(setup) => run(rt, setup, errors),
+        CommandLine::Serve(serving) => serve::serve(rt, serving, errors),
         CommandLine::Help(text) => {
             print!(rt; "{text}")?;
             Ok(ExitCode::SUCCESS)

@@ -2,6 +2,7 @@
 
 mod isolation;
 pub mod links;
+mod serving;
 mod streams;
 
 use crate::play::{Played, play};
@@ -350,8 +351,6 @@ fn bad_lines(rt: HostRuntime) -> Result<(), Fail> {
         b"call c 1 a GET /x []",
         b"join 4",
         b"hook",
-        b"hook 99",
-        b"hook 1000",
         b"hook none ",
         b"# a comment\xff",
         b"open \xff 1",
@@ -395,7 +394,10 @@ fn lines_that_are_taken(rt: HostRuntime) -> Result<(), Fail> {
         ("bytes c \t\"a\" \r\n", "refused We5\nfaults 0\n"),
         ("bytes c \"\"", "faults 0\n"),
         ("call c 2 - GET /x \"body\"", "refused We2\nfaults 0\n"),
-        ("hook 100\nhook 999\nhook none", "faults 0\n"),
+        (
+            "hook 100\nhook 999\nhook none\nhook 99\nhook 1000",
+            "faults 0\n",
+        ),
     ] {
         let (end, written) = played(rt.alloc(), scenario.as_bytes())?;
         assert_eq!(rt; end, Played::All, "{scenario}");

@@ -46,7 +46,19 @@ fn command_lines(rt: HostRuntime) -> Result<(), Fail> {
         (["amring", "--key", LOWER, "run"].as_slice(), "bad"),
         (["amring", "run", "x"].as_slice(), "bad"),
         (["amring", "--cache", "1", "run"].as_slice(), "bad"),
+        (["amring", "serve", "--port", "65535"].as_slice(), "serve"),
+        (
+            ["amring", "serve", "--port=1", "--count=1"].as_slice(),
+            "serve",
+        ),
         (["amring", "serve"].as_slice(), "bad"),
+        (["amring", "serve", "--port", "0"].as_slice(), "bad"),
+        (["amring", "serve", "--port", "65536"].as_slice(), "bad"),
+        (
+            ["amring", "serve", "--port=1", "--count=0"].as_slice(),
+            "bad",
+        ),
+        (["amring", "run", "--port", "1"].as_slice(), "bad"),
         (["amring", ""].as_slice(), "bad"),
         (["amring"].as_slice(), "bad"),
         ([].as_slice(), "bad"),
@@ -57,6 +69,7 @@ fn command_lines(rt: HostRuntime) -> Result<(), Fail> {
     ] {
         let asked = match options(rt.alloc(), words)? {
             CommandLine::Run(_) => "run",
+            CommandLine::Serve(_) => "serve",
             CommandLine::Help(_) => "help",
             CommandLine::Bad(_) => "bad",
         };
@@ -78,12 +91,18 @@ fn texts(rt: HostRuntime) -> Result<(), Fail> {
             "--key takes 64 hexadecimal digits",
         ),
         (
+            ["amring", "serve"].as_slice(),
+            "serve needs --port, a number from 1 to 65535",
+        ),
+        (
             ["amring", "run", "x"].as_slice(),
             "unexpected argument 'x' found\n\nUsage: amring run [OPTIONS]\n\nFor more information, try '--help'.",
         ),
     ] {
         let text = match options(rt.alloc(), words)? {
-            CommandLine::Run(_) => return Err("there is no text".into()),
+            CommandLine::Run(_) | CommandLine::Serve(_) => {
+                return Err("there is no text".into());
+            }
             CommandLine::Help(text) | CommandLine::Bad(text) => text,
         };
         assert_eq!(rt; text.as_str(), wanted, "{words:?}");

@@ -4,6 +4,7 @@ use Rattle.am_store.specs.Rows.{IsStore}
 use Rattle.am_store.specs.Texts.{select_config, select_silences}
 use Rattle.am_store.proofs.Calls.{at_store}
 use Rattle.am_store.proofs.Compiled.{select_config_plain, select_silences_plain}
+use Rattle.am_store.proofs.KeyOrder.{in_order}
 use Rattle.am_store.proofs.Resting.{rests_then}
 use Rattle.am_store.proofs.RowsOf.{all_rows, configs_shown, silences_shown}
 use Rattle.am_store.proofs.rows.found.Goals as goal
@@ -56,3 +57,16 @@ returns-clause-same g c clean store =
     let one = configs_shown old mid store t c.in_ok-configs.configs.items (rw c.named.ensures.bound at (c.in_ok-configs.ensures.shown (c.rows-2.ensures.clean clean))) in
     let two = silences_shown mid new (subst IsStore (sym one.0.0.now_is) store) t c.in_ok-silences.silences.items (rw c.named-2.ensures.bound at (c.in_ok-silences.ensures.shown clean)) in
     two.0.0.now_is ∙ one.0.0.now_is
+
+pub returns-clause-order : goal.returns-clause-order
+returns-clause-order g c clean store =
+    let old = state g.S.Store c.args.conn.now in
+    let mid = state g.S.Store c.rows.new.conn in
+    let new = state g.S.Store c.rows-2.new.conn in
+    let t = c.args.tenant.now in
+    let cs = c.in_ok-configs.configs.items in
+    let ss = c.in_ok-silences.silences.items in
+    let one = rw c.named.ensures.bound at (c.in_ok-configs.ensures.shown (c.rows-2.ensures.clean clean)) in
+    let two = rw c.named-2.ensures.bound at (c.in_ok-silences.ensures.shown clean) in
+    let same = (configs_shown old mid store t cs one).0 in
+    in_order old mid new store (c.schema-live.ensures.live same.0.was_open).0 same.0.now_is t cs ss one two

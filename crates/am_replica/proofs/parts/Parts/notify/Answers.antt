@@ -1,9 +1,9 @@
-use Rattle.std.proofs.Common.{◌≡◌, ◌∷◌, [], true, false, refl, sym, ap, ◌∙◌, rules}
+use Rattle.std.proofs.Common.{◌≡◌, ◌∷◌, [], true, false, Err, refl, sym, ap, ◌∙◌, rules}
 use Rattle.am_outlet.specs.Attempts.{added}
 use Rattle.am_replica.specs.Delivery.{notified}
 use Rattle.am_replica.specs.Local.{Reaction, Tells}
 use Rattle.am_item.specs.declared.fault.Fault.TheVariants.{CountsExhausted}
-use Rattle.am_replica.proofs.Counting.{fits, no_error, not_started, passes, started}
+use Rattle.am_replica.proofs.Counting.{fits, no_error, not_started, passes, started, stops_for}
 use Rattle.am_agenda.specs.Plan.{with_desk}
 use Rattle.am_agenda.specs.Planned.{plan_of}
 use Rattle.am_book.specs.Book.{items_of}
@@ -78,10 +78,12 @@ returns-in-Ok-clause-fits c =
     let some : room ≡ true = sym c.in_ok-take.ensures.answer ∙ search rules in
     ap (λ (x : Reaction). x.fits) (started room c.args.notice _ some) ∙ fits plan.desk.used (λ le. no_error c.in-Ok.sending CountsExhausted (c.in-Ok.ensures.fault.1 le))
 
-pub returns-in-Err-CountsExhausted-clause-fault : goal.returns-in-Err-CountsExhausted-clause-fault
+pub returns-in-Err-clause-fault : goal.returns-in-Err-clause-fault
 unfolding local_of notified
-returns-in-Err-CountsExhausted-clause-fault c =
+returns-in-Err-clause-fault c =
     let plan = plan_of c.args.tenant.now c.args.self.now.agenda in
     let room = has_room (with_limit (allowance_of c.args.tenant.now c.args.self.now.allowances) c.args.here.now.limits.notices) c.args.here.now.moment in
     let some : room ≡ true = sym c.in_ok-take.ensures.answer ∙ search rules in
-    ap (λ (x : Reaction). x.fits) (started room c.args.notice _ some) ∙ passes plan.desk.used (c.start.ensures.fault.0 (search rules))
+    stops_for (notified c.args.here.now c.args.notice (local_of c.args.tenant.now c.args.self.now)) c.in-Err.fault
+    (λ counts. ap (λ (x : Reaction). x.fits) (started room c.args.notice _ some) ∙ passes plan.desk.used (c.in-Err.ensures.fault.0 (ap Err counts)))
+    (λ never. c.in-Err.ensures.no_pattern (ap Err never))

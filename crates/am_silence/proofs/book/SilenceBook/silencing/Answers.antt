@@ -1,7 +1,8 @@
-use Rattle.std.proofs.Common.{◌∙◌, ap, List, map, subst}
+use Rattle.std.proofs.Common.{◌∙◌, ◌+◌, ◌≤◌, ap, length, List, map, subst}
 use Rattle.std.proofs.lemmas.Result.{IfOk-weaker, IfErr-weaker}
 use Rattle.am_item.specs.Kinds.{silences_of}
 use Rattle.am_match.specs.Asking.{IsFailureAmong}
+use Rattle.am_match.specs.Matchers.{patterns_of}
 use Rattle.am_match.proofs.NarrowLemmas.{memory_alone}
 use Rattle.am_silence.specs.Held.{SilenceValue, active_among, held_silence, matchers_in, taking}
 use Rattle.am_silence.proofs.HeldLemmas.{active_held, each_silencing}
@@ -14,6 +15,12 @@ returns-clause-silencing c =
     (λ v is. is ∙ ap (λ (all : List SilenceValue). map (λ labels. taking all labels) (map (λ set'. set'.now) c.args.sets.now)) (ap (map held_silence) c.deref.ensures.value ∙ active)
     ∙ each_silencing c.args.moment c.args.self.now c.args.sets.now)
     c.silencing.ensures.taking
+
+pub returns-clause-misses : goal.returns-clause-misses
+returns-clause-misses c =
+    let active = c.in_ok-active.ensures ∙ active_held c.args.moment c.silences.result.now.entries c.args.self.now (c.silences.ensures.items ∙ ap silences_of c.self.view_is) in
+    subst (λ (all : List SilenceValue). c.silencing.new.cache.misses ≤ c.args.cache.now.misses + length (patterns_of (matchers_in all)))
+    (ap (map held_silence) c.deref.ensures.value ∙ active) c.silencing.ensures.misses
 
 pub returns-clause-failure : goal.returns-clause-failure
 returns-clause-failure c =

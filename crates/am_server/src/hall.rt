@@ -1,0 +1,242 @@
+//! The clients and the calls, by the tokens of the poll.
+
+use crate::desk::{Desk, Notice, Try};
+use crate::stream::Stream;
+use am_serve::{Calls, Clients, Progress, Turn};
+use am_url::WebhookUrl;
+use am_world::world::World;
+use mio::Token;
+use std::alloc::{AllocError, Global};
+use std::net::{IpAddr, Ipv4Addr, SocketAddr};
+use std::time::Instant;
+use std::{io, mem};
+
+/// How many connections are open at once, at most.
+const MOST_CLIENTS: usize = 1024;
+
+/// How many calls of webhooks are under way at once, at most.
+pub const MOST_CALLS: usize = 256;
+
+/// The tokens of calls begin here; those of clients are below.
+const CALLS: usize = 1 << 32;
+
+#[derive(Drop)]
+pub struct Hall<'w> {
+    alloc: Global,
+    desk: Desk<'w>,
+    clients: Clients<Stream>,
+    calls: Calls<Stream, Try>,
+    /// Whoever can go on at once, each once.
+    unfinished: Vec<Token>,
+    /// The clients that wait for room until the next sweep.
+    crowded: Vec<Token>,
+    answered: u64,
+    /// How many connections are to be answered, where that is bounded.
+    count: Option<u64>,
+    buffer: [u8; 4096],
+}
+
+impl<'w> Hall<'w> {
+    pub fn new(alloc: Global, desk: Desk<'w>, count: Option<u64>) -> Result<Hall<'w>, AllocError> {
+        Ok(Hall {
+            alloc,
+            desk,
+            clients: Clients::new(alloc, MOST_CLIENTS)?,
+            calls: Calls::new(alloc, MOST_CALLS)?,
+            unfinished: Vec::new(alloc),
+            crowded: Vec::new(alloc),
+            answered: 0,
+            count,
+            buffer: [0; 4096],
+        })
+    }
+
+    pub fn world(&self) -> &World {
+        self.desk.world()
+    }
+
+    pub fn calls(&self) -> usize {
+        self.calls.len()
+    }
+
+    pub fn is_done(&self) -> bool {
+        self.count.is_some_and(|count| self.answered >= count)
+    }
+
+    pub fn is_full(&self) -> bool {
+        self.clients.is_full()
+    }
+
+    /// Whether somebody can go on at once.
+    pub fn has_more(&self) -> bool {
+        !self.unfinished.is_empty()
+    }
+
+    pub fn next_client(&self) -> Token {
+        Token(self.clients.next_key())
+    }
+
+    pub fn next_call(&self) -> Token {
+        token_of_call(self.calls.next_key())
+    }
+
+    pub fn next_notice(&mut self) -> Option<Notice> {
+        let free = MOST_CALLS.saturating_sub(self.calls.len());
+        self.desk.next_notice(free)
+    }
+
+    pub fn set_moment(&mut self, moment: u64) {
+        self.desk.set_moment(moment);
+    }
+
+    pub fn tick(&mut self) -> Result<(), AllocError> {
+        self.desk.tick()
+    }
+
+    pub fn settle(&mut self, name: Try, status: Option<u16>) -> Result<(), AllocError> {
+        self.desk.settle(name, status)
+    }
+
+    /// Takes a client in, which was registered under the next client's token, and gives it its first turn.
+    pub fn admit(&mut self, stream: Stream, now: Instant) -> Result<(), AllocError> {
+        if self.clients.is_full() {
+            return Ok(());
+        }
+        match self.clients.add(stream, &mut self.desk, now) {
+            Some(key) => self.serve(key, now),
+            None => Ok(()),
+        }
+    }
+
+    /// Gives those a turn that could go on at once.
+    pub fn resume(&mut self, now: Instant) -> Result<(), AllocError> {
+        for token in mem::replace(&mut self.unfinished, Vec::new(self.alloc)) {
+            self.move_on(token, now)?;
+        }
+        Ok(())
+    }
+
+    /// Gives the client or the call of a token its turn.
+    pub fn move_on(&mut self, token: Token, now: Instant) -> Result<(), AllocError> {
+        match token.0.checked_sub(CALLS) {
+            Some(key) => self.go_on(key),
+            None => self.serve(token.0, now),
+        }
+    }
+
+    /// Gives a client its turn, unless as many were answered as were asked for.
+    fn serve(&mut self, key: usize, now: Instant) -> Result<(), AllocError> {
+        if self.is_done() {
+            return Ok(());
+        }
+        match self
+            .clients
+            .turn(key, &mut self.desk, now, &mut self.buffer)
+        {
+            Some(Turn::More) => self.keep(Token(key)),
+            Some(Turn::Drains) => {
+                self.count_answer();
+                self.keep(Token(key))
+            }
+            Some(Turn::Answered) => {
+                self.count_answer();
+                Ok(())
+            }
+            Some(Turn::Crowded) => {
+                self.crowded.push(Token(key))?;
+                Ok(())
+            }
+            Some(Turn::Waits | Turn::Drained | Turn::Lost | Turn::Gone) | None => Ok(()),
+        }
+    }
+
+    fn count_answer(&mut self) {
+        self.answered = self.answered.saturating_add(1);
+    }
+
+    /// Notes that somebody can go on at once.
+    fn keep(&mut self, token: Token) -> Result<(), AllocError> {
+        if !self.unfinished.contains(&token) {
+            self.unfinished.push(token)?;
+        }
+        Ok(())
+    }
+
+    /// Begins a call, whose socket was registered under the next call's token.
+    pub fn call(&mut self, stream: Stream, notice: Notice, now: Instant) {
+        if !self.calls.is_full() {
+            let Notice { name, request, .. } = notice;
+            self.calls.add(stream, request.into_vec(), name, now);
+        }
+    }
+
+    /// Gives a call its turn, and tells the world what came of it once it ends.
+    fn go_on(&mut self, key: usize) -> Result<(), AllocError> {
+        match self.calls.turn(key, &mut self.buffer) {
+            Some(Progress::More) => self.keep(token_of_call(key)),
+            Some(Progress::Ended { name, status }) => self.desk.settle(name, status),
+            Some(Progress::Waits) | None => Ok(()),
+        }
+    }
+
+    /// Lets go of the clients and the calls that are late, and lets those that wait for room go on.
+    pub fn sweep(&mut self, now: Instant) -> Result<(), AllocError> {
+        for key in 0..self.clients.capacity() {
+            self.clients.judge(key, &mut self.desk, now);
+        }
+        self.sweep_calls(now)?;
+        for token in mem::replace(&mut self.crowded, Vec::new(self.alloc)) {
+            self.keep(token)?;
+        }
+        Ok(())
+    }
+
+    fn sweep_calls(&mut self, now: Instant) -> Result<(), AllocError> {
+        for key in 0..self.calls.capacity() {
+            if let Some(name) = self.calls.judge(key, now) {
+                self.desk.settle(name, None)?;
+            }
+        }
+        Ok(())
+    }
+
+    /// Where a notice goes.
+    pub fn address_of(&self, notice: &Notice) -> io::Result<SocketAddr> {
+        let url = WebhookUrl::read(self.alloc, notice.url.as_str())?;
+        match url.as_ref().and_then(address) {
+            Some(address) => Ok(address),
+            None => Err(io::ErrorKind::InvalidInput.into()),
+        }
+    }
+}
+
+fn token_of_call(key: usize) -> Token {
+    Token(CALLS.saturating_add(key))
+}
+
+/// The address that a URL names: `localhost` or four numbers, in which zeros may stand in front, and a port.
+fn address(url: &WebhookUrl) -> Option<SocketAddr> {
+    let name = match url.host().split_once(':') {
+        Some((name, _)) => name,
+        None => url.host(),
+    };
+    let host = if name == "localhost" {
+        Ipv4Addr::LOCALHOST
+    } else {
+        numbers(name)?
+    };
+    Some(SocketAddr::new(IpAddr::V4(host), url.port()))
+}
+
+fn numbers(name: &str) -> Option<Ipv4Addr> {
+    let (first, behind) = name.split_once('.')?;
+    let (second, after) = behind.split_once('.')?;
+    let (third, fourth) = after.split_once('.')?;
+    let number = |digits: &str| digits.parse::<u8>().ok();
+    Some(Ipv4Addr::new(
+        number(first)?,
+        number(second)?,
+        number(third)?,
+        number(fourth)?,
+    ))
+}
