@@ -7,7 +7,7 @@ use am_labels::{Annotations, Label, LabelSet};
 use am_payload::{
     ReadAlert, ReadGroup, ToldAlert, WebhookBody, alerts_json, groups_json, webhook_json,
 };
-use am_text::{Listed, Moment, Text};
+use am_text::{Listed, Moment, Octets, Text};
 use std::alloc::{AllocError, Global};
 use std::test::Fail;
 
@@ -53,126 +53,208 @@ fn details(
     annotations: &str,
     ends_at: u64,
     url: &str,
-) -> Result<Stamped<AlertDetails>, Fail> {
-    Ok(Stamped {
-        stamp: Stamp {
-            moment: moment(1750000000001)?,
-            instance: 1,
-            incarnation: 1,
-            count: 2,
-        },
-        value: AlertDetails {
-            annotations: Annotations::from_pairs(alloc, pairs(alloc, annotations)?)?,
-            starts_at: moment(1750000000000)?,
-            ends_at: moment(ends_at)?,
-            generator_url: Text::read(alloc, url)?,
-        },
+) -> Result<AlertDetails, Fail> {
+    Ok(AlertDetails {
+        annotations: Annotations::from_pairs(alloc, pairs(alloc, annotations)?)?,
+        starts_at: moment(1750000000000)?,
+        ends_at: moment(ends_at)?,
+        generator_url: Text::read(alloc, url)?,
     })
 }
 
-#[test]
-fn a_muted_alert_is_suppressed(rt: HostRuntime) -> Result<(), Fail> {
-    let alloc = rt.alloc();
-    let labels = label_set(alloc, "a=b")?;
-    let details = details(alloc, "", 1750000300000, "http://p")?;
+fn stamped(value: AlertDetails) -> Result<Stamped<AlertDetails>, Fail> {
+    let stamp = Stamp {
+        moment: moment(1750000000001)?,
+        instance: 1,
+        incarnation: 1,
+        count: 2,
+    };
+    Ok(Stamped { stamp, value })
+}
+
+// An alert of the first receiver, with those that silence and inhibit it.
+fn read_alert<'a>(
+    alloc: Global,
+    labels: &'a LabelSet,
+    details: &'a Stamped<AlertDetails>,
+    silenced_by: Vec<SilenceId>,
+    inhibited_by: Vec<&'a LabelSet>,
+) -> Result<ReadAlert<'a>, AllocError> {
     let mut receivers = Vec::new(alloc);
     receivers.push(0)?;
+    Ok(ReadAlert {
+        alert: HeldAlert { labels, details },
+        receivers: Listed::from_vec(receivers),
+        silenced_by: Listed::from_vec(silenced_by),
+        inhibited_by: Listed::from_vec(inhibited_by),
+    })
+}
+
+// An alert that a silence and an alert mute.
+fn muted<'a>(
+    alloc: Global,
+    labels: &'a LabelSet,
+    details: &'a Stamped<AlertDetails>,
+) -> Result<ReadAlert<'a>, AllocError> {
     let mut silences = Vec::new(alloc);
     silences.push(SilenceId::from_bytes([
         0, 1, 2, 3, 4, 5, 0x46, 7, 0x88, 9, 10, 11, 12, 13, 14, 15,
     ]))?;
     let mut inhibiting = Vec::new(alloc);
-    inhibiting.push(&labels)?;
+    inhibiting.push(labels)?;
+    read_alert(alloc, labels, details, silences, inhibiting)
+}
+
+// What is read of that alert.
+fn muted_json(alloc: Global) -> Result<Octets, Fail> {
+    let labels = label_set(alloc, "a=b")?;
+    let details = stamped(details(alloc, "", 1750000300000, "http://p")?)?;
     let mut alerts = Vec::new(alloc);
-    alerts.push(ReadAlert {
-        alert: HeldAlert {
-            labels: &labels,
-            details: &details,
-        },
-        receivers: Listed::from_vec(receivers),
-        silenced_by: Listed::from_vec(silences),
-        inhibited_by: Listed::from_vec(inhibiting),
-    })?;
+    alerts.push(muted(alloc, &labels, &details)?)?;
     let config = Config::default_config(alloc)?;
-    let text = alerts_json(alloc, &config, &alerts)?;
-    assert_eq!(rt; text.as_slice(), MUTED.as_bytes());
-    Ok(())
+    Ok(alerts_json(alloc, &config, &alerts)?)
+}
+
+// Active alerts of these label sets.
+fn active<'a>(
+    alloc: Global,
+    sets: &'a [LabelSet],
+    details: &'a Stamped<AlertDetails>,
+) -> Result<Vec<ReadAlert<'a>>, AllocError> {
+    let mut alerts = Vec::new(alloc);
+    for labels in sets {
+        alerts.push(read_alert(alloc, labels, details, Vec::new(alloc), Vec::new(alloc))?)?;
+    }
+    Ok(alerts)
+}
+
+// A group of one alert.
+fn group<'a>(
+    alloc: Global,
+    receiver: &'a Text,
+    labels: &'a LabelSet,
+    place: usize,
+) -> Result<ReadGroup<'a>, AllocError> {
+    let mut places = Vec::new(alloc);
+    places.push(place)?;
+    Ok(ReadGroup {
+        receiver,
+        labels,
+        alerts: Listed::from_vec(places),
+    })
+}
+
+// What is read of two alerts in groups that stand the other way round.
+fn groups_json_of(
+    alloc: Global,
+    alerts: &[ReadAlert<'_>],
+    names: &[LabelSet],
+) -> Result<Octets, Fail> {
+    let receiver = Text::read(alloc, "r0")?;
+    let mut groups = Vec::new(alloc);
+    for (place, labels) in names.iter().enumerate() {
+        groups.push(group(alloc, &receiver, labels, 1_usize.saturating_sub(place))?)?;
+    }
+    let config = Config::default_config(alloc)?;
+    Ok(groups_json(alloc, &config, alerts, &groups)?)
+}
+
+fn two_sets(alloc: Global, first: &str, second: &str) -> Result<Vec<LabelSet>, Fail> {
+    let mut sets = Vec::new(alloc);
+    sets.push(label_set(alloc, first)?)?;
+    sets.push(label_set(alloc, second)?)?;
+    Ok(sets)
+}
+
+fn grouped_json(alloc: Global) -> Result<Octets, Fail> {
+    let sets = two_sets(alloc, "a=b", "x=y")?;
+    let names = two_sets(alloc, "", "a=b")?;
+    let details = stamped(details(alloc, "", 1750000300000, "http://p")?)?;
+    let alerts = active(alloc, &sets, &details)?;
+    groups_json_of(alloc, &alerts, &names)
 }
 
 #[test]
-fn groups_have_their_own_alerts(rt: HostRuntime) -> Result<(), Fail> {
-    let alloc = rt.alloc();
-    let sets = [label_set(alloc, "a=b")?, label_set(alloc, "x=y")?];
-    let names = [label_set(alloc, "")?, label_set(alloc, "a=b")?];
-    let receiver = Text::read(alloc, "r0")?;
-    let details = details(alloc, "", 1750000300000, "http://p")?;
-    let mut alerts = Vec::new(alloc);
-    for labels in &sets {
-        let mut receivers = Vec::new(alloc);
-        receivers.push(0)?;
-        alerts.push(ReadAlert {
-            alert: HeldAlert {
-                labels,
-                details: &details,
-            },
-            receivers: Listed::from_vec(receivers),
-            silenced_by: Listed::from_vec(Vec::new(alloc)),
-            inhibited_by: Listed::from_vec(Vec::new(alloc)),
-        })?;
-    }
-    let mut groups = Vec::new(alloc);
-    for (place, labels) in names.iter().enumerate() {
-        let mut places = Vec::new(alloc);
-        places.push(1 - place)?;
-        groups.push(ReadGroup {
-            receiver: &receiver,
-            labels,
-            alerts: Listed::from_vec(places),
-        })?;
-    }
-    let config = Config::default_config(alloc)?;
-    let text = groups_json(alloc, &config, &alerts, &groups)?;
-    assert_eq!(rt; text.as_slice(), GROUPS.as_bytes());
+fn alerts_are_read(rt: HostRuntime) -> Result<(), Fail> {
+    let muted = muted_json(rt.alloc())?;
+    assert_eq!(rt; muted.as_slice(), MUTED.as_bytes());
+    let grouped = grouped_json(rt.alloc())?;
+    assert_eq!(rt; grouped.as_slice(), GROUPS.as_bytes());
     Ok(())
 }
+
+// Labels, annotations, and whether the alert fires.
+type Row = (&'static str, &'static str, bool);
+
+// An alert that is told, with what it is told of.
+type Owned = (LabelSet, Stamped<AlertDetails>, bool);
+
+fn owned(alloc: Global, row: &Row) -> Result<Owned, Fail> {
+    let (labels, annotations, fires) = *row;
+    let labels = label_set(alloc, labels)?;
+    let details = stamped(details(alloc, annotations, 1750014500000, "")?)?;
+    Ok((labels, details, fires))
+}
+
+fn all_owned(alloc: Global, rows: &[Row]) -> Result<Vec<Owned>, Fail> {
+    let mut all = Vec::new(alloc);
+    for row in rows {
+        all.push(owned(alloc, row)?)?;
+    }
+    Ok(all)
+}
+
+fn told_alerts(alloc: Global, all: &[Owned]) -> Result<Vec<ToldAlert<'_>>, AllocError> {
+    let mut alerts = Vec::new(alloc);
+    for (labels, details, fires) in all {
+        alerts.push(ToldAlert {
+            alert: HeldAlert { labels, details },
+            fires: *fires,
+        })?;
+    }
+    Ok(alerts)
+}
+
+// What a webhook is told.
+fn told_json(
+    alloc: Global,
+    route: usize,
+    group: &str,
+    rows: &[Row],
+    truncated: u64,
+) -> Result<Octets, Fail> {
+    let receiver = Text::read(alloc, "w")?;
+    let labels = label_set(alloc, group)?;
+    let all = all_owned(alloc, rows)?;
+    let alerts = told_alerts(alloc, &all)?;
+    let body = WebhookBody {
+        receiver: &receiver,
+        route,
+        labels: &labels,
+        alerts: Listed::from_vec(alerts),
+        truncated,
+    };
+    Ok(webhook_json(alloc, &body)?)
+}
+
+const ONE: &[Row] = &[("a=b", "", true)];
+
+const ENDED: &[Row] = &[("a=b", "", false)];
+
+const BOTH: &[Row] = &[
+    ("a=b c=1 d=1", "s=x t=", false),
+    ("a=b c=2 d=1", "t=", true),
+];
 
 #[test]
 fn a_webhook_is_told(rt: HostRuntime) -> Result<(), Fail> {
-    let alloc = rt.alloc();
-    let receiver = Text::read(alloc, "w")?;
-    let one: &[(&str, &str, bool)] = &[("a=b", "", true)];
-    let ended: &[(&str, &str, bool)] = &[("a=b", "", false)];
-    let two: &[(&str, &str, bool)] = &[
-        ("a=b c=1 d=1", "s=x t=", false),
-        ("a=b c=2 d=1", "t=", true),
-    ];
-    for (route, labels, told, truncated, expected) in [
-        (0, "", one, 0, FIRING),
-        (0, "", ended, 0, RESOLVED),
-        (12, "a=b", two, 3, TWO),
+    for (route, group, rows, truncated, expected) in [
+        (0, "", ONE, 0, FIRING),
+        (0, "", ENDED, 0, RESOLVED),
+        (12, "a=b", BOTH, 3, TWO),
     ] {
-        let labels = label_set(alloc, labels)?;
-        let mut held = Vec::new(alloc);
-        for (labels, annotations, fires) in told {
-            let details = details(alloc, annotations, 1750014500000, "")?;
-            held.push((label_set(alloc, labels)?, details, *fires))?;
-        }
-        let mut alerts = Vec::new(alloc);
-        for (labels, details, fires) in &held {
-            alerts.push(ToldAlert {
-                alert: HeldAlert { labels, details },
-                fires: *fires,
-            })?;
-        }
-        let body = WebhookBody {
-            receiver: &receiver,
-            route,
-            labels: &labels,
-            alerts: Listed::from_vec(alerts),
-            truncated,
-        };
-        let text = webhook_json(alloc, &body)?;
-        assert_eq!(rt; text.as_slice(), expected.as_bytes());
+        let told = told_json(rt.alloc(), route, group, rows, truncated)?;
+        assert_eq!(rt; told.as_slice(), expected.as_bytes());
     }
     Ok(())
 }

@@ -1,6 +1,6 @@
 //! Frames written out by hand: each is read, and the message is written as the same bytes.
 use am_text::Failure;
-use am_wire::{decode, encode};
+use am_wire::{Message, decode, encode};
 use std::alloc::{AllocError, Global};
 use std::test::Fail;
 
@@ -18,8 +18,9 @@ fn joined(alloc: Global, parts: &[&[u8]]) -> Result<Vec<u8>, AllocError> {
     Ok(bytes)
 }
 
-// The bytes with another one at a place.
-fn changed(alloc: Global, bytes: &[u8], place: usize, byte: u8) -> Result<Vec<u8>, AllocError> {
+// The bytes of GET with more of them behind, and another one at a place.
+fn changed(alloc: Global, more: &[u8], place: usize, byte: u8) -> Result<Vec<u8>, AllocError> {
+    let bytes = joined(alloc, &[GET, more])?;
     let mut changed = Vec::new(alloc);
     for (index, old) in bytes.iter().enumerate() {
         changed.push(if index == place { byte } else { *old })?;
@@ -34,60 +35,63 @@ fn frame(alloc: Global, kind: u8, body: &[u8]) -> Result<Vec<u8>, Fail> {
 }
 
 // The code of the refusal of these bytes, empty where they are read and written again.
-fn code(alloc: Global, bytes: &[u8]) -> Result<&'static str, Fail> {
+fn code(alloc: Global, bytes: &[u8]) -> &'static str {
     match decode(alloc, bytes) {
-        Ok(message) if encode(alloc, &message)?.as_slice() == bytes => Ok(""),
-        Ok(_) => Ok("written otherwise"),
-        Err(Failure::Refused(refusal)) => Ok(refusal.code()),
-        Err(Failure::OutOfMemory) => Ok("out of memory"),
+        Ok(message) => rewritten(alloc, &message, bytes),
+        Err(Failure::Refused(refusal)) => refusal.code(),
+        Err(Failure::OutOfMemory) => "out of memory",
     }
 }
 
-#[test]
-fn a_changed_frame(rt: HostRuntime) -> Result<(), Fail> {
-    let rows: [(usize, u8, &str); 9] = [
-        (3, 0x19, "Wi2"),
-        (3, 0x1b, "Wi1"),
-        (4, 2, "Wi3"),
-        (5, 8, "Wi3"),
-        (5, 0, "Wi3"),
-        (6, 9, "Wi5"),
-        (11, 0, "Wi5"),
-        (20, 0, "Wi4"),
-        (21, 0x7c, "Wi4"),
-    ];
-    for (place, byte, expected) in rows {
-        let bytes = changed(rt.alloc(), GET, place, byte)?;
-        assert_eq!(rt; code(rt.alloc(), bytes.as_slice())?, expected, "{place}");
+// Nothing, where the message is written as these bytes.
+fn rewritten(alloc: Global, message: &Message, bytes: &[u8]) -> &'static str {
+    match encode(alloc, message) {
+        Ok(written) if written.as_slice() == bytes => "",
+        _ => "written otherwise",
     }
-    let longer = joined(rt.alloc(), &[GET, b"\0"])?;
-    let bytes = changed(rt.alloc(), longer.as_slice(), 3, 0x1b)?;
-    assert_eq!(rt; code(rt.alloc(), bytes.as_slice())?, "Wi6");
-    Ok(())
 }
 
-#[test]
-fn each_kind_of_message(rt: HostRuntime) -> Result<(), Fail> {
-    let rows: [(u8, &[u8]); 7] = [
-        (1, b"\0\0\0\0\0\0\0\x07"),
-        (2, b"\0\0\0\0\0\0\0\x07\0\0\0\x02\0\0\0\0"),
-        (3, b"\0\0\0\0\0\0\0\x07\0\0\0\0"),
-        (4, b"\0\0\0\0\0\0\0\x07\0\0\0\x02"),
-        (5, b"\0\0\0\0\0\0\0\x03\0\0\0\x02"),
-        (6, b"\0\0\0\0\0\0\0\x03\0\0\0\x02\0\0\0\x40\x01\0\0\0\0"),
-        (7, b"\0\0\0\0\0\0\0\x03\0\0\0\x02\0\0\0\x41"),
-    ];
-    for (kind, body) in rows {
-        let bytes = frame(rt.alloc(), kind, body)?;
-        assert_eq!(rt; code(rt.alloc(), bytes.as_slice())?, "", "{kind}");
-    }
-    let flag = frame(
-        rt.alloc(),
+// A place of GET, what stands there instead, what follows, and the code of what is read.
+const CHANGED: [(usize, u8, &[u8], &str); 11] = [
+    (3, 0x1a, b"", ""),
+    (3, 0x19, b"", "Wi2"),
+    (3, 0x1b, b"", "Wi1"),
+    (4, 2, b"", "Wi3"),
+    (5, 8, b"", "Wi3"),
+    (5, 0, b"", "Wi3"),
+    (6, 9, b"", "Wi5"),
+    (11, 0, b"", "Wi5"),
+    (20, 0, b"", "Wi4"),
+    (21, 0x7c, b"", "Wi4"),
+    (3, 0x1b, b"\0", "Wi6"),
+];
+
+// Each kind of message, then a flag that is none and a byte that is left.
+const FRAMES: [(u8, &[u8], &str); 9] = [
+    (1, b"\0\0\0\0\0\0\0\x07", ""),
+    (2, b"\0\0\0\0\0\0\0\x07\0\0\0\x02\0\0\0\0", ""),
+    (3, b"\0\0\0\0\0\0\0\x07\0\0\0\0", ""),
+    (4, b"\0\0\0\0\0\0\0\x07\0\0\0\x02", ""),
+    (5, b"\0\0\0\0\0\0\0\x03\0\0\0\x02", ""),
+    (6, b"\0\0\0\0\0\0\0\x03\0\0\0\x02\0\0\0\x40\x01\0\0\0\0", ""),
+    (7, b"\0\0\0\0\0\0\0\x03\0\0\0\x02\0\0\0\x41", ""),
+    (
         6,
         b"\0\0\0\0\0\0\0\x03\0\0\0\x02\0\0\0\x40\x02\0\0\0\0",
-    )?;
-    assert_eq!(rt; code(rt.alloc(), flag.as_slice())?, "Wi5");
-    let left = frame(rt.alloc(), 1, b"\0\0\0\0\0\0\0\x07\0")?;
-    assert_eq!(rt; code(rt.alloc(), left.as_slice())?, "Wi6");
+        "Wi5",
+    ),
+    (1, b"\0\0\0\0\0\0\0\x07\0", "Wi6"),
+];
+
+#[test]
+fn frames(rt: HostRuntime) -> Result<(), Fail> {
+    for (place, byte, more, expected) in CHANGED {
+        let bytes = changed(rt.alloc(), more, place, byte)?;
+        assert_eq!(rt; code(rt.alloc(), bytes.as_slice()), expected, "{place}");
+    }
+    for (kind, body, expected) in FRAMES {
+        let bytes = frame(rt.alloc(), kind, body)?;
+        assert_eq!(rt; code(rt.alloc(), bytes.as_slice()), expected, "{kind}");
+    }
     Ok(())
 }

@@ -10,7 +10,14 @@ use std::test::Fail;
 const WRITTEN: &str =
     r#"{"a":"1970-01-01T00:00:00.000Z","b":["","\"\\/\n\u001fé"],"c":[true,18446744073709551615]}"#;
 
-fn write_members(text: &mut JsonWriter, moment: Moment, names: &[Text]) -> Result<(), AllocError> {
+fn write_object(text: &mut JsonWriter, names: &[Text]) -> Result<(), AllocError> {
+    text.begin_object()?;
+    write_members(text, names)?;
+    text.end_object()
+}
+
+fn write_members(text: &mut JsonWriter, names: &[Text]) -> Result<(), AllocError> {
+    let moment = Moment::from_milliseconds(0).unwrap_or(Moment::greatest());
     text.moment_member("a", moment)?;
     text.texts_member("b", names)?;
     text.key("c")?;
@@ -24,11 +31,8 @@ fn write_members(text: &mut JsonWriter, moment: Moment, names: &[Text]) -> Resul
 fn texts_are_compact_and_escaped(rt: HostRuntime) -> Result<(), Fail> {
     let alloc = rt.alloc();
     let names = [Text::read(alloc, "")?, Text::read(alloc, "\"\\/\n\u{1f}é")?];
-    let moment = Moment::from_milliseconds(0).ok_or("no moment")?;
     let mut text = JsonWriter::new(alloc);
-    text.begin_object()?;
-    write_members(&mut text, moment, &names)?;
-    text.end_object()?;
+    write_object(&mut text, &names)?;
     assert_eq!(rt; text.finish().as_slice(), WRITTEN.as_bytes());
     Ok(())
 }
@@ -49,19 +53,20 @@ fn fields_told(alloc: Global, value: &Value) -> Result<String, AllocError> {
     }
 }
 
+const TEXTS: &str = r#"→J1
+{} {}→J1
+{"t":"x","n":1e999}→J1
+{"t":"\ud800"}→J1
+[]→J2
+{"t":null}→J2
+{"t":"x","n":-1}→J2
+{"t":"x"}→x 0
+{"t":1,"n":7,"t":"\u00e9"}→é 7"#;
+
 #[test]
 fn fields_of_texts(rt: HostRuntime) -> Result<(), Fail> {
-    for (text, expected) in [
-        ("", "J1"),
-        ("{} {}", "J1"),
-        (r#"{"t":"x","n":1e999}"#, "J1"),
-        (r#"{"t":"\ud800"}"#, "J1"),
-        ("[]", "J2"),
-        (r#"{"t":null}"#, "J2"),
-        (r#"{"t":"x","n":-1}"#, "J2"),
-        (r#"{"t":"x"}"#, "x 0"),
-        (r#"{"t":1,"n":7,"t":"\u00e9"}"#, "é 7"),
-    ] {
+    for line in TEXTS.lines() {
+        let (text, expected) = line.split_once('→').unwrap_or((line, ""));
         assert_eq!(rt; told(rt.alloc(), text)?.as_str(), expected, "{text}");
     }
     Ok(())

@@ -3,45 +3,58 @@
 use am_labels::{Label, LabelRefusal, LabelSet, place, print_fingerprint};
 use am_tenant::TenantName;
 use am_text::{Failure, Text};
+use std::alloc::{AllocError, Global};
 use std::test::Fail;
 
-// The label set of these names and values.
-fn set(rt: &HostRuntime, pairs: &[(&str, &str)]) -> Result<LabelSet, Failure<LabelRefusal>> {
-    let mut labels = Vec::new(rt.alloc());
-    for (name, value) in pairs {
-        labels.push(Label {
-            name: Text::read(rt.alloc(), name)?,
-            value: Text::read(rt.alloc(), value)?,
-        })?;
+// What stands before `=` and after it, of each of the words.
+fn pairs(alloc: Global, words: &str) -> Result<Vec<Label>, AllocError> {
+    let mut pairs = Vec::new(alloc);
+    for word in words.split_whitespace() {
+        if let Some((name, value)) = word.split_once('=') {
+            pairs.push(Label {
+                name: Text::read(alloc, name)?,
+                value: Text::read(alloc, value)?,
+            })?;
+        }
     }
-    LabelSet::from_pairs(rt.alloc(), labels)
+    Ok(pairs)
+}
+
+// The label set of these names and values.
+fn set(alloc: Global, words: &str) -> Result<LabelSet, Failure<LabelRefusal>> {
+    let pairs = pairs(alloc, words)?;
+    LabelSet::from_pairs(alloc, pairs)
+}
+
+// The fingerprint of the label set, or the code of its refusal.
+fn said(alloc: Global, words: &str) -> Result<String, AllocError> {
+    match set(alloc, words) {
+        Ok(labels) => Ok(print_fingerprint(alloc, labels.fingerprint())?.into_string()),
+        Err(failure) => format!(in alloc; "{failure}"),
+    }
 }
 
 #[test]
-fn faults(rt: HostRuntime) {
-    let bad_name = Err(Failure::Refused(LabelRefusal::BadName));
-    assert!(rt; set(&rt, &[("a", "1"), ("a", "2"), ("0", "")]).map(|_| ()) == bad_name);
-    assert!(rt; set(&rt, &[("", "1")]).map(|_| ()) == bad_name);
-    let repeated = Err(Failure::Refused(LabelRefusal::Repeated));
-    assert!(rt; set(&rt, &[("a", ""), ("b", ""), ("a", "")]).map(|_| ()) == repeated);
+fn label_sets(rt: HostRuntime) -> Result<(), Fail> {
+    for (words, expected) in [
+        ("a=1 a=2 0=", "L1"),
+        ("=1", "L1"),
+        ("a= b= a=", "L2"),
+        ("a=b", "d2b371819297f98a"),
+    ] {
+        assert_eq!(rt; said(rt.alloc(), words)?.as_str(), expected, "{words}");
+    }
+    let zero = print_fingerprint(rt.alloc(), 0)?;
+    assert_eq!(rt; zero.as_str(), "0000000000000000");
+    Ok(())
 }
 
 // FNV-1a's published values of 32 bits.
 #[test]
 fn places_are_hashes(rt: HostRuntime) -> Result<(), Fail> {
-    assert_eq!(rt; place(&TenantName::read(b"a")?), 0xe40c_292c);
-    assert_eq!(rt; place(&TenantName::read(b"foobar")?), 0xbf9c_f968);
-    Ok(())
-}
-
-#[test]
-fn fingerprint_is_printed(rt: HostRuntime) -> Result<(), Fail> {
-    let labels = set(&rt, &[("a", "b")])?;
-    let text = print_fingerprint(rt.alloc(), labels.fingerprint())?;
-    assert_eq!(rt; text.as_str(), "d2b371819297f98a");
-    assert_eq!(rt;
-        print_fingerprint(rt.alloc(), 0)?.as_str(),
-        "0000000000000000"
-    );
+    let published: [(&[u8], u32); 2] = [(b"a", 0xe40c_292c), (b"foobar", 0xbf9c_f968)];
+    for (name, hash) in published {
+        assert_eq!(rt; place(&TenantName::read(name)?), hash);
+    }
     Ok(())
 }

@@ -1,6 +1,7 @@
 use am_limit::{Allowance, Allowances};
 use am_tenant::TenantName;
 use am_text::Moment;
+use std::alloc::Global;
 use std::test::Fail;
 
 #[test]
@@ -19,14 +20,19 @@ fn minutes(rt: HostRuntime) -> Result<(), Fail> {
     Ok(())
 }
 
+// Whether a tenant may have one more notice in the first minute, of one.
+fn take(alloc: Global, allowances: &mut Allowances, tenant: &[u8]) -> Result<bool, Fail> {
+    let tenant = TenantName::read(tenant)?;
+    let moment = Moment::from_milliseconds(60_000).ok_or("no moment")?;
+    Ok(allowances.take(alloc, &tenant, 1, moment)?)
+}
+
 #[test]
 fn each_tenant_has_an_allowance(rt: HostRuntime) -> Result<(), Fail> {
-    let first = TenantName::read(b"a")?;
-    let second = TenantName::read(b"b")?;
-    let moment = Moment::from_milliseconds(60_000).ok_or("no moment")?;
     let mut allowances = Allowances::new(rt.alloc());
-    assert!(rt; allowances.take(rt.alloc(), &first, 1, moment)?);
-    assert!(rt; !allowances.take(rt.alloc(), &first, 1, moment)?);
-    assert!(rt; allowances.take(rt.alloc(), &second, 1, moment)?);
+    let asked: [(&[u8], bool); 3] = [(b"a", true), (b"a", false), (b"b", true)];
+    for (tenant, want) in asked {
+        assert_eq!(rt; take(rt.alloc(), &mut allowances, tenant)?, want);
+    }
     Ok(())
 }

@@ -1,97 +1,112 @@
-use am_text::{Moment, TextRefusal, print_moment, read_duration, read_moment};
+use am_text::{Moment, print_moment, read_duration, read_moment};
+use std::alloc::{AllocError, Global};
 use std::test::Fail;
 
-fn milliseconds(text: &str) -> Option<u64> {
-    let moment = read_moment(text).ok()??;
-    Some(moment.milliseconds())
+// Each line has a text, and behind `→` its milliseconds, `none` where it stands for no moment, or a code.
+const MOMENTS: &str = "\
+# the examples of RFC 3339 section 5.8 that lie after 1970
+1985-04-12T23:20:50.52Z→482196050520
+1996-12-19T16:39:57-08:00→851042397000
+# leap days
+2000-02-29T00:00:00Z→951782400000
+2024-02-29T12:00:00Z→1709208000000
+2400-02-29T23:59:59.999Z→13574649599999
+# small letters, the negative offset of zero, and digits that are cut off
+2025-06-15t15:06:40z→1750000000000
+2025-06-15T15:06:40-00:00→1750000000000
+2025-06-15T15:06:40.123999999Z→1750000000123
+# both ends, and offsets that stay within them
+1970-01-01T00:00:00.000Z→0
+1970-01-01T00:59:00+00:59→0
+9999-12-31T23:59:59.999Z→253402300799999
+9999-12-31T00:00:59.999-23:59→253402300799999
+# the moment that stands for none
+0001-01-01T00:00:00Z→none
+0001-01-01T01:30:00.0009+01:30→none";
+
+const DURATIONS: &str = "\
+1h30m→5400000
+0→0
+0s→0
+100y→3153600000000
+5m→300000
+1m5ms→60005
+1d→86400000
+1y2w3d4h5m6s7ms→33019506007
+007d→604800000
+→Tx2
+1m1h→Tx2
+1h1h→Tx2
+5→Tx2
+00→Tx2
+h→Tx2
+1h30→Tx2
+1h 30m→Tx2
+1.5h→Tx2
+-5m→Tx2
+5M→Tx2
+5mm→Tx2
+5min→Tx2
+1h0→Tx2
+101y→Tx3
+100y1ms→Tx3
+18446744073709551616ms→Tx3
+99999999999999999999y→Tx3";
+
+fn moment_told(alloc: Global, text: &str) -> Result<String, AllocError> {
+    match read_moment(text) {
+        Ok(Some(moment)) => format!(in alloc; "{}", moment.milliseconds()),
+        Ok(None) => String::from_str(alloc, "none"),
+        Err(refusal) => format!(in alloc; "{refusal}"),
+    }
 }
 
-#[test]
-fn reads_moments(rt: HostRuntime) {
-    let moments = [
-        // the examples of RFC 3339 section 5.8 that lie after 1970
-        ("1985-04-12T23:20:50.52Z", 482_196_050_520),
-        ("1996-12-19T16:39:57-08:00", 851_042_397_000),
-        // leap days
-        ("2000-02-29T00:00:00Z", 951_782_400_000),
-        ("2024-02-29T12:00:00Z", 1_709_208_000_000),
-        ("2400-02-29T23:59:59.999Z", 13_574_649_599_999),
-        // small letters, the negative offset of zero, and digits that are cut off
-        ("2025-06-15t15:06:40z", 1_750_000_000_000),
-        ("2025-06-15T15:06:40-00:00", 1_750_000_000_000),
-        ("2025-06-15T15:06:40.123999999Z", 1_750_000_000_123),
-        // both ends, and offsets that stay within them
-        ("1970-01-01T00:00:00.000Z", 0),
-        ("1970-01-01T00:59:00+00:59", 0),
-        ("9999-12-31T23:59:59.999Z", 253_402_300_799_999),
-        ("9999-12-31T00:00:59.999-23:59", 253_402_300_799_999),
-    ];
-    for (text, want) in moments {
-        assert_eq!(rt; milliseconds(text), Some(want), "{text}");
+fn duration_told(alloc: Global, text: &str) -> Result<String, AllocError> {
+    match read_duration(text) {
+        Ok(milliseconds) => format!(in alloc; "{milliseconds}"),
+        Err(refusal) => format!(in alloc; "{refusal}"),
     }
 }
 
 #[test]
-fn reads_no_moment(rt: HostRuntime) {
-    assert_eq!(rt; read_moment("0001-01-01T00:00:00Z"), Ok(None));
-    assert_eq!(rt; read_moment("0001-01-01T01:30:00.0009+01:30"), Ok(None));
+fn texts_are_read(rt: HostRuntime) -> Result<(), Fail> {
+    for line in MOMENTS.lines() {
+        if let Some((text, expected)) = line.split_once('→') {
+            assert_eq!(rt; moment_told(rt.alloc(), text)?.as_str(), expected, "{text}");
+        }
+    }
+    for line in DURATIONS.lines() {
+        if let Some((text, expected)) = line.split_once('→') {
+            assert_eq!(rt;
+                duration_told(rt.alloc(), text)?.as_str(),
+                expected,
+                "{text}"
+            );
+        }
+    }
+    Ok(())
+}
+
+// A moment as it is printed, where it is read again.
+fn printed(alloc: Global, milliseconds: u64) -> Result<String, Fail> {
+    let moment = Moment::from_milliseconds(milliseconds).ok_or("no moment")?;
+    let text = print_moment(alloc, moment)?.into_string();
+    if read_moment(text.as_str()) == Ok(Some(moment)) {
+        return Ok(text);
+    }
+    Ok(String::from_str(alloc, "another moment")?)
 }
 
 #[test]
-fn prints_moments(rt: HostRuntime) -> Result<(), Fail> {
-    let moments = [
+fn moments_are_printed(rt: HostRuntime) -> Result<(), Fail> {
+    for (milliseconds, expected) in [
         (0, "1970-01-01T00:00:00.000Z"),
         (951_782_400_000, "2000-02-29T00:00:00.000Z"),
         (1_750_000_000_000, "2025-06-15T15:06:40.000Z"),
         (4_107_542_400_001, "2100-03-01T00:00:00.001Z"),
         (253_402_300_799_999, "9999-12-31T23:59:59.999Z"),
-    ];
-    for (milliseconds, want) in moments {
-        let moment = Moment::from_milliseconds(milliseconds).ok_or("no moment")?;
-        let text = print_moment(rt.alloc(), moment)?;
-        assert_eq!(rt; text.as_str(), want);
-        assert_eq!(rt; read_moment(text.as_str()), Ok(Some(moment)));
+    ] {
+        assert_eq!(rt; printed(rt.alloc(), milliseconds)?.as_str(), expected);
     }
     Ok(())
-}
-
-#[test]
-fn reads_durations(rt: HostRuntime) {
-    let durations = [
-        ("1h30m", 5_400_000),
-        ("0", 0),
-        ("0s", 0),
-        ("100y", 3_153_600_000_000),
-        ("5m", 300_000),
-        ("1m5ms", 60_005),
-        ("1d", 86_400_000),
-        ("1y2w3d4h5m6s7ms", 33_019_506_007),
-        ("007d", 604_800_000),
-    ];
-    for (text, want) in durations {
-        assert_eq!(rt; read_duration(text), Ok(want), "{text}");
-    }
-}
-
-#[test]
-fn refuses_other_durations(rt: HostRuntime) {
-    let forms = [
-        "", "1m1h", "1h1h", "5", "00", "h", "1h30", "1h 30m", "1.5h", "-5m", "5M", "5mm", "5min",
-        "1h0",
-    ];
-    for text in forms {
-        assert_eq!(rt;
-            read_duration(text),
-            Err(TextRefusal::NotADuration),
-            "{text}"
-        );
-    }
-    for text in [
-        "101y",
-        "100y1ms",
-        "18446744073709551616ms",
-        "99999999999999999999y",
-    ] {
-        assert_eq!(rt; read_duration(text), Err(TextRefusal::OutOfRange), "{text}");
-    }
 }

@@ -1,9 +1,10 @@
 //! Texts that are URLs of webhooks and what they say, and texts that are none.
 
 use am_url::WebhookUrl;
+use std::alloc::{AllocError, Global};
 use std::test::Fail;
 
-// Of each URL how it is written, its host with its port, the number of the port, and the target.
+// Each line is what a URL says.
 const TAKEN: &str = r#"http://localhost localhost 80 /
 http://localhost/ localhost 80 /
 http://localhost:9093 localhost:9093 9093 /
@@ -72,27 +73,28 @@ const REFUSED: &str = "\n\
     http://localhost/\u{e9}\n\
     http://\u{661}.2.3.4\n";
 
-#[test]
-fn what_urls_say(rt: HostRuntime) -> Result<(), Fail> {
-    for line in TAKEN.lines() {
-        let text = line.split(' ').next().unwrap_or("");
-        let url = WebhookUrl::read(rt.alloc(), text)?.ok_or("no URL")?;
-        let said = format!(in rt.alloc();
-            "{} {} {} {}",
-            url.as_str(),
-            url.host(),
-            url.port(),
-            url.target()
-        )?;
-        assert_eq!(rt; said.as_str(), line);
+// How a URL is written, its host with its port, the number of the port, and the target.
+fn said(alloc: Global, text: &str) -> Result<String, AllocError> {
+    match WebhookUrl::read(alloc, text)? {
+        None => String::from_str(alloc, "none"),
+        Some(url) => url_said(alloc, &url),
     }
-    Ok(())
+}
+
+fn url_said(alloc: Global, url: &WebhookUrl) -> Result<String, AllocError> {
+    let (text, host) = (url.as_str(), url.host());
+    let (port, target) = (url.port(), url.target());
+    format!(in alloc; "{text} {host} {port} {target}")
 }
 
 #[test]
-fn texts_that_are_none(rt: HostRuntime) -> Result<(), Fail> {
+fn what_texts_say(rt: HostRuntime) -> Result<(), Fail> {
+    for line in TAKEN.lines() {
+        let text = line.split(' ').next().unwrap_or("");
+        assert_eq!(rt; said(rt.alloc(), text)?.as_str(), line);
+    }
     for text in REFUSED.lines() {
-        assert!(rt; WebhookUrl::read(rt.alloc(), text)?.is_none(), "{text}");
+        assert_eq!(rt; said(rt.alloc(), text)?.as_str(), "none", "{text}");
     }
     Ok(())
 }

@@ -29,7 +29,6 @@ use std::marker::Model;
 
 /// What an instance has of all tenants: what it holds, what it has planned for that, which notices are on their way, and what
 /// it counts. A call for one tenant leaves what it has of the others as it was; one that fails leaves nothing of any tenant.
-#[derive(Drop)]
 pub struct Replica {
     parts: Parts,
 }
@@ -45,6 +44,14 @@ impl Model for Replica {
     ghost view = { λ replica. replica.parts };
 
     ghost invariant = { λ replica. (t : List ℕ) → IsPlanned (local_of t replica.parts) };
+}
+
+// Written out, so that a crate which owns a replica has no need to prove anew how each of its parts is dropped.
+impl Drop for Replica {
+    fn drop(self) {
+        let Replica { parts } = self;
+        drop(parts);
+    }
 }
 
 impl Replica {

@@ -4,8 +4,8 @@ use am_http::{
     ConnectionId, Endpoint, Fed, Front, FrontRefusal, Method, Request, ready_reply, refusal_body,
     reply_bytes,
 };
+use am_text::Octets;
 use std::alloc::{AllocError, Global};
-use std::process::Abort;
 use std::test::Fail;
 
 const ALERTS: &str = "/alertmanager/api/v2/alerts";
@@ -36,18 +36,15 @@ fn fed(alloc: Global, text: &[u8], piece_len: usize) -> Result<Fed, AllocError>
     Ok(said)
 }
 
-fn check(
-    rt: &impl Abort,
-    alloc: Global,
-    what: &str,
-    text: &[u8],
-    expected: &str,
-) -> Result<(), Fail> {
+// Whether a connection comes to this with these bytes, whole and byte by byte.
+fn comes_to(alloc: Global, text: &[u8], expected: &str) -> Result<bool, AllocError> {
     for piece_len in [100_000, 1] {
         let said = fed(alloc, text, piece_len)?;
-        assert_eq!(rt; name_of(&said), expected, "{what}");
+        if name_of(&said) != expected {
+            return Ok(false);
+        }
     }
-    Ok(())
+    Ok(true)
 }
 
 // What connections' bytes come to. `¶` stands for CR LF, `↓` for LF, `←` for CR, `@` for the path of alerts.
@@ -183,82 +180,93 @@ fn fed_in_two(alloc: Global, text: &[u8], at: usize) -> Result<Fed, AllocError> 
     Ok(said)
 }
 
-// A request in two pieces, cut at each byte.
-fn check_cuts(
-    rt: &impl Abort,
-    alloc: Global,
-    what: &str,
-    text: &[u8],
-    expected: &str,
-) -> Result<(), Fail> {
+// Whether a connection comes to this with these bytes in two pieces, wherever they are cut.
+fn comes_to_in_two(alloc: Global, text: &[u8], expected: &str) -> Result<bool, AllocError> {
     for at in 0..text.len() {
         let said = fed_in_two(alloc, text, at)?;
-        assert_eq!(rt; name_of(&said), expected, "{what} at {at}");
+        if name_of(&said) != expected {
+            return Ok(false);
+        }
     }
-    Ok(())
+    Ok(true)
 }
 
-// Each row whole, byte by byte, and in two pieces cut at each byte.
+// Whether a line of the table comes to what it says, whole, byte by byte, and in two pieces cut at each byte.
+fn is_as_told(alloc: Global, row: &str, expected: &str) -> Result<bool, AllocError> {
+    let text = bytes_of(alloc, row)?;
+    if comes_to(alloc, text.as_bytes(), expected)? {
+        return comes_to_in_two(alloc, text.as_bytes(), expected);
+    }
+    Ok(false)
+}
+
 #[test]
 fn heads(rt: HostRuntime) -> Result<(), Fail> {
     for line in HEADS.lines() {
         if let Some((expected, row)) = line.split_once(' ') {
             if expected != "#" {
-                let text = bytes_of(rt.alloc(), row)?;
-                check(&rt, rt.alloc(), row, text.as_bytes(), expected)?;
-                check_cuts(&rt, rt.alloc(), row, text.as_bytes(), expected)?;
+                assert!(rt; is_as_told(rt.alloc(), row, expected)?, "{line}");
             }
         }
     }
     Ok(())
 }
 
-// A GET with this many further fields, and this tenant.
-fn head_with(alloc: Global, fields: usize, tenant: &str) -> Result<String, AllocError> {
-    let mut text = format!(in alloc; "GET {ALERTS} HTTP/1.1\r\nX-Scope-OrgID: {tenant}\r\n")?;
+// A GET with a tenant's name of this length, this many further fields, and one that makes it so long.
+fn head_with(
+    alloc: Global,
+    tenant: usize,
+    fields: usize,
+    len: usize,
+) -> Result<String, AllocError> {
+    let mut text = format!(in alloc; "GET {ALERTS} HTTP/1.1\r\nX-Scope-OrgID: ")?;
+    for _ in 0..tenant {
+        text.push_str("x")?;
+    }
+    text.push_str("\r\n")?;
     for _ in 0..fields {
         text.push_str("x: y\r\n")?;
+    }
+    if len > 0 {
+        text.push_str("x: ")?;
+    }
+    for _ in text.len()..len {
+        text.push_str("y")?;
     }
     Ok(text)
 }
 
-// A head has at most 64 fields, a tenant's name at most 150 bytes.
-#[test]
-fn counts(rt: HostRuntime) -> Result<(), Fail> {
-    for (fields, expected) in [(63, "request"), (64, "H1")] {
-        let mut text = head_with(rt.alloc(), fields, "a")?;
-        text.push_str("\r\n")?;
-        check(&rt, rt.alloc(), "fields", text.as_bytes(), expected)?;
-    }
-    let mut tenant = String::new(rt.alloc());
-    for _ in 0..150 {
-        tenant.push_str("x")?;
-    }
-    for expected in ["request", "N2"] {
-        let mut text = head_with(rt.alloc(), 0, tenant.as_str())?;
-        text.push_str("\r\n")?;
-        check(&rt, rt.alloc(), "tenant", text.as_bytes(), expected)?;
-        tenant.push_str("x")?;
-    }
-    Ok(())
+// Whether such a GET with this end comes to this.
+fn head_comes_to(
+    alloc: Global,
+    counts: (usize, usize, usize),
+    end: &str,
+    expected: &str,
+) -> Result<bool, AllocError> {
+    let (tenant, fields, len) = counts;
+    let mut text = head_with(alloc, tenant, fields, len)?;
+    text.push_str(end)?;
+    comes_to(alloc, text.as_bytes(), expected)
 }
 
-// A head has at most 16,384 bytes, its empty line with them.
+// A head has at most 64 fields, a tenant's name at most 150 bytes, and a head at most 16,384 bytes, its empty line with
+// them.
 #[test]
-fn long_heads(rt: HostRuntime) -> Result<(), Fail> {
-    for (len, end, expected) in [
-        (16_384, "", "waits"),
-        (16_385, "", "H4"),
-        (16_380, "\r\n\r\n", "request"),
-        (16_381, "\r\n\r\n", "H4"),
+fn counts(rt: HostRuntime) -> Result<(), Fail> {
+    for (counts, end, expected) in [
+        ((1, 63, 0), "\r\n", "request"),
+        ((1, 64, 0), "\r\n", "H1"),
+        ((150, 0, 0), "\r\n", "request"),
+        ((151, 0, 0), "\r\n", "N2"),
+        ((1, 0, 16_384), "", "waits"),
+        ((1, 0, 16_385), "", "H4"),
+        ((1, 0, 16_380), "\r\n\r\n", "request"),
+        ((1, 0, 16_381), "\r\n\r\n", "H4"),
     ] {
-        let mut text = head_with(rt.alloc(), 0, "a")?;
-        text.push_str("x: ")?;
-        for _ in text.len()..len {
-            text.push_str("y")?;
-        }
-        text.push_str(end)?;
-        check(&rt, rt.alloc(), expected, text.as_bytes(), expected)?;
+        assert!(rt;
+            head_comes_to(rt.alloc(), counts, end, expected)?,
+            "{expected}"
+        );
     }
     Ok(())
 }
@@ -266,11 +274,29 @@ fn long_heads(rt: HostRuntime) -> Result<(), Fail> {
 // A value need not be UTF-8, a target has to be.
 #[test]
 fn bytes(rt: HostRuntime) -> Result<(), Fail> {
-    let value =
-        b"GET /alertmanager/api/v2/alerts HTTP/1.1\r\nX-Scope-OrgID: a\r\nx: \xff\xfe\r\n\r\n";
-    check(&rt, rt.alloc(), "value", value.as_slice(), "request")?;
-    let target = b"GET /alertmanager/api/v2/alerts?\xff HTTP/1.1\r\nX-Scope-OrgID: a\r\n\r\n";
-    check(&rt, rt.alloc(), "target", target.as_slice(), "H1")
+    let heads: [(&[u8], &str); 2] = [
+        (
+            b"GET /alertmanager/api/v2/alerts HTTP/1.1\r\nX-Scope-OrgID: a\r\nx: \xff\xfe\r\n\r\n",
+            "request",
+        ),
+        (
+            b"GET /alertmanager/api/v2/alerts?\xff HTTP/1.1\r\nX-Scope-OrgID: a\r\n\r\n",
+            "H1",
+        ),
+    ];
+    for (head, expected) in heads {
+        assert!(rt; comes_to(rt.alloc(), head, expected)?, "{expected}");
+    }
+    Ok(())
+}
+
+// The parts of a request.
+fn parts_told(alloc: Global, request: &Request) -> Result<String, AllocError> {
+    let (tenant, query) = (request.tenant.as_str(), request.query.as_str());
+    let is_post = request.method == Method::Post;
+    let is_of_alerts = matches!(&request.endpoint, Endpoint::Alerts);
+    let has_body = request.body.as_slice() == b"[]".as_slice();
+    format!(in alloc; "{tenant} {is_post} {is_of_alerts} {query} {has_body}")
 }
 
 // A request has its five parts, and nothing of what follows it.
@@ -280,11 +306,8 @@ fn parts(rt: HostRuntime) -> Result<(), Fail> {
     let text = bytes_of(rt.alloc(), head)?;
     match fed(rt.alloc(), text.as_bytes(), 10)? {
         Fed::Request(request) => {
-            assert_eq!(rt; request.tenant.as_str(), "a.b");
-            assert_eq!(rt; request.method, Method::Post);
-            assert!(rt; matches!(&request.endpoint, Endpoint::Alerts));
-            assert_eq!(rt; request.query.as_str(), "a=%20?b");
-            assert_eq!(rt; request.body.as_slice(), b"[]".as_slice());
+            let told = parts_told(rt.alloc(), &request)?;
+            assert_eq!(rt; told.as_str(), "a.b true true a=%20?b true");
         }
         other => assert!(rt; false, "{}", name_of(&other)),
     }
@@ -305,19 +328,24 @@ fn closed(rt: HostRuntime) -> Result<(), Fail> {
     Ok(())
 }
 
+const READY: &[u8] =
+    b"HTTP/1.1 200 OK\r\nContent-Type: application/json\r\nContent-Length: 5\r\nConnection: close\r\n\r\nready";
+
+const NO_TENANT: &[u8] =
+    b"HTTP/1.1 401 Unauthorized\r\nContent-Type: application/json\r\nContent-Length: 13\r\nConnection: close\r\n\r\n{\"code\":\"N0\"}";
+
+// The reply to a request that is refused.
+fn refused(alloc: Global, refusal: FrontRefusal) -> Result<Octets, AllocError> {
+    let body = refusal_body(alloc, refusal.code())?;
+    reply_bytes(alloc, refusal.status(), body.as_slice())
+}
+
 // RFC 9112 section 4.
 #[test]
 fn replies(rt: HostRuntime) -> Result<(), Fail> {
     let ready = ready_reply(rt.alloc())?;
-    assert_eq!(rt;
-        ready.as_slice(),
-        b"HTTP/1.1 200 OK\r\nContent-Type: application/json\r\nContent-Length: 5\r\nConnection: close\r\n\r\nready".as_slice()
-    );
-    let body = refusal_body(rt.alloc(), FrontRefusal::NoTenant.code())?;
-    let refused = reply_bytes(rt.alloc(), FrontRefusal::NoTenant.status(), body.as_slice())?;
-    assert_eq!(rt;
-        refused.as_slice(),
-        b"HTTP/1.1 401 Unauthorized\r\nContent-Type: application/json\r\nContent-Length: 13\r\nConnection: close\r\n\r\n{\"code\":\"N0\"}".as_slice()
-    );
+    assert_eq!(rt; ready.as_slice(), READY);
+    let refused = refused(rt.alloc(), FrontRefusal::NoTenant)?;
+    assert_eq!(rt; refused.as_slice(), NO_TENANT);
     Ok(())
 }

@@ -26,7 +26,7 @@ fn read_document(alloc: Global, document: &str) -> Read {
     Config::read(alloc, document.as_bytes(), &mut cache)
 }
 
-fn code_of(read: &Read) -> &'static str {
+fn code_of(read: Read) -> &'static str {
     match read {
         Ok(_) => "ok",
         Err(Failure::Refused(refusal)) => refusal.code(),
@@ -36,11 +36,15 @@ fn code_of(read: &Read) -> &'static str {
 
 // The code of a text, where it is read again with the same code.
 fn code_of_text(alloc: Global, text: &str) -> &'static str {
-    let code = code_of(&read_text(alloc, text));
-    if code_of(&reread(alloc, text)) != code {
+    let code = code_of(read_text(alloc, text));
+    if code_of(reread(alloc, text)) != code {
         return "read again with another code";
     }
     code
+}
+
+fn code_of_document(alloc: Global, document: &str) -> &'static str {
+    code_of(read_document(alloc, document))
 }
 
 // Adds a text so many times.

@@ -4,6 +4,8 @@
 #[cfg(test)]
 mod config;
 #[cfg(test)]
+mod labels;
+#[cfg(test)]
 mod matchers;
 #[cfg(test)]
 mod pattern;

@@ -1,10 +1,9 @@
 //! The clients and the calls, by the tokens of the poll.
 
-use crate::desk::{Desk, Notice, Try};
+use crate::service::{Notice, Service};
 use crate::stream::Stream;
 use am_serve::{Calls, Clients, Progress, Turn};
 use am_url::WebhookUrl;
-use am_world::world::World;
 use mio::Token;
 use std::alloc::{AllocError, Global};
 use std::net::{IpAddr, Ipv4Addr, SocketAddr};
@@ -21,11 +20,11 @@ pub const MOST_CALLS: usize = 256;
 const CALLS: usize = 1 << 32;
 
 #[derive(Drop)]
-pub struct Hall<'w> {
+pub struct Hall<'s, V: Service> {
     alloc: Global,
-    desk: Desk<'w>,
+    service: &'s mut V,
     clients: Clients<Stream>,
-    calls: Calls<Stream, Try>,
+    calls: Calls<Stream, V::Name>,
     /// Whoever can go on at once, each once.
     unfinished: Vec<Token>,
     /// The clients that wait for room until the next sweep.
@@ -36,11 +35,15 @@ pub struct Hall<'w> {
     buffer: [u8; 4096],
 }
 
-impl<'w> Hall<'w> {
-    pub fn new(alloc: Global, desk: Desk<'w>, count: Option<u64>) -> Result<Hall<'w>, AllocError> {
+impl<'s, V: Service> Hall<'s, V> {
+    pub fn new(
+        alloc: Global,
+        service: &'s mut V,
+        count: Option<u64>,
+    ) -> Result<Hall<'s, V>, AllocError> {
         Ok(Hall {
             alloc,
-            desk,
+            service,
             clients: Clients::new(alloc, MOST_CLIENTS)?,
             calls: Calls::new(alloc, MOST_CALLS)?,
             unfinished: Vec::new(alloc),
@@ -51,8 +54,8 @@ impl<'w> Hall<'w> {
         })
     }
 
-    pub fn world(&self) -> &World {
-        self.desk.world()
+    pub fn is_up(&self) -> bool {
+        self.service.is_up()
     }
 
     pub fn calls(&self) -> usize {
@@ -80,21 +83,21 @@ impl<'w> Hall<'w> {
         token_of_call(self.calls.next_key())
     }
 
-    pub fn next_notice(&mut self) -> Option<Notice> {
+    pub fn next_notice(&mut self) -> Option<Notice<V::Name>> {
         let free = MOST_CALLS.saturating_sub(self.calls.len());
-        self.desk.next_notice(free)
+        self.service.next_notice(free)
     }
 
     pub fn set_moment(&mut self, moment: u64) {
-        self.desk.set_moment(moment);
+        self.service.set_moment(moment);
     }
 
     pub fn tick(&mut self) -> Result<(), AllocError> {
-        self.desk.tick()
+        self.service.tick()
     }
 
-    pub fn settle(&mut self, name: Try, status: Option<u16>) -> Result<(), AllocError> {
-        self.desk.settle(name, status)
+    pub fn end_call(&mut self, name: V::Name, status: Option<u16>) -> Result<(), AllocError> {
+        self.service.end_call(name, status)
     }
 
     /// Takes a client in, which was registered under the next client's token, and gives it its first turn.
@@ -102,7 +105,7 @@ impl<'w> Hall<'w> {
         if self.clients.is_full() {
             return Ok(());
         }
-        match self.clients.add(stream, &mut self.desk, now) {
+        match self.clients.add(stream, self.service, now) {
             Some(key) => self.serve(key, now),
             None => Ok(()),
         }
@@ -129,10 +132,7 @@ impl<'w> Hall<'w> {
         if self.is_done() {
             return Ok(());
         }
-        match self
-            .clients
-            .turn(key, &mut self.desk, now, &mut self.buffer)
-        {
+        match self.clients.turn(key, self.service, now, &mut self.buffer) {
             Some(Turn::More) => self.keep(Token(key)),
             Some(Turn::Drains) => {
                 self.count_answer();
@@ -163,18 +163,18 @@ impl<'w> Hall<'w> {
     }
 
     /// Begins a call, whose socket was registered under the next call's token.
-    pub fn call(&mut self, stream: Stream, notice: Notice, now: Instant) {
+    pub fn call(&mut self, stream: Stream, notice: Notice<V::Name>, now: Instant) {
         if !self.calls.is_full() {
             let Notice { name, request, .. } = notice;
             self.calls.add(stream, request.into_vec(), name, now);
         }
     }
 
-    /// Gives a call its turn, and tells the world what came of it once it ends.
+    /// Gives a call its turn, and tells the service what came of it once it ends.
     fn go_on(&mut self, key: usize) -> Result<(), AllocError> {
         match self.calls.turn(key, &mut self.buffer) {
             Some(Progress::More) => self.keep(token_of_call(key)),
-            Some(Progress::Ended { name, status }) => self.desk.settle(name, status),
+            Some(Progress::Ended { name, status }) => self.service.end_call(name, status),
             Some(Progress::Waits) | None => Ok(()),
         }
     }
@@ -182,7 +182,7 @@ impl<'w> Hall<'w> {
     /// Lets go of the clients and the calls that are late, and lets those that wait for room go on.
     pub fn sweep(&mut self, now: Instant) -> Result<(), AllocError> {
         for key in 0..self.clients.capacity() {
-            self.clients.judge(key, &mut self.desk, now);
+            self.clients.judge(key, self.service, now);
         }
         self.sweep_calls(now)?;
         for token in mem::replace(&mut self.crowded, Vec::new(self.alloc)) {
@@ -194,14 +194,14 @@ impl<'w> Hall<'w> {
     fn sweep_calls(&mut self, now: Instant) -> Result<(), AllocError> {
         for key in 0..self.calls.capacity() {
             if let Some(name) = self.calls.judge(key, now) {
-                self.desk.settle(name, None)?;
+                self.service.end_call(name, None)?;
             }
         }
         Ok(())
     }
 
     /// Where a notice goes.
-    pub fn address_of(&self, notice: &Notice) -> io::Result<SocketAddr> {
+    pub fn address_of(&self, notice: &Notice<V::Name>) -> io::Result<SocketAddr> {
         let url = WebhookUrl::read(self.alloc, notice.url.as_str())?;
         match url.as_ref().and_then(address) {
             Some(address) => Ok(address),

@@ -1,7 +1,10 @@
-//! `am_server`: one thread that serves a world's connections and calls webhooks, over sockets that never wait.
+//! `am_server`: one thread that serves the clients of a service and calls its webhooks, over sockets that never wait.
 #![tactic(auto)]
 
-mod desk;
 mod hall;
-pub mod server;
+mod server;
+mod service;
 mod stream;
+
+pub use server::{Server, listen};
+pub use service::{Notice, Service};

@@ -1,9 +1,8 @@
 //! The server: a listener, its clients and the calls of webhooks, in one poll.
 
-use crate::desk::{Desk, Notice};
 use crate::hall::{Hall, MOST_CALLS};
+use crate::service::{Notice, Service};
 use crate::stream::Stream;
-use am_world::world::World;
 use mio::net::{TcpListener, TcpStream};
 use mio::{Events, Interest, Poll, Token};
 use std::alloc::Global;
@@ -22,9 +21,9 @@ const SWEEP: u64 = 250;
 
 const LISTENER: Token = Token(usize::MAX);
 
-/// A world, served at an address. Connections are served side by side: none waits for another.
+/// A service behind a listener. Connections are served side by side: none waits for another.
 #[derive(Drop)]
-pub struct Server<'w> {
+pub struct Server<'s, V: Service> {
     poll: Poll,
     events: Events<Global>,
     listener: TcpListener,
@@ -35,24 +34,23 @@ pub struct Server<'w> {
     /// Whether a notice may wait whose call could begin at once.
     is_behind: bool,
     swept: Instant,
-    hall: Hall<'w>,
+    hall: Hall<'s, V>,
 }
 
-impl<'w> Server<'w> {
-    /// Listens at an address, for connections to an instance of the world; serves so many of them, where a count is given.
+impl<'s, V: Service> Server<'s, V> {
+    /// Serves the clients of a listener, until so many of them were answered, where a count is given.
     ///
     /// # Errors
-    /// Those of the system, where the address can't be had; out of memory.
+    /// Those of the system's poll and clock; out of memory.
     pub fn open<R: Net + Clock>(
         rt: &R,
         alloc: Global,
-        address: SocketAddr,
-        world: &'w mut World,
-        instance: u8,
+        listener: TcpListener,
+        service: &'s mut V,
         count: Option<u64>,
-    ) -> io::Result<Server<'w>> {
+    ) -> io::Result<Server<'s, V>> {
+        let mut listener = listener;
         let poll = Poll::new(rt)?;
-        let mut listener = TcpListener::bind(rt, address)?;
         poll.registry()
             .register(&mut listener, LISTENER, Interest::READABLE)?;
         Ok(Server {
@@ -63,21 +61,8 @@ impl<'w> Server<'w> {
             is_refused: false,
             is_behind: false,
             swept: Instant::now(rt)?,
-            hall: Hall::new(alloc, Desk::new(alloc, world, instance)?, count)?,
+            hall: Hall::new(alloc, service, count)?,
         })
-    }
-
-    /// Where it listens.
-    ///
-    /// # Errors
-    /// Those of the system.
-    pub fn address(&self) -> io::Result<SocketAddr> {
-        self.listener.local_addr()
-    }
-
-    /// The world that is served.
-    pub fn world(&self) -> &World {
-        self.hall.world()
     }
 
     /// How many calls of webhooks are under way.
@@ -90,8 +75,22 @@ impl<'w> Server<'w> {
         self.hall.is_done()
     }
 
+    /// Serves until as many connections were answered as were asked for, or the service is no longer up.
+    ///
+    /// # Errors
+    /// As of [`Server::turn`].
+    pub fn serve<R: Net + Clock>(&mut self, rt: &R) -> io::Result<()> {
+        for _ in 0..u64::MAX {
+            if self.is_done() || !self.hall.is_up() {
+                break;
+            }
+            self.turn(rt)?;
+        }
+        Ok(())
+    }
+
     /// Waits a quarter of a second at most, and then does what can be done without waiting: accepts connections, moves the
-    /// bytes of clients and calls that are ready, tells the world the moment after `GET /ready` was answered, lets go of those that
+    /// bytes of clients and calls that are ready, does what is due, lets go of those that
     /// are late, and begins the calls of notices.
     ///
     /// # Errors
@@ -169,14 +168,14 @@ impl<'w> Server<'w> {
             };
             match self.dial(rt, &notice) {
                 Ok(stream) => self.hall.call(stream, notice, now),
-                Err(_) => self.hall.settle(notice.name, None)?,
+                Err(_) => self.hall.end_call(notice.name, None)?,
             }
         }
         Ok(())
     }
 
     /// Begins to connect to where a notice goes.
-    fn dial<R: Net>(&mut self, rt: &R, notice: &Notice) -> io::Result<Stream> {
+    fn dial<R: Net>(&mut self, rt: &R, notice: &Notice<V::Name>) -> io::Result<Stream> {
         let address = self.hall.address_of(notice)?;
         let mut stream = TcpStream::connect(rt, address)?;
         let both = Interest::READABLE | Interest::WRITABLE;
@@ -194,6 +193,14 @@ impl<'w> Server<'w> {
         self.is_refused = false;
         Ok(self.hall.sweep(now)?)
     }
+}
+
+/// Listens at an address.
+///
+/// # Errors
+/// Those of the system, where the address can't be had.
+pub fn listen<R: Net>(rt: &R, address: SocketAddr) -> io::Result<TcpListener> {
+    TcpListener::bind(rt, address)
 }
 
 /// The moment by the clock, in milliseconds since 1970.

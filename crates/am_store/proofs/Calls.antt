@@ -11,7 +11,8 @@ use Rattle.sqlite.specs.Term.{eval_all, lit}
 use Rattle.sqlite.specs.Listing.{understood}
 use Rattle.sqlite.specs.State.{Executes, ExecutesInside, FailsToQuery, IsNotRun, HasCleanDisk, IsRolledBack, IsTooLate, IsUnchanged, KeepsCommit, Shown, State, Survives}
 use Rattle.sqlite.specs.Tree.{Trees}
-use Rattle.sqlite.proofs.Callers.{IsPlain}
+use Rattle.sqlite.proofs.Callers.{IsPlain, runs_as}
+use Rattle.sqlite.specs.Effect.{IsDatabase}
 use Rattle.sqlite.specs.Store.{Ghosts}
 use Rattle.sqlite.specs.Held.{Held, state}
 use Rattle.sqlite.proofs.InsideLemmas.{inside_keeps, unchanged_keeps}
@@ -106,6 +107,9 @@ module _ (old new : State) (count : ℕ) where
   took_out_config t store h =
       deletes (codes "config") 1 config_columns (1 ∷ []) ((1 ∷ []) ∷ []) (plain ∷ []) 1 refl (λ olds news. refl) delete_config (Text t ∷ []) old new store.schema delete_config_plain count
       of_tenant delete_config_is refl (all_weaker IsConfig HasId config_id (old.now.trees 1) store.configs) store.configs_apart h
+
+  pub config_sound : (t : List ℕ) → IsStore old.now → Executes delete_config (Text t ∷ []) old new (Ok count) → IsDatabase new.now
+  config_sound t store h = (runs_as delete_config (Text t ∷ []) old new store_schema store.schema _ delete_config_is delete_config_plain count h).sound
 
   pub took_out_silence : (t id : List ℕ) → IsStore old.now → Executes delete_silence (Text t ∷ Text id ∷ []) old new (Ok count)
       → TakesOut 3 (hit of_silence (Text t ∷ Text id ∷ [])) old.now new.now

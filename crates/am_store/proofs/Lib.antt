@@ -1,5 +1,8 @@
 pub mod Compiled
 pub mod CompiledOpening
+pub mod Asked
+pub mod Dropped
+pub mod Failing
 pub mod RowLists
 pub mod Statements
 pub mod Latest

@@ -1,13 +1,10 @@
 -- A store passes the tests of its opening.
-use Rattle.std.proofs.Common.{◌≡◌, pos, List, [], ◌∷◌, length, map, false, Result, Ok, Err, IfErr, refl, sym, ap, ap₂, subst, ◌∙◌}
+use Rattle.std.proofs.Common.{◌≡◌, pos, List, [], ◌∷◌, length, map, false, refl, sym, ap, ap₂, subst, ◌∙◌}
 use Rattle.std.specs.List.{All, AllByRecursion, IsDistinct}
 use Rattle.std.specs.List.Sorted.{IsPermutation}
 use Rattle.std.proofs.lemmas.List.Elements.{All-from_recursion, recursion_from_All}
 use Rattle.std.proofs.lemmas.List.Sorted.{All-permutation}
 use Rattle.std.proofs.lemmas.Map.Keys.{IsDistinct-IsPermutation}
-use Rattle.am_text.specs.Outcome.{ForRefused}
-use Rattle.am_text.specs.declared.failure.Failure.{Failure}
-use Rattle.am_text.specs.declared.failure.Failure.TheVariants.{Refused, OutOfMemory}
 use Rattle.sqlite.specs.declared.types.Value.TheVariants.{Int, Null}
 use Rattle.sqlite.specs.Order.{Row}
 use Rattle.sqlite.specs.State.{Shown, State}
@@ -15,10 +12,7 @@ use Rattle.sqlite.specs.Term.{eval_all}
 use Rattle.sqlite.specs.Program.{overlay}
 use Rattle.sqlite.proofs.Callers.{one_permutation, reads_as}
 use Rattle.am_store.specs.Apart.{AreApart, HasId}
-use Rattle.am_store.specs.Opening.{AreRising, IsNotForeign}
-use Rattle.am_store.specs.Reading.{GivesValue}
-use Rattle.am_store.specs.declared.refusal.StoreRefusal.{StoreRefusal}
-use Rattle.am_store.specs.declared.refusal.StoreRefusal.TheVariants.{Database as DatabaseRefused}
+use Rattle.am_store.specs.Opening.{AreRising}
 use Rattle.am_store.specs.Rows.{IsConfig, IsSilenceRow, IsStore}
 use Rattle.am_store.specs.Tables.{store_schema}
 use Rattle.am_store.specs.Texts.{select_all_configs, select_all_silences, select_version}
@@ -30,17 +24,6 @@ use Rattle.am_store.proofs.Readings.{by_columns}
 use Rattle.am_store.proofs.RowLists.{all_weaker, none_passes, same_id, same_id-sym}
 use Rattle.am_store.proofs.Spelled.{config_id, silence_id}
 use Rattle.am_store.proofs.Statements.{reads}
-
--- ---- outcomes that aren't `F3`
-
-pub given_passes : {X : Type 0} (r : Result X (Failure StoreRefusal)) → GivesValue r → IsNotForeign r
-given_passes (Ok x) given = tt
-given_passes (Err failure) given = λ is. let clash = sym given ∙ is in cc
-
-pub database_passes : {X : Type 0} (r : Result X (Failure StoreRefusal)) → IfErr r (λ failure. ForRefused failure (λ refusal. refusal ≡ DatabaseRefused)) → IsNotForeign r
-database_passes (Ok x) refused = tt
-database_passes (Err OutOfMemory) refused = λ is. cc
-database_passes (Err (Refused refusal)) refused = λ is. let clash = ap (λ (r : StoreRefusal). Refused r) (sym refused) ∙ is in cc
 
 -- ---- what the queries show of a store
 

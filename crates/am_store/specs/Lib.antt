@@ -9,4 +9,5 @@ pub mod Reading
 pub mod Steps
 pub mod Kept
 pub mod Opening
+pub mod Failing
 pub mod Best

@@ -1,5 +1,5 @@
 -- What opening a database as a store makes of it, and what reading leaves.
-use Rattle.std.specs.Prelude.{◌≡◌, ◌⊎◌, ℤ, pos, List, [], ◌∷◌, IsTrue, Result, IfErr}
+use Rattle.std.specs.Prelude.{◌≡◌, ◌⊎◌, ℤ, pos, List, [], ◌∷◌, IsTrue}
 use Rattle.std.specs.List.{AllByRecursion}
 use Rattle.std.specs.List.Sorted.{IsStrictlySortedBy}
 use Rattle.sqlite.specs.declared.types.Value.TheVariants.{Int}
@@ -11,14 +11,10 @@ use Rattle.sqlite.specs.Effect.{Database}
 use Rattle.sqlite.specs.Schema.{Schema}
 use Rattle.sqlite.specs.State.{HasCleanDisk, State, Survives}
 use Rattle.sqlite.specs.Table.{Table}
-use Rattle.am_text.specs.declared.failure.Failure.{Failure}
-use Rattle.am_text.specs.declared.failure.Failure.TheVariants.{Refused}
 use Rattle.am_store.specs.Apart.{AreApart}
 use Rattle.am_store.specs.Rows.{IsStore, pairs_in}
 use Rattle.am_store.specs.Steps.{Commits, IsSame}
 use Rattle.am_store.specs.Tables.{no_schema}
-use Rattle.am_store.specs.declared.refusal.StoreRefusal.{StoreRefusal}
-use Rattle.am_store.specs.declared.refusal.StoreRefusal.TheVariants.{Foreign}
 
 -- a table was made behind those of a schema, and no row lies in it; the others are as they were
 pub record MakesTable (before : Schema) (table : Table) (old new : Database) : Type 0 where
@@ -62,10 +58,6 @@ LeavesNew old trees = (db : Database) × Founds old.now db × (trees ≡ db.tree
 pub record IsForeign (db : Database) : Type 0 where
   pub used : db.schema ≡ no_schema → ⊥
   pub foreign : IsStore db → ⊥
-
--- it isn't refused as foreign
-abbrev pub IsNotForeign : {X : Type 0} → Result X (Failure StoreRefusal) → Type 0
-IsNotForeign result = IfErr result (λ failure. failure ≡ Refused Foreign → ⊥)
 
 -- nothing was written: a crash leaves what it left before, and a connection that is still open shows what was committed
 pub record Rests (old new : State) : Type 0 where

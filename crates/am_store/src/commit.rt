@@ -1,10 +1,11 @@
 //! What is put and dropped in one transaction.
 
-ghost use Rattle.std.specs.Prelude.{◌≡◌, All, IsTrue, OnErr, OnOk, false};
+ghost use Rattle.std.specs.Prelude.{◌≡◌, All, IfErr, IsTrue, OnErr, OnOk, false};
 ghost use Rattle.std.specs.Option.{option_to_list};
 ghost use Rattle.sqlite.specs.Held.{state};
 ghost use Rattle.sqlite.specs.State.{HasCleanDisk, KeepsCommit, Survives};
 ghost use Rattle.am_item.specs.Key.{SilenceKey};
+ghost use Rattle.am_store.specs.Failing.{IsExcused, IsReady};
 ghost use Rattle.am_store.specs.Rows.{IsFit, IsStore};
 ghost use Rattle.am_store.specs.Steps.{Commits, Empties, IsSame, Leaves, Removes, Stores};
 ghost use Rattle.am_store.specs.Stored.{stored_item, stored_items};
@@ -102,6 +103,8 @@ fn take_silence<S: Alter>(
     ensures ok { HasCleanDisk (state S.Store tx.new.conn.now) → IsStore (state S.Store tx.old.conn.now).now
         → OnOk result (Removes tenant.now (SilenceKey id.now) (state S.Store tx.old.conn.now).now
         (state S.Store tx.new.conn.now).now) }
+    ensures fails { HasCleanDisk (state S.Store tx.new.conn.now) → IsReady (state S.Store tx.old.conn.now)
+        → IfErr result (IsExcused (state S.Store tx.old.conn.now) (state S.Store tx.new.conn.now)) }
     ensures kept { HasCleanDisk (state S.Store tx.new.conn.now)
         → KeepsCommit (state S.Store tx.old.conn.now) (state S.Store tx.new.conn.now) }
     ensures inside { HasCleanDisk (state S.Store tx.new.conn.now)
@@ -127,10 +130,13 @@ pub(crate) fn drop_silence<S: Alter>(
     ensures err { HasCleanDisk (state S.Store conn.new) → IsTrue (state S.Store conn.new).is_open
         → IsStore (state S.Store conn.old).now
         → OnErr result (IsSame (state S.Store conn.old) (state S.Store conn.new)) }
+    ensures fails { HasCleanDisk (state S.Store conn.new) → IsStore (state S.Store conn.old).now
+        → IfErr result (IsExcused (state S.Store conn.old) (state S.Store conn.new)) }
     ensures idle { conn.new.in_transaction ≡ false }
     ensures crash { Survives (state S.Store conn.old) (state S.Store conn.new)
         (Leaves (Removes tenant.now (SilenceKey id.now)) (state S.Store conn.old)) }
 {
+    let _live = conn.schema();
     let _settled = conn.is_autocommit();
     let mut tx = conn.transaction();
     take_silence(&mut tx, tenant, id)?;
@@ -142,6 +148,8 @@ fn take_all<S: Alter>(tx: &mut Transaction<'_, S>, tenant: &TenantName) -> Resul
     ensures same_reference { tx.new.conn.ghost_name ≡ tx.old.conn.ghost_name }
     ensures ok { HasCleanDisk (state S.Store tx.new.conn.now) → IsStore (state S.Store tx.old.conn.now).now
         → OnOk result (Empties tenant.now (state S.Store tx.old.conn.now).now (state S.Store tx.new.conn.now).now) }
+    ensures fails { HasCleanDisk (state S.Store tx.new.conn.now) → IsReady (state S.Store tx.old.conn.now)
+        → IfErr result (IsExcused (state S.Store tx.old.conn.now) (state S.Store tx.new.conn.now)) }
     ensures kept { HasCleanDisk (state S.Store tx.new.conn.now)
         → KeepsCommit (state S.Store tx.old.conn.now) (state S.Store tx.new.conn.now) }
     ensures inside { HasCleanDisk (state S.Store tx.new.conn.now)
@@ -164,10 +172,13 @@ pub(crate) fn drop_tenant<S: Alter>(
     ensures err { HasCleanDisk (state S.Store conn.new) → IsTrue (state S.Store conn.new).is_open
         → IsStore (state S.Store conn.old).now
         → OnErr result (IsSame (state S.Store conn.old) (state S.Store conn.new)) }
+    ensures fails { HasCleanDisk (state S.Store conn.new) → IsStore (state S.Store conn.old).now
+        → IfErr result (IsExcused (state S.Store conn.old) (state S.Store conn.new)) }
     ensures idle { conn.new.in_transaction ≡ false }
     ensures crash { Survives (state S.Store conn.old) (state S.Store conn.new)
         (Leaves (Empties tenant.now) (state S.Store conn.old)) }
 {
+    let _live = conn.schema();
     let _settled = conn.is_autocommit();
     let mut tx = conn.transaction();
     take_all(&mut tx, tenant)?;

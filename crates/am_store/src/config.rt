@@ -1,13 +1,15 @@
 //! Configurations: their rows are read, taken out and put in.
 
-ghost use Rattle.std.specs.Prelude.{◌≡◌, [], ◌∷◌, filter, map, IfOk, IfSome, IsTrue, IsUtf8, OnOk};
+ghost use Rattle.std.specs.Prelude.{◌≡◌, [], ◌∷◌, filter, map, IfErr, IfOk, IfSome, IsTrue, IsUtf8, OnOk};
 ghost use Rattle.std.specs.List.Sorted.{IsPermutation};
 ghost use Rattle.sqlite.specs.declared.types.Value.TheVariants.{Text as Words};
+ghost use Rattle.sqlite.specs.Effect.{IsDatabase};
 ghost use Rattle.sqlite.specs.Held.{state};
 ghost use Rattle.sqlite.specs.State.{HasCleanDisk, IsUnchanged, KeepsCommit, Survives};
 ghost use Rattle.sqlite.specs.Term.{eval_all};
 ghost use Rattle.sqlite.specs.Values.{bound};
 ghost use Rattle.am_tenant.specs.Names.{is_tenant_name};
+ghost use Rattle.am_store.specs.Failing.{IsExcused, IsReady};
 ghost use Rattle.am_store.specs.Rows.{IsNumbered, IsStamp, IsStore, config_fields};
 ghost use Rattle.am_store.specs.Steps.{PutsRow, Stores, TakesOut};
 ghost use Rattle.am_store.specs.Stored.{ConfigurationText, stamped};
@@ -82,6 +84,10 @@ pub(crate) fn take_out<S: Alter>(
     ensures ok { HasCleanDisk (state S.Store tx.new.conn.now) → IsStore (state S.Store tx.old.conn.now).now
         → OnOk result (TakesOut 1 (hit of_tenant (Words tenant.now ∷ [])) (state S.Store tx.old.conn.now).now
         (state S.Store tx.new.conn.now).now) }
+    ensures fails { HasCleanDisk (state S.Store tx.new.conn.now) → IsReady (state S.Store tx.old.conn.now)
+        → IfErr result (IsExcused (state S.Store tx.old.conn.now) (state S.Store tx.new.conn.now)) }
+    ensures sound { HasCleanDisk (state S.Store tx.new.conn.now) → IsReady (state S.Store tx.old.conn.now)
+        → OnOk result (IsDatabase (state S.Store tx.new.conn.now).now) }
     ensures kept { HasCleanDisk (state S.Store tx.new.conn.now)
         → KeepsCommit (state S.Store tx.old.conn.now) (state S.Store tx.new.conn.now) }
     ensures inside { HasCleanDisk (state S.Store tx.new.conn.now)

@@ -6,8 +6,9 @@ ghost use Rattle.sqlite.specs.Effect.{IsDatabase};
 ghost use Rattle.sqlite.specs.Held.{state};
 ghost use Rattle.sqlite.specs.State.{HasCleanDisk, IsUnchanged, KeepsCommit, Survives};
 ghost use Rattle.am_store.specs.Apart.{HasId};
-ghost use Rattle.am_store.specs.Opening.{AreRising, AreRowsOf, Founds, HasVersion, IsNotForeign, IsVersionRow};
-ghost use Rattle.am_store.specs.Opening.{LeavesNew, MakesTable, Opens, Rests};
+ghost use Rattle.am_store.specs.Failing.{FailsForCause};
+ghost use Rattle.am_store.specs.Opening.{AreRising, AreRowsOf, Founds, HasVersion, IsVersionRow, LeavesNew};
+ghost use Rattle.am_store.specs.Opening.{MakesTable, Opens, Rests};
 ghost use Rattle.am_store.specs.Reading.{GivesValue};
 ghost use Rattle.am_store.specs.Rows.{IsConfig, IsSilenceRow, IsStore};
 ghost use Rattle.am_store.specs.Steps.{Commits, IsSame, Leaves, PutsRow};
@@ -199,7 +200,8 @@ fn check_version<S: Alter>(conn: &mut Connection<S>) -> Result<(), Failure<Store
     ensures ok { HasCleanDisk (state S.Store conn.new) → (state S.Store conn.old).now.schema ≡ store_schema
         → OnOk result (IsUnchanged (state S.Store conn.old) (state S.Store conn.new)
         × (IsDatabase (state S.Store conn.old).now → HasVersion (state S.Store conn.old).now.trees)) }
-    ensures passes { HasCleanDisk (state S.Store conn.new) → IsStore (state S.Store conn.old).now → IsNotForeign result }
+    ensures fails { HasCleanDisk (state S.Store conn.new) → IsStore (state S.Store conn.old).now
+        → FailsForCause (state S.Store conn.old) (state S.Store conn.new) result }
     ensures idle { conn.old.in_transaction ≡ false → conn.new.in_transaction ≡ false }
 {
     let rows = query::rows(conn, "SELECT rowid, n FROM version", &[])?;
@@ -220,7 +222,8 @@ fn check_configs<S: Alter>(
     ensures ok { HasCleanDisk (state S.Store conn.new) → (state S.Store conn.old).now.schema ≡ store_schema
         → OnOk result (IsUnchanged (state S.Store conn.old) (state S.Store conn.new)
         × (IsDatabase (state S.Store conn.old).now → AreRowsOf IsConfig ((state S.Store conn.old).now.trees 1))) }
-    ensures passes { HasCleanDisk (state S.Store conn.new) → IsStore (state S.Store conn.old).now → IsNotForeign result }
+    ensures fails { HasCleanDisk (state S.Store conn.new) → IsStore (state S.Store conn.old).now
+        → FailsForCause (state S.Store conn.old) (state S.Store conn.new) result }
     ensures idle { conn.old.in_transaction ≡ false → conn.new.in_transaction ≡ false }
 {
     let rows = query::rows(
@@ -243,7 +246,8 @@ fn check_silences<S: Alter>(
     ensures ok { HasCleanDisk (state S.Store conn.new) → (state S.Store conn.old).now.schema ≡ store_schema
         → OnOk result (IsUnchanged (state S.Store conn.old) (state S.Store conn.new)
         × (IsDatabase (state S.Store conn.old).now → AreRowsOf IsSilenceRow ((state S.Store conn.old).now.trees 3))) }
-    ensures passes { HasCleanDisk (state S.Store conn.new) → IsStore (state S.Store conn.old).now → IsNotForeign result }
+    ensures fails { HasCleanDisk (state S.Store conn.new) → IsStore (state S.Store conn.old).now
+        → FailsForCause (state S.Store conn.old) (state S.Store conn.new) result }
     ensures idle { conn.old.in_transaction ≡ false → conn.new.in_transaction ≡ false }
 {
     let rows = query::rows(
@@ -262,7 +266,8 @@ fn check<S: Alter>(alloc: Global, conn: &mut Connection<S>) -> Result<(), Failur
     ensures ok { HasCleanDisk (state S.Store conn.new)
         → OnOk result (IsStore (state S.Store conn.old).now
         × IsUnchanged (state S.Store conn.old) (state S.Store conn.new)) }
-    ensures passes { HasCleanDisk (state S.Store conn.new) → IsStore (state S.Store conn.old).now → IsNotForeign result }
+    ensures fails { HasCleanDisk (state S.Store conn.new) → IsStore (state S.Store conn.old).now
+        → FailsForCause (state S.Store conn.old) (state S.Store conn.new) result }
     ensures idle { conn.old.in_transaction ≡ false → conn.new.in_transaction ≡ false }
 {
     if !is_store(alloc, conn.schema())? {
@@ -285,7 +290,8 @@ pub(crate) fn open<S: Alter>(
         → OnErr result (IsSame (state S.Store conn.old) (state S.Store conn.new)) }
     ensures used { IfErr result (λ failure. failure ≡ Failure.Refused StoreRefusal.Foreign
         → (state S.Store conn.old).now.schema ≡ no_schema → ⊥) }
-    ensures passes { HasCleanDisk (state S.Store conn.new) → IsStore (state S.Store conn.old).now → IsNotForeign result }
+    ensures fails { HasCleanDisk (state S.Store conn.new) → IsStore (state S.Store conn.old).now
+        → FailsForCause (state S.Store conn.old) (state S.Store conn.new) result }
     ensures idle { conn.new.in_transaction ≡ false }
     ensures crash { Survives (state S.Store conn.old) (state S.Store conn.new) (LeavesNew (state S.Store conn.old)) }
 {

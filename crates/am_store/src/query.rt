@@ -1,13 +1,14 @@
 //! Queries that only read.
 
-ghost use Rattle.std.specs.Prelude.{◌≡◌, false, IfErr, IfOk};
+ghost use Rattle.std.specs.Prelude.{◌≡◌, false, IfOk};
 ghost use Rattle.sqlite.specs.Held.{state};
 ghost use Rattle.sqlite.specs.Given.{IsPlain};
 ghost use Rattle.sqlite.specs.Listing.{understood};
 ghost use Rattle.sqlite.specs.State.{HasCleanDisk, Shown};
 ghost use Rattle.sqlite.specs.Values.{bound};
-ghost use Rattle.am_text.specs.Outcome.{ForRefused};
+ghost use Rattle.am_store.specs.Failing.{FailsForCause, IsQuery};
 ghost use Rattle.am_store.specs.Opening.{Rests};
+ghost use Rattle.am_store.specs.Tables.{store_schema};
 
 use crate::refusal::{StoreRefusal, failure_of};
 use am_text::Failure;
@@ -28,7 +29,9 @@ pub(crate) fn rows<S: Alter>(
         → Rests (state S.Store conn.old) (state S.Store conn.new) }
     ensures clean { HasCleanDisk (state S.Store conn.new) → HasCleanDisk (state S.Store conn.old) }
     ensures idle { conn.old.in_transaction ≡ false → conn.new.in_transaction ≡ false }
-    ensures database { IfErr result (λ failure. ForRefused failure (λ refusal. refusal ≡ StoreRefusal.Database)) }
+    ensures fails { HasCleanDisk (state S.Store conn.new) → (state S.Store conn.old).now.schema ≡ store_schema
+        → IsQuery sql.now (bound params.now)
+        → FailsForCause (state S.Store conn.old) (state S.Store conn.new) result }
 {
     match conn.query_all(sql, params) {
         Ok(rows) => Ok(rows),

@@ -1,6 +1,6 @@
 //! Why a store does not do what it is asked.
 
-ghost use Rattle.std.specs.Prelude.{◌≡◌, Some};
+ghost use Rattle.std.specs.Prelude.{◌≡◌, ◌↔◌, Some};
 ghost use Rattle.am_text.specs.Outcome.{ForRefused};
 ghost use Rattle.am_store.specs.Codes.{code_of};
 
@@ -42,7 +42,8 @@ impl Error for StoreRefusal {}
 
 // What a call of the database that failed is told as.
 pub(crate) fn failure_of(error: DatabaseError) -> Failure<StoreRefusal>
-    ensures { ForRefused result (λ refusal. refusal ≡ StoreRefusal.Database) }
+    ensures memory { (result ≡ Failure.OutOfMemory) ↔ (error ≡ DatabaseError.SqliteFailure ErrorCode.OutOfMemory) }
+    ensures database { ForRefused result (λ refusal. refusal ≡ StoreRefusal.Database) }
 {
     match error {
         DatabaseError::SqliteFailure(ErrorCode::OutOfMemory) => Failure::OutOfMemory,

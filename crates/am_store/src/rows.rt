@@ -8,7 +8,8 @@ ghost use Rattle.sqlite.specs.State.{HasCleanDisk};
 ghost use Rattle.am_item.specs.Best.{IsRising};
 ghost use Rattle.am_item.specs.Key.{key_cmp, key_of};
 ghost use Rattle.am_share.specs.Pairs.{things_of};
-ghost use Rattle.am_store.specs.Opening.{IsNotForeign, Rests};
+ghost use Rattle.am_store.specs.Failing.{FailsForCause};
+ghost use Rattle.am_store.specs.Opening.{Rests};
 ghost use Rattle.am_store.specs.Reading.{AreInOrder, GivesValue, KeysRise, config_key, silence_key};
 ghost use Rattle.am_store.specs.Rows.{IsConfig, IsSilenceRow, IsStore, config_in, pairs_in, silence_in};
 ghost use Rattle.am_store.specs.Stored.{stored_items};
@@ -33,7 +34,8 @@ fn found<S: Alter>(
         (map (λ row. (config_in row).1) rows.0.items ++ map (λ row. (silence_in row).1) rows.1.items)) }
     ensures order { HasCleanDisk (state S.Store conn.new) → IsStore (state S.Store conn.old).now
         → IfOk result (λ rows. AreInOrder rows.0.items rows.1.items) }
-    ensures passes { IsNotForeign result }
+    ensures fails { HasCleanDisk (state S.Store conn.new) → IsStore (state S.Store conn.old).now
+        → FailsForCause (state S.Store conn.old) (state S.Store conn.new) result }
     ensures rests { (HasCleanDisk (state S.Store conn.old) → IsStore (state S.Store conn.old).now)
         → Rests (state S.Store conn.old) (state S.Store conn.new) }
     ensures same { HasCleanDisk (state S.Store conn.new) → IsStore (state S.Store conn.old).now
@@ -131,7 +133,8 @@ pub(crate) fn rows_of<S: Alter>(
         → IfOk result (λ items. IsPermutation (things_of tenant.now (pairs_in (state S.Store conn.old).now.trees))
         (stored_items items.items)) }
     ensures order { IfOk result (λ items. IsRising items.items) }
-    ensures passes { HasCleanDisk (state S.Store conn.new) → IsStore (state S.Store conn.old).now → IsNotForeign result }
+    ensures fails { HasCleanDisk (state S.Store conn.new) → IsStore (state S.Store conn.old).now
+        → FailsForCause (state S.Store conn.old) (state S.Store conn.new) result }
     ensures rests { (HasCleanDisk (state S.Store conn.old) → IsStore (state S.Store conn.old).now)
         → Rests (state S.Store conn.old) (state S.Store conn.new) }
     ensures same { HasCleanDisk (state S.Store conn.new) → IsStore (state S.Store conn.old).now

@@ -1,6 +1,6 @@
 //! Silences: their rows are read, taken out and put in.
 
-ghost use Rattle.std.specs.Prelude.{◌≡◌, ◌≤◌, [], ◌∷◌, filter, length, map, IfOk, IsTrue, OnOk, Some};
+ghost use Rattle.std.specs.Prelude.{◌≡◌, ◌≤◌, [], ◌∷◌, filter, length, map, IfErr, IfOk, IsTrue, OnOk, Some};
 ghost use Rattle.std.specs.List.Sorted.{IsPermutation};
 ghost use Rattle.sqlite.specs.declared.types.Value.TheVariants.{Text as Words};
 ghost use Rattle.sqlite.specs.Held.{state};
@@ -10,6 +10,7 @@ ghost use Rattle.sqlite.specs.Values.{bound};
 ghost use Rattle.uuid.specs.Text.{parsed};
 ghost use Rattle.am_match.specs.Spelling.{IsSpellable, Spells};
 ghost use Rattle.am_tenant.specs.Names.{is_tenant_name};
+ghost use Rattle.am_store.specs.Failing.{IsExcused, IsReady};
 ghost use Rattle.am_store.specs.Rows.{IsNumbered, IsSilence, IsStamp, IsStore, id_text, silence_fields};
 ghost use Rattle.am_store.specs.Steps.{PutsRow, Stores, TakesOut};
 ghost use Rattle.am_store.specs.Stored.{SilenceWords, silence_text, stamped};
@@ -130,6 +131,8 @@ pub(crate) fn take_out<S: Alter>(
     ensures ok { HasCleanDisk (state S.Store tx.new.conn.now) → IsStore (state S.Store tx.old.conn.now).now
         → OnOk result (TakesOut 3 (hit of_silence (Words tenant.now ∷ Words id.now ∷ []))
         (state S.Store tx.old.conn.now).now (state S.Store tx.new.conn.now).now) }
+    ensures fails { HasCleanDisk (state S.Store tx.new.conn.now) → IsReady (state S.Store tx.old.conn.now)
+        → IfErr result (IsExcused (state S.Store tx.old.conn.now) (state S.Store tx.new.conn.now)) }
     ensures kept { HasCleanDisk (state S.Store tx.new.conn.now)
         → KeepsCommit (state S.Store tx.old.conn.now) (state S.Store tx.new.conn.now) }
     ensures inside { HasCleanDisk (state S.Store tx.new.conn.now)
@@ -153,6 +156,8 @@ pub(crate) fn take_out_all<S: Alter>(
     ensures ok { HasCleanDisk (state S.Store tx.new.conn.now) → IsStore (state S.Store tx.old.conn.now).now
         → OnOk result (TakesOut 3 (hit of_tenant (Words tenant.now ∷ [])) (state S.Store tx.old.conn.now).now
         (state S.Store tx.new.conn.now).now) }
+    ensures fails { HasCleanDisk (state S.Store tx.new.conn.now) → IsReady (state S.Store tx.old.conn.now)
+        → IfErr result (IsExcused (state S.Store tx.old.conn.now) (state S.Store tx.new.conn.now)) }
     ensures kept { HasCleanDisk (state S.Store tx.new.conn.now)
         → KeepsCommit (state S.Store tx.old.conn.now) (state S.Store tx.new.conn.now) }
     ensures inside { HasCleanDisk (state S.Store tx.new.conn.now)

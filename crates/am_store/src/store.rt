@@ -12,7 +12,8 @@ ghost use Rattle.am_item.specs.Best.{IsRising};
 ghost use Rattle.am_item.specs.Key.{SilenceKey};
 ghost use Rattle.am_share.specs.Pairs.{things_of};
 ghost use Rattle.am_text.specs.Outcome.{ForRefused};
-ghost use Rattle.am_store.specs.Opening.{IsForeign, IsNotForeign, LeavesNew, Opens, Rests};
+ghost use Rattle.am_store.specs.Failing.{FailsForCause, IsCaused};
+ghost use Rattle.am_store.specs.Opening.{IsForeign, LeavesNew, Opens, Rests};
 ghost use Rattle.am_store.specs.Rows.{IsFit, IsStore, pairs_in};
 ghost use Rattle.am_store.specs.Steps.{Commits, Empties, IsSame, Leaves, Removes, Stores};
 ghost use Rattle.am_store.specs.Stored.{stored_items};
@@ -65,6 +66,8 @@ impl<S: Alter> Store<S> {
             → Opens (state S.Store conn) (state S.Store store)) }
         ensures err { IfErr result (λ e. HasCleanDisk (state S.Store e.1) → IsTrue (state S.Store e.1).is_open
             → IsSame (state S.Store conn) (state S.Store e.1)) }
+        ensures fails { IfErr result (λ e. HasCleanDisk (state S.Store e.1) → IsStore (state S.Store conn).now
+            → IsCaused (state S.Store conn) (state S.Store e.1) e.0) }
         ensures used { IfErr result (λ e. e.0 ≡ Failure.Refused StoreRefusal.Foreign
             → (state S.Store conn).now.schema ≡ no_schema → ⊥) }
         ensures foreign { IfErr result (λ e. HasCleanDisk (state S.Store e.1)
@@ -131,8 +134,8 @@ impl<S: Alter> Store<S> {
             → IfOk result (λ items. IsPermutation (things_of tenant.now (pairs_in (state S.Store self.old).now.trees))
             (stored_items items.items)) }
         ensures order { IfOk result (λ items. IsRising items.items) }
-        ensures passes { HasCleanDisk (state S.Store self.new) → IsStore (state S.Store self.old).now
-            → IsNotForeign result }
+        ensures fails { HasCleanDisk (state S.Store self.new) → IsStore (state S.Store self.old).now
+            → FailsForCause (state S.Store self.old) (state S.Store self.new) result }
         ensures rests { (HasCleanDisk (state S.Store self.old) → IsStore (state S.Store self.old).now)
             → Rests (state S.Store self.old) (state S.Store self.new) }
         ensures same { HasCleanDisk (state S.Store self.new) → IsStore (state S.Store self.old).now
@@ -150,8 +153,8 @@ impl<S: Alter> Store<S> {
         ensures names { HasCleanDisk (state S.Store self.new) → IsStore (state S.Store self.old).now
             → IfOk result (λ names. (t : List ℕ) → list_any (same t) names.items
             ≡ list_any (λ pair. same t pair.0) (pairs_in (state S.Store self.old).now.trees)) }
-        ensures passes { HasCleanDisk (state S.Store self.new) → IsStore (state S.Store self.old).now
-            → IsNotForeign result }
+        ensures fails { HasCleanDisk (state S.Store self.new) → IsStore (state S.Store self.old).now
+            → FailsForCause (state S.Store self.old) (state S.Store self.new) result }
         ensures rests { (HasCleanDisk (state S.Store self.old) → IsStore (state S.Store self.old).now)
             → Rests (state S.Store self.old) (state S.Store self.new) }
     {
@@ -173,6 +176,8 @@ impl<S: Alter> Store<S> {
         ensures err { HasCleanDisk (state S.Store self.new) → IsStore (state S.Store self.old).now
             → IsTrue (state S.Store self.new).is_open
             → OnErr result (IsSame (state S.Store self.old) (state S.Store self.new)) }
+        ensures fails { HasCleanDisk (state S.Store self.new) → IsStore (state S.Store self.old).now
+            → FailsForCause (state S.Store self.old) (state S.Store self.new) result }
         ensures database { IfErr result (λ failure. ForRefused failure (λ refusal. refusal ≡ StoreRefusal.Database)) }
         ensures crash { Survives (state S.Store self.old) (state S.Store self.new)
             (Leaves (Removes tenant.now (SilenceKey id.now)) (state S.Store self.old)) }
@@ -193,6 +198,8 @@ impl<S: Alter> Store<S> {
         ensures err { HasCleanDisk (state S.Store self.new) → IsStore (state S.Store self.old).now
             → IsTrue (state S.Store self.new).is_open
             → OnErr result (IsSame (state S.Store self.old) (state S.Store self.new)) }
+        ensures fails { HasCleanDisk (state S.Store self.new) → IsStore (state S.Store self.old).now
+            → FailsForCause (state S.Store self.old) (state S.Store self.new) result }
         ensures database { IfErr result (λ failure. ForRefused failure (λ refusal. refusal ≡ StoreRefusal.Database)) }
         ensures crash { Survives (state S.Store self.old) (state S.Store self.new)
             (Leaves (Empties tenant.now) (state S.Store self.old)) }

@@ -9,7 +9,8 @@ ghost use Rattle.sqlite.specs.Held.{state};
 ghost use Rattle.sqlite.specs.Order.{bytes, column};
 ghost use Rattle.sqlite.specs.State.{HasCleanDisk};
 ghost use Rattle.am_tenant.specs.Names.{same};
-ghost use Rattle.am_store.specs.Opening.{IsNotForeign, Rests};
+ghost use Rattle.am_store.specs.Failing.{FailsForCause};
+ghost use Rattle.am_store.specs.Opening.{Rests};
 ghost use Rattle.am_store.specs.Reading.{GivesValue, IsNamed, NameTenants};
 ghost use Rattle.am_store.specs.Rows.{IsStore, pairs_in};
 
@@ -49,7 +50,8 @@ fn named<S: Alter>(conn: &mut Connection<S>) -> Result<(Vec<Row>, Vec<Row>), Fai
         → IfOk result (λ rows. NameTenants rows.0.items rows.1.items (state S.Store conn.old).now.trees) }
     ensures named { HasCleanDisk (state S.Store conn.new) → IsStore (state S.Store conn.old).now
         → IfOk result (λ rows. All IsNamed rows.0.items × All IsNamed rows.1.items) }
-    ensures passes { IsNotForeign result }
+    ensures fails { HasCleanDisk (state S.Store conn.new) → IsStore (state S.Store conn.old).now
+        → FailsForCause (state S.Store conn.old) (state S.Store conn.new) result }
     ensures rests { (HasCleanDisk (state S.Store conn.old) → IsStore (state S.Store conn.old).now)
         → Rests (state S.Store conn.old) (state S.Store conn.new) }
     ensures idle { conn.old.in_transaction ≡ false → conn.new.in_transaction ≡ false }
@@ -69,7 +71,8 @@ pub(crate) fn tenants<S: Alter>(
         → IfOk result (λ names. (t : List ℕ)
         → list_any (same t) names.items
         ≡ list_any (λ pair. same t pair.0) (pairs_in (state S.Store conn.old).now.trees)) }
-    ensures passes { HasCleanDisk (state S.Store conn.new) → IsStore (state S.Store conn.old).now → IsNotForeign result }
+    ensures fails { HasCleanDisk (state S.Store conn.new) → IsStore (state S.Store conn.old).now
+        → FailsForCause (state S.Store conn.old) (state S.Store conn.new) result }
     ensures rests { (HasCleanDisk (state S.Store conn.old) → IsStore (state S.Store conn.old).now)
         → Rests (state S.Store conn.old) (state S.Store conn.new) }
     ensures idle { conn.old.in_transaction ≡ false → conn.new.in_transaction ≡ false }

@@ -14,7 +14,6 @@ use std::alloc::{AllocError, Global};
 use std::mem;
 
 /// All instances, the clock, and what was put out so far.
-#[derive(Drop)]
 pub struct World {
     pub(crate) clock: Moment,
     pub(crate) instances: Instances,
@@ -22,6 +21,23 @@ pub struct World {
     pub(crate) service_key: [u8; 32],
     pub(crate) outputs: Vec<Output>,
     pub(crate) faults: u64,
+}
+
+// Written out, so that a crate which owns a world has no need to prove anew how each of its parts is dropped.
+impl Drop for World {
+    fn drop(self) {
+        let World {
+            clock: _clock,
+            instances,
+            limits,
+            service_key: _service_key,
+            outputs,
+            faults: _faults,
+        } = self;
+        drop(instances);
+        drop(limits);
+        drop(outputs);
+    }
 }
 
 impl World {

@@ -1,24 +1,10 @@
-//! `amring`: plays a scenario of events against a world and prints what it answers.
+//! `amring`: plays a scenario of events against a world, or serves connections, as its command line says.
 #![tactic(auto)]
 
-mod command;
-mod connections;
-mod ending;
-mod line;
-mod link;
-mod loopback;
-mod number;
-mod options;
-mod play;
-mod report;
-mod serve;
-mod stops;
-#[cfg(test)]
-mod tests;
-
+use am_play::loopback::Loopback;
+use am_play::options::CommandLine;
+use am_play::{ending, options, play, serve};
 use am_world::setup::Setup;
-use loopback::Loopback;
-use options::CommandLine;
 use std::io::{BufReader, BufWriter, Write};
 use std::net::Net;
 use std::process::ExitCode;

@@ -1,10 +1,27 @@
-use super::{id, matchers, minute, minute_of, put, silence};
-use am_item::Held;
-use am_match::Operator;
-use am_silence::{PostedSilence, SilenceBook, SilenceRefusal, SilenceWrite};
-use am_text::{Failure, Text};
+use super::{minute, minute_of};
+use am_item::{Held, Item, Matchers, Silence, SilenceId, Stamp, Thing};
+use am_match::{Matcher, Operator};
+use am_silence::{PostedSilence, SilenceBook, SilenceWrite};
+use am_text::Text;
 use std::alloc::{AllocError, Global};
 use std::test::Fail;
+
+fn id(number: u8) -> SilenceId {
+    SilenceId::from_bytes([number; 16])
+}
+
+fn matcher(alloc: Global, value: &str) -> Result<Matcher, Fail> {
+    let name = Text::read(alloc, "a")?;
+    let value = Text::read(alloc, value)?;
+    Ok(Matcher::new(Operator::Equal, name, value).ok_or("no matcher")?)
+}
+
+// One matcher, that `a` is this value.
+fn matchers(alloc: Global, value: &str) -> Result<Vec<Matcher>, Fail> {
+    let mut matchers = Vec::new(alloc);
+    matchers.push(matcher(alloc, value)?)?;
+    Ok(matchers)
+}
 
 // What is posted on `a` and a value, from one minute until another.
 fn posted(alloc: Global, value: &str, from: u8, until: u8) -> Result<PostedSilence, Fail> {
@@ -14,23 +31,35 @@ fn posted(alloc: Global, value: &str, from: u8, until: u8) -> Result<PostedSilen
         ends_at: minute(until)?,
         created_by: Text::read(alloc, "you")?,
         comment: Text::read(alloc, "else")?,
-        matchers: matchers(alloc, Operator::Equal, value)?,
+        matchers: matchers(alloc, value)?,
     })
 }
 
-// Where silence 1 on `a="b"` is held from one minute until another.
+// Silence 1 on `a="b"`.
+fn silence(alloc: Global, from: u8, until: u8) -> Result<Silence, Fail> {
+    let until = minute(until)?;
+    Ok(Silence {
+        id: id(1),
+        starts_at: minute(from)?,
+        ends_at: until,
+        kept_until: until,
+        created_by: Text::read(alloc, "me")?,
+        comment: Text::read(alloc, "why")?,
+        matchers: Matchers::from_vec(matchers(alloc, "b")?),
+    })
+}
+
+// Where that silence is held, written at minute 0.
 fn held(alloc: Global, from: u8, until: u8) -> Result<Held, Fail> {
+    let stamp = Stamp {
+        moment: minute(0)?,
+        instance: 1,
+        incarnation: 1,
+        count: 1,
+    };
+    let thing = Thing::Silence(silence(alloc, from, until)?);
     let mut held = Held::new(alloc);
-    put(
-        &mut held,
-        silence(
-            alloc,
-            1,
-            matchers(alloc, Operator::Equal, "b")?,
-            from,
-            until,
-        )?,
-    )?;
+    held.put(Item { stamp, thing })?;
     Ok(held)
 }
 
@@ -46,42 +75,19 @@ fn shown(alloc: Global, write: &SilenceWrite) -> Result<String, AllocError> {
     format!(in alloc; "{at}: {number} {from} {until} {kept} {author};")
 }
 
-// What a post changes at minute 5 that gives silence 1; a new silence is silence 9.
-fn changes(alloc: Global, held: &Held, posted: PostedSilence) -> Result<String, Fail> {
+// What a post writes at minute 5 that gives silence 1; a new silence is silence 9.
+fn writes(alloc: Global, held: &Held, posted: PostedSilence) -> Result<Vec<SilenceWrite>, Fail> {
     let change = SilenceBook::new(held).change(alloc, Some(id(1)), posted, minute(5)?)?;
+    Ok(change.into_writes(alloc, id(9))?)
+}
+
+// The same as a text.
+fn changes(alloc: Global, held: &Held, posted: PostedSilence) -> Result<String, Fail> {
     let mut text = String::new(alloc);
-    for write in change.into_writes(alloc, id(9))? {
-        text.push_str(shown(alloc, &write)?.as_str())?;
+    for write in &writes(alloc, held, posted)? {
+        text.push_str(shown(alloc, write)?.as_str())?;
     }
     Ok(text)
-}
-
-#[test]
-fn an_active_silence_is_changed_in_place(rt: HostRuntime) -> Result<(), Fail> {
-    let held = held(rt.alloc(), 0, 10)?;
-    let changed = changes(rt.alloc(), &held, posted(rt.alloc(), "b", 0, 8)?)?;
-    assert_eq!(rt; changed.as_str(), "5: 1 0 8 10 you;");
-    Ok(())
-}
-
-#[test]
-fn or_it_ends_and_another_begins(rt: HostRuntime) -> Result<(), Fail> {
-    let held = held(rt.alloc(), 0, 10)?;
-    let matchers = changes(rt.alloc(), &held, posted(rt.alloc(), "c", 0, 8)?)?;
-    assert_eq!(rt; matchers.as_str(), "5: 1 0 5 10 me;5: 9 5 8 8 you;");
-    let start = changes(rt.alloc(), &held, posted(rt.alloc(), "b", 6, 8)?)?;
-    assert_eq!(rt; start.as_str(), "5: 1 0 5 10 me;5: 9 6 8 8 you;");
-    Ok(())
-}
-
-#[test]
-fn a_pending_silence_may_start_at_the_moment(rt: HostRuntime) -> Result<(), Fail> {
-    let held = held(rt.alloc(), 7, 10)?;
-    let stays = changes(rt.alloc(), &held, posted(rt.alloc(), "b", 5, 12)?)?;
-    assert_eq!(rt; stays.as_str(), "5: 1 5 12 12 you;");
-    let ends = changes(rt.alloc(), &held, posted(rt.alloc(), "b", 4, 12)?)?;
-    assert_eq!(rt; ends.as_str(), "5: 1 5 5 10 me;5: 9 5 12 12 you;");
-    Ok(())
 }
 
 // What the deletion of silence 1 stores at minute 5.
@@ -90,20 +96,32 @@ fn deleted(alloc: Global, held: &Held) -> Result<String, Fail> {
     Ok(shown(alloc, &write)?)
 }
 
-#[test]
-fn a_deletion_expires(rt: HostRuntime) -> Result<(), Fail> {
-    let active = deleted(rt.alloc(), &held(rt.alloc(), 0, 10)?)?;
-    assert_eq!(rt; active.as_str(), "5: 1 0 5 10 me;");
-    let pending = deleted(rt.alloc(), &held(rt.alloc(), 7, 10)?)?;
-    assert_eq!(rt; pending.as_str(), "5: 1 5 5 10 me;");
-    Ok(())
+// What is done at minute 5 where silence 1 is held from one minute until another.
+fn done(alloc: Global, held_from: u8, post: Option<(&str, u8, u8)>) -> Result<String, Fail> {
+    let held = held(alloc, held_from, 10)?;
+    match post {
+        Some((value, from, until)) => changes(alloc, &held, posted(alloc, value, from, until)?),
+        None => deleted(alloc, &held),
+    }
 }
 
-// Why that deletion is refused.
-fn refusal(alloc: Global, held: &Held) -> Result<Option<Failure<SilenceRefusal>>, Fail> {
-    Ok(
-        SilenceBook::new(held)
-            .delete(alloc, &id(1), minute(5)?)
-            .err(),
-    )
+#[test]
+fn what_is_written(rt: HostRuntime) -> Result<(), Fail> {
+    for (held_from, post, expected) in [
+        // an active silence is changed in place
+        (0, Some(("b", 0, 8)), "5: 1 0 8 10 you;"),
+        // or it ends and another begins
+        (0, Some(("c", 0, 8)), "5: 1 0 5 10 me;5: 9 5 8 8 you;"),
+        (0, Some(("b", 6, 8)), "5: 1 0 5 10 me;5: 9 6 8 8 you;"),
+        // a pending silence may start at the moment
+        (7, Some(("b", 5, 12)), "5: 1 5 12 12 you;"),
+        (7, Some(("b", 4, 12)), "5: 1 5 5 10 me;5: 9 5 12 12 you;"),
+        // a deletion expires
+        (0, None, "5: 1 0 5 10 me;"),
+        (7, None, "5: 1 5 5 10 me;"),
+    ] {
+        let done = done(rt.alloc(), held_from, post)?;
+        assert_eq!(rt; done.as_str(), expected);
+    }
+    Ok(())
 }

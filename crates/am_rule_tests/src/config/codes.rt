@@ -44,8 +44,9 @@ const DOCUMENT: Frame = (
     "}",
 );
 
-// Each line has a frame, the code of the text, and the part within the frame, which is wrong in one way.
-const REFUSED: &str = r##"whole C1
+// Each line has a frame, the code of the text or the document, and the part within the frame.
+const TABLE: &str = r##"# wrong in one way
+whole C1
 whole C1 {"route":{"receiver":"a"},"receivers":[{"name":"a"}]
 whole C1 route: {receiver: a}
 top C1 "timeout":1e999
@@ -124,10 +125,9 @@ webhook C9 {"url":"http://127.0.0.1:0/"}
 webhook C9 {"url":"http://127.0.0.1:65536/"}
 webhook C9 {"url":"http://256.0.0.1/"}
 webhook C9 {"url":"http://example.com/"}
-webhook C9 {"url":"http://localhost/"},{"url":"http://127.0.0.1/#a"}"##;
-
-// As above. The part is wrong in two ways, and the first check that fails gives the code.
-const FIRST: &str = r##"top C1 "x":1e999
+webhook C9 {"url":"http://localhost/"},{"url":"http://127.0.0.1/#a"}
+# wrong in two ways: the first check that fails gives the code
+top C1 "x":1e999
 within C2 "x":1,"receiver":"c"
 within C2 "match":1,"x":1
 route C3 "receiver":"c","matchers":["a=b"]
@@ -137,10 +137,9 @@ route C4 "matchers":["a"],"routes":[{"match":1}]
 route C5 "group_interval":"0","match":{}
 within C5 "matchers":["a"],"routes":[{"group_interval":"0"}]
 within C6 "matchers":["a"],"match":{}
-webhook C6 {"url":"","timeout":1}"##;
-
-const ACCEPTED: &str =
-    r##"whole ok {"route":{"receiver":"default"},"receivers":[{"name":"default"}]}
+webhook C6 {"url":"","timeout":1}
+# right
+whole ok {"route":{"receiver":"default"},"receivers":[{"name":"default"}]}
 whole ok {"route":1,"route":{"receiver":""},"receivers":[{"name":""}]}
 top ok "templates":[],"template_files":{},"global":{}
 top ok "global":{"resolve_timeout":"0"}
@@ -151,21 +150,21 @@ within ok "group_wait":"100y","repeat_interval":"1h30m"
 receiver ok {"name":"A"},{"name":""}
 webhook ok {"url":"http://localhost"},{"url":"http://001.2.3.4:0080/a?b"}
 webhook ok {"url":"http://255.255.255.255:65535","max_alerts":18446744073709551615,"send_resolved":false}
-rule ok {},{"source_matchers":["a=b"],"target_matchers":["c!=d"],"equal":["zone"]}"##;
-
-const DOCUMENTS: &str = r##"whole C1
-whole C1 {"alertmanager_config":"{"}
-whole C1 {"alertmanager_config":"","x":1}
-whole C2 []
-whole C2 {}
-whole C2 {"alertmanager_config":null}
-whole C2 {"alertmanager_config":"{}"}
+rule ok {},{"source_matchers":["a=b"],"target_matchers":["c!=d"],"equal":["zone"]}
+# documents
+posted C1
+posted C1 {"alertmanager_config":"{"}
+posted C1 {"alertmanager_config":"","x":1}
+posted C2 []
+posted C2 {}
+posted C2 {"alertmanager_config":null}
+posted C2 {"alertmanager_config":"{}"}
 document C2 ,"x":1
 document C2 ,"template_files":[]
 document C6 ,"template_files":{"a":"b"}
 document C6 ,"timeout":"1s"
-whole C3 {"alertmanager_config":"{\"route\":{\"receiver\":\"b\"},\"receivers\":[]}","match":1}
-whole C7 {"alertmanager_config":"{\"route\":{\"receiver\":\"\",\"routes\":[{\"matchers\":[\"\"]}]},\"receivers\":[{\"name\":\"\"}]}"}
+posted C3 {"alertmanager_config":"{\"route\":{\"receiver\":\"b\"},\"receivers\":[]}","match":1}
+posted C7 {"alertmanager_config":"{\"route\":{\"receiver\":\"\",\"routes\":[{\"matchers\":[\"\"]}]},\"receivers\":[{\"name\":\"\"}]}"}
 document ok
 document ok ,"template_files":{}"##;
 
@@ -182,57 +181,35 @@ fn frame_named(name: &str) -> Frame {
     }
 }
 
-fn framed(alloc: Global, frame: Frame, part: &str) -> Result<String, AllocError> {
-    let (before, after) = frame;
-    let mut text = String::from_str(alloc, before)?;
-    text.push_str(part)?;
-    text.push_str(after)?;
-    Ok(text)
+// A part within its frame.
+fn framed(alloc: Global, name: &str, part: &str) -> Result<String, AllocError> {
+    let (before, after) = frame_named(name);
+    format!(in alloc; "{before}{part}{after}")
 }
 
-// Whether the text of a line, or its document, has the line's code.
-fn is_as_told(alloc: Global, is_document: bool, line: &str) -> Result<bool, AllocError> {
-    let (frame, rest) = line.split_once(' ').unwrap_or((line, ""));
-    let (want, part) = rest.split_once(' ').unwrap_or((rest, ""));
-    let text = framed(alloc, frame_named(frame), part)?;
-    if is_document {
-        return Ok(code_of(&read_document(alloc, text.as_str())) == want);
+// The code of a part within its frame.
+fn code_within(alloc: Global, name: &str, part: &str) -> Result<&'static str, AllocError> {
+    let text = framed(alloc, name, part)?;
+    if matches!(name, "posted" | "document") {
+        return Ok(code_of_document(alloc, text.as_str()));
     }
-    Ok(code_of_text(alloc, text.as_str()) == want)
+    Ok(code_of_text(alloc, text.as_str()))
 }
 
-// The lines of a table that have another code.
-fn otherwise(alloc: Global, is_document: bool, table: &str) -> Result<String, AllocError> {
-    let mut found = String::new(alloc);
-    for line in table.lines() {
-        if !is_as_told(alloc, is_document, line)? {
-            found.push_str(line)?;
-            found.push('\n')?;
-        }
+// Whether a line of the table has its code, or begins with `#`.
+fn is_as_told(alloc: Global, line: &str) -> Result<bool, AllocError> {
+    let (name, rest) = line.split_once(' ').unwrap_or((line, ""));
+    let (code, part) = rest.split_once(' ').unwrap_or((rest, ""));
+    if name == "#" {
+        return Ok(true);
     }
-    Ok(found)
+    Ok(code_within(alloc, name, part)? == code)
 }
 
 #[test]
-fn refused_texts(rt: HostRuntime) -> Result<(), Fail> {
-    assert_eq!(rt; otherwise(rt.alloc(), false, REFUSED)?.as_str(), "");
-    Ok(())
-}
-
-#[test]
-fn first_check_that_fails(rt: HostRuntime) -> Result<(), Fail> {
-    assert_eq!(rt; otherwise(rt.alloc(), false, FIRST)?.as_str(), "");
-    Ok(())
-}
-
-#[test]
-fn accepted_texts(rt: HostRuntime) -> Result<(), Fail> {
-    assert_eq!(rt; otherwise(rt.alloc(), false, ACCEPTED)?.as_str(), "");
-    Ok(())
-}
-
-#[test]
-fn documents(rt: HostRuntime) -> Result<(), Fail> {
-    assert_eq!(rt; otherwise(rt.alloc(), true, DOCUMENTS)?.as_str(), "");
+fn texts_and_documents(rt: HostRuntime) -> Result<(), Fail> {
+    for line in TABLE.lines() {
+        assert!(rt; is_as_told(rt.alloc(), line)?, "{line}");
+    }
     Ok(())
 }

@@ -38,31 +38,23 @@ fn is_greatest_as_told(alloc: Global, line: &str) -> Result<bool, AllocError> {
     Ok(text.len() > 131_000 && code_of_text(alloc, text.as_str()) == want)
 }
 
-#[test]
-fn the_greatest_texts_are_read(rt: HostRuntime) -> Result<(), Fail> {
-    for line in GREATEST_TEXTS.lines() {
-        assert!(rt; is_greatest_as_told(rt.alloc(), line)?, "{line}");
-    }
-    Ok(())
-}
-
-fn last_wait(config: &Config) -> Option<u64> {
+// What the last route waits of a text that is read.
+fn last_wait(read: Read) -> Option<u64> {
+    let config = read.ok()?;
     let node = config.routes().last()?;
     Some(node.item.settings.group_wait)
 }
 
-#[test]
-fn the_longest_duration_is_inherited(rt: HostRuntime) -> Result<(), Fail> {
+// What the last of many routes waits, where the root says it in the longest of durations.
+fn longest_wait(alloc: Global) -> Result<Option<u64>, AllocError> {
     let mut before = String::from_str(
-        rt.alloc(),
+        alloc,
         r#"{"receivers":[{"name":"a"}],"route":{"receiver":"a","routes":[{}"#,
     )?;
     add_times(&mut before, ",{}", 998)?;
     before.push_str(r#"],"group_wait":""#)?;
-    let text = greatest(rt.alloc(), before.as_str(), "0", r#"1s"}}"#)?;
-    let config = read_text(rt.alloc(), text.as_str())?;
-    assert_eq!(rt; last_wait(&config), Some(1000));
-    Ok(())
+    let text = greatest(alloc, before.as_str(), "0", r#"1s"}}"#)?;
+    Ok(last_wait(read_text(alloc, text.as_str())))
 }
 
 // The code of a text with so many receivers before the last, and so many routes that go to the last.
@@ -80,9 +72,18 @@ fn code_of_many(
 }
 
 #[test]
-fn the_most_names_are_found(rt: HostRuntime) -> Result<(), Fail> {
-    assert_eq!(rt; code_of_many(rt.alloc(), 8_000, 0)?, "C8");
-    assert_eq!(rt; code_of_many(rt.alloc(), 3_500, 3_500)?, "C8");
-    assert_eq!(rt; code_of_many(rt.alloc(), 999, 998)?, "ok");
+fn the_greatest_texts_are_read(rt: HostRuntime) -> Result<(), Fail> {
+    for line in GREATEST_TEXTS.lines() {
+        assert!(rt; is_greatest_as_told(rt.alloc(), line)?, "{line}");
+    }
+    Ok(())
+}
+
+#[test]
+fn many_parts_are_read(rt: HostRuntime) -> Result<(), Fail> {
+    for (receivers, routes, code) in [(8_000, 0, "C8"), (3_500, 3_500, "C8"), (999, 998, "ok")] {
+        assert_eq!(rt; code_of_many(rt.alloc(), receivers, routes)?, code);
+    }
+    assert_eq!(rt; longest_wait(rt.alloc())?, Some(1000));
     Ok(())
 }

@@ -2,7 +2,7 @@
 
 use super::*;
 use am_draft::Grouping;
-use am_text::Node;
+use am_text::{Node, Text};
 use std::test::Fail;
 
 const TREE: &str = r#"{
@@ -26,8 +26,9 @@ const TREE: &str = r#"{
 }"#;
 
 // The timeout; of each route in order the routes within it, its receiver, the route whose `group_by` holds, its
-// durations in milliseconds, `continue`, and how many matchers it has; of each receiver its name and webhooks; and of
-// each inhibit rule how many matchers take the source and the target, and the names of labels.
+// durations in milliseconds, `continue`, and how many matchers it has; of each route its receiver's name and the labels
+// that it groups by; of each receiver its name and webhooks; and of each inhibit rule how many matchers take the source
+// and the target, and the names of labels.
 const TREE_TOLD: &str = "420000
 6 1 None 1000 300000 14400000 false 0
 2 2 Some(1) 1000 2000 14400000 true 0
@@ -36,13 +37,33 @@ const TREE_TOLD: &str = "420000
 1 1 Some(4) 0 300000 14400000 false 0
 0 2 Some(4) 0 300000 14400000 false 3
 0 1 None 1000 300000 14400000 false 0
+r1 none
+ b a
+ b a
+r0
+r1 all
+ all
+r1 none
 r0
 r1 http://localhost true 3 http://127.0.0.1:9/b false 0
 
 3 1 z y
 ";
 
-const DEFAULT_TOLD: &str = "300000\n0 0 None 30000 300000 14400000 false 0\ndefault\n";
+const DEFAULT: &str = r#"{"route":{"receiver":"default"},"receivers":[{"name":"default"}]}"#;
+
+const DEFAULT_TOLD: &str = "300000
+0 0 None 30000 300000 14400000 false 0
+default none
+default
+";
+
+fn add_routes(alloc: Global, told: &mut String, config: &Config) -> Result<(), AllocError> {
+    for node in config.routes() {
+        add_route(alloc, told, node)?;
+    }
+    Ok(())
+}
 
 fn add_route(alloc: Global, told: &mut String, node: &Node<Route>) -> Result<(), AllocError> {
     let settings = node.item.settings;
@@ -56,6 +77,38 @@ fn add_route(alloc: Global, told: &mut String, node: &Node<Route>) -> Result<(),
     told.push_str(spans.as_str())
 }
 
+fn add_names(told: &mut String, config: &Config) -> Result<(), AllocError> {
+    for number in 0..config.routes().len() {
+        told.push_str(config.receiver_of(number).name.as_str())?;
+        add_grouping(told, config.grouping_of(number))?;
+    }
+    Ok(())
+}
+
+fn add_grouping(told: &mut String, grouping: Option<&Grouping>) -> Result<(), AllocError> {
+    match grouping {
+        None => told.push_str(" none\n"),
+        Some(Grouping::All) => told.push_str(" all\n"),
+        Some(Grouping::Names(names)) => add_texts(told, names.as_slice()),
+    }
+}
+
+// Adds texts with a space before each, and the end of the line.
+fn add_texts(told: &mut String, texts: &[Text]) -> Result<(), AllocError> {
+    for text in texts {
+        told.push(' ')?;
+        told.push_str(text.as_str())?;
+    }
+    told.push('\n')
+}
+
+fn add_receivers(alloc: Global, told: &mut String, config: &Config) -> Result<(), AllocError> {
+    for receiver in config.receivers() {
+        add_receiver(alloc, told, receiver)?;
+    }
+    Ok(())
+}
+
 fn add_receiver(alloc: Global, told: &mut String, receiver: &Receiver) -> Result<(), AllocError> {
     told.push_str(receiver.name.as_str())?;
     for webhook in receiver.webhooks.as_slice() {
@@ -67,34 +120,12 @@ fn add_receiver(alloc: Global, told: &mut String, receiver: &Receiver) -> Result
     told.push('\n')
 }
 
-fn add_rule(alloc: Global, told: &mut String, rule: &Rule) -> Result<(), AllocError> {
-    let (source, target) = (rule.source.as_slice().len(), rule.target.as_slice().len());
-    let line = format!(in alloc; "{source} {target}")?;
-    told.push_str(line.as_str())?;
-    for name in rule.equal.as_slice() {
-        told.push(' ')?;
-        told.push_str(name.as_str())?;
-    }
-    told.push('\n')
-}
-
-fn add_routes(alloc: Global, told: &mut String, config: &Config) -> Result<(), AllocError> {
-    for node in config.routes() {
-        add_route(alloc, told, node)?;
-    }
-    Ok(())
-}
-
-fn add_receivers(alloc: Global, told: &mut String, config: &Config) -> Result<(), AllocError> {
-    for receiver in config.receivers() {
-        add_receiver(alloc, told, receiver)?;
-    }
-    Ok(())
-}
-
 fn add_rules(alloc: Global, told: &mut String, config: &Config) -> Result<(), AllocError> {
     for rule in config.rules() {
-        add_rule(alloc, told, rule)?;
+        let (source, target) = (rule.source.as_slice().len(), rule.target.as_slice().len());
+        let line = format!(in alloc; "{source} {target}")?;
+        told.push_str(line.as_str())?;
+        add_texts(told, rule.equal.as_slice())?;
     }
     Ok(())
 }
@@ -102,73 +133,39 @@ fn add_rules(alloc: Global, told: &mut String, config: &Config) -> Result<(), Al
 fn told(alloc: Global, config: &Config) -> Result<String, AllocError> {
     let timeout = config.resolve_timeout();
     let mut told = format!(in alloc; "{timeout}\n")?;
-    add_routes(alloc, &mut told, config)?;
-    add_receivers(alloc, &mut told, config)?;
-    add_rules(alloc, &mut told, config)?;
+    add_parts(alloc, &mut told, config)?;
     Ok(told)
+}
+
+fn add_parts(alloc: Global, told: &mut String, config: &Config) -> Result<(), AllocError> {
+    add_routes(alloc, told, config)?;
+    add_names(told, config)?;
+    add_receivers(alloc, told, config)?;
+    add_rules(alloc, told, config)
+}
+
+// What a configuration tells that was read of this text.
+fn told_of(alloc: Global, text: &str, read: Read) -> Result<String, AllocError> {
+    match read {
+        Ok(config) if config.text() == text => told(alloc, &config),
+        _ => String::from_str(alloc, "no configuration of this text"),
+    }
 }
 
 #[test]
 fn everything_told(rt: HostRuntime) -> Result<(), Fail> {
-    let config = read_text(rt.alloc(), TREE)?;
-    assert_eq!(rt; config.text(), TREE);
-    assert_eq!(rt; told(rt.alloc(), &config)?.as_str(), TREE_TOLD);
-    Ok(())
-}
-
-#[test]
-fn everything_told_again(rt: HostRuntime) -> Result<(), Fail> {
-    let config = reread(rt.alloc(), TREE)?;
-    assert_eq!(rt; config.text(), TREE);
-    assert_eq!(rt; told(rt.alloc(), &config)?.as_str(), TREE_TOLD);
-    Ok(())
-}
-
-// Of each route its receiver, and the labels that it groups by.
-const TREE_GROUPED: &str = "r1 none\n b a\n b a\nr0\nr1 all\n all\nr1 none\n";
-
-fn add_grouping(told: &mut String, grouping: Option<&Grouping>) -> Result<(), AllocError> {
-    match grouping {
-        None => told.push_str(" none\n"),
-        Some(Grouping::All) => told.push_str(" all\n"),
-        Some(Grouping::Names(names)) => {
-            for name in names.as_slice() {
-                told.push(' ')?;
-                told.push_str(name.as_str())?;
-            }
-            told.push('\n')
-        }
+    let alloc = rt.alloc();
+    for (text, expected) in [(TREE, TREE_TOLD), (DEFAULT, DEFAULT_TOLD)] {
+        let first = told_of(alloc, text, read_text(alloc, text))?;
+        assert_eq!(rt; first.as_str(), expected);
+        let again = told_of(alloc, text, reread(alloc, text))?;
+        assert_eq!(rt; again.as_str(), expected);
     }
-}
-
-#[test]
-fn routes_by_number(rt: HostRuntime) -> Result<(), Fail> {
-    let config = read_text(rt.alloc(), TREE)?;
-    let mut told = String::new(rt.alloc());
-    for number in 0..config.routes().len() {
-        told.push_str(config.receiver_of(number).name.as_str())?;
-        add_grouping(&mut told, config.grouping_of(number))?;
-    }
-    assert_eq!(rt; told.as_str(), TREE_GROUPED);
+    let default = told_of(alloc, DEFAULT, default_read(alloc))?;
+    assert_eq!(rt; default.as_str(), DEFAULT_TOLD);
     Ok(())
 }
 
-#[test]
-fn default_configuration(rt: HostRuntime) -> Result<(), Fail> {
-    let config = Config::default_config(rt.alloc())?;
-    assert_eq!(rt;
-        config.text(),
-        r#"{"route":{"receiver":"default"},"receivers":[{"name":"default"}]}"#
-    );
-    assert_eq!(rt; told(rt.alloc(), &config)?.as_str(), DEFAULT_TOLD);
-    Ok(())
-}
-
-#[test]
-fn default_text(rt: HostRuntime) -> Result<(), Fail> {
-    let text = r#"{"route":{"receiver":"default"},"receivers":[{"name":"default"}]}"#;
-    let config = read_text(rt.alloc(), text)?;
-    assert_eq!(rt; config.text(), text);
-    assert_eq!(rt; told(rt.alloc(), &config)?.as_str(), DEFAULT_TOLD);
-    Ok(())
+fn default_read(alloc: Global) -> Read {
+    Ok(Config::default_config(alloc)?)
 }

@@ -1,5 +1,7 @@
+use Rattle.std.proofs.Common.{rules}
 use Rattle.sqlite.specs.Held.{state}
-use Rattle.am_store.proofs.Calls.{took_out_config, was_inside}
+use Rattle.am_store.proofs.Calls.{config_sound, took_out_config, was_inside}
+use Rattle.am_store.proofs.Dropped.{config_excused}
 use Rattle.am_store.proofs.config.take_out.Goals as goal
 
 pub returns-clause-ok : goal.returns-clause-ok
@@ -11,3 +13,16 @@ returns-clause-ok g c clean store =
 
 pub returns-clause-inside : goal.returns-clause-inside
 returns-clause-inside g c clean = λ was. (c.in_ok-execute.ensures.runs clean was).1.mode
+
+pub returns-clause-sound : goal.returns-clause-sound
+returns-clause-sound g c clean ready =
+    let old = state g.S.Store c.args.tx.now.conn.now in
+    let new = state g.S.Store c.execute.new.self.conn.now in
+    config_sound old new c.in_ok-execute.field-0 c.args.tenant.now ready.store (rw c.named.ensures.bound at (c.in_ok-execute.ensures.runs clean ready.inside).0)
+
+pub returns-in_err-execute-clause-fails : goal.returns-in_err-execute-clause-fails
+returns-in_err-execute-clause-fails g c clean ready =
+    let old = state g.S.Store c.args.tx.now.conn.now in
+    let new = state g.S.Store c.execute.new.self.conn.now in
+    let excused = config_excused old new ready.store.schema ready.sound c.args.tenant.now _ (rw c.named.ensures.bound at (c.in_err-execute.ensures.runs clean ready.inside)) in
+    search rules

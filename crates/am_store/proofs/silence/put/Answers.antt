@@ -2,6 +2,7 @@ use Rattle.std.proofs.Common.{◌≡◌, [], ◌∷◌, true, false, sym, ap, su
 use Rattle.std.specs.List.{list_any}
 use Rattle.std.proofs.lemmas.Result.{on_ok_weaker}
 use Rattle.sqlite.specs.declared.types.Value.TheVariants.{Text}
+use Rattle.sqlite.proofs.InsideLemmas.{keeps_then}
 use Rattle.sqlite.specs.Held.{state}
 use Rattle.am_store.specs.Reading.{reached}
 use Rattle.am_store.specs.Rows.{IsStore, id_text}
@@ -53,3 +54,11 @@ returns-clause-inside g c clean store =
     let clean_mid = clean_before mid new _ c.put_in.ensures.survives clean in
     let clean_read = clean_before read mid _ c.take_out.ensures.survives clean_mid in
     on_ok_weaker c.put_in.result (λ go was. go (c.in_ok-take_out.ensures.inside clean_mid (c.in_ok-rows.ensures.inside clean_read store was))) (c.put_in.ensures.inside clean)
+
+pub returns-in_err-take_out-clause-kept : goal.returns-in_err-take_out-clause-kept
+returns-in_err-take_out-clause-kept g c clean store =
+    let old = state g.S.Store c.args.tx.now.conn.now in
+    let read = state g.S.Store c.stamps.new.tx.conn.now in
+    let mid = state g.S.Store c.take_out.new.tx.conn.now in
+    let clean_read = clean_before read mid _ c.take_out.ensures.survives clean in
+    keeps_then old read mid (c.stamps.ensures.kept clean_read store) (c.take_out.ensures.kept clean)

@@ -1,3 +1,5 @@
+use Rattle.std.proofs.Common.{rules}
+use Rattle.am_store.proofs.Dropped.{silence_excused}
 use Rattle.sqlite.specs.Held.{state}
 use Rattle.am_store.proofs.Calls.{took_out_silence, was_inside}
 use Rattle.am_store.proofs.silence.take_out.Goals as goal
@@ -11,3 +13,10 @@ returns-clause-ok g c clean store =
 
 pub returns-clause-inside : goal.returns-clause-inside
 returns-clause-inside g c clean = λ was. (c.in_ok-execute.ensures.runs clean was).1.mode
+
+pub returns-in_err-execute-clause-fails : goal.returns-in_err-execute-clause-fails
+returns-in_err-execute-clause-fails g c clean ready =
+    let old = state g.S.Store c.args.tx.now.conn.now in
+    let new = state g.S.Store c.execute.new.self.conn.now in
+    let excused = silence_excused old new ready.store.schema ready.sound c.args.tenant.now c.args.id.now _ (rw c.keyed.ensures at (c.in_err-execute.ensures.runs clean ready.inside)) in
+    search rules

@@ -1,9 +1,11 @@
-use Rattle.std.proofs.Common.{subst, sym}
+use Rattle.std.proofs.Common.{rules, subst, sym}
 use Rattle.sqlite.specs.Held.{state}
 use Rattle.am_store.specs.Rows.{IsStore}
 use Rattle.am_store.specs.Texts.{select_config_tenants, select_silence_tenants}
+use Rattle.am_store.proofs.Asked.{asks_config_tenants, asks_silence_tenants}
 use Rattle.am_store.proofs.Calls.{at_store}
 use Rattle.am_store.proofs.CompiledOpening.{select_config_tenants_plain, select_silence_tenants_plain}
+use Rattle.am_store.proofs.Failing.{caused_then}
 use Rattle.am_store.proofs.Named.{both_named, configs_all_named, configs_named, silences_all_named, silences_named}
 use Rattle.am_store.proofs.Resting.{rests_then}
 use Rattle.am_store.proofs.tenants.named.Goals as goal
@@ -55,3 +57,18 @@ returns-clause-named g c clean store =
       configs_all_named old mid store c.in_ok-configs.configs.items shown,
       silences_all_named mid new (subst IsStore (sym same_db) store) c.in_ok-silences.silences.items (c.in_ok-silences.ensures.shown clean),
     )
+
+pub returns-in_err-configs-clause-fails : goal.returns-in_err-configs-clause-fails
+returns-in_err-configs-clause-fails g c clean store =
+    let caused = c.in_err-configs.ensures.fails clean store.schema asks_config_tenants in
+    search rules
+
+pub returns-in_err-silences-clause-fails : goal.returns-in_err-silences-clause-fails
+returns-in_err-silences-clause-fails g c clean store =
+    let old = state g.S.Store c.args.conn.now in
+    let mid = state g.S.Store c.rows.new.conn in
+    let new = state g.S.Store c.rows-2.new.conn in
+    let same = (configs_named old mid store c.in_ok-configs.configs.items (c.in_ok-configs.ensures.shown (c.rows-2.ensures.clean clean))).0 in
+    let read = c.in_err-silences.ensures.fails clean (subst IsStore (sym same.0.now_is) store).schema asks_silence_tenants in
+    let caused = caused_then old mid new _ same (c.rows.ensures.rests (λ _. at_store old old store select_config_tenants select_config_tenants_plain)).survives _ read in
+    search rules

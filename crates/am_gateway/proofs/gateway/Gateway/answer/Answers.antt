@@ -1,0 +1,50 @@
+use Rattle.std.proofs.Common.{◌∙◌, ap, inr, sym}
+use Rattle.am_gateway.proofs.HearingLemmas.{handles, lets_before, replies_still}
+use Rattle.am_gateway.proofs.gateway.Gateway.answer.Goals as goal
+
+pub returns-in-Err-clause-err : goal.returns-in-Err-clause-err
+returns-in-Err-clause-err c = record {
+  reached = inr (_, handles _ _ _ _ c.step.ensures.step c.sort.ensures.forgets, c.in-Err.ensures.err);
+  is_tick_due = c.sort.ensures.is_tick_due;
+  under_way = c.sort.ensures.under_way;
+  same = record {
+    instance = c.sort.ensures.same.instance;
+    moment = c.sort.ensures.same.moment;
+    ready = c.sort.ensures.same.ready;
+  };
+}
+
+pub returns-in-Ok-None-clause-verdict : goal.returns-in-Ok-None-clause-verdict
+returns-in-Ok-None-clause-verdict c = (
+  record {
+    outs = _;
+    handles = handles _ _ _ _ c.step.ensures.step c.sort.ensures.forgets;
+    reply_is = sym (sym c.in-Ok-None.field-0-is ∙ c.in-Ok-None.ensures.reply);
+    queues = c.in-Ok-None.ensures.queued;
+    under_way = c.sort.ensures.under_way;
+    same = record {
+      instance = c.sort.ensures.same.instance;
+      moment = c.sort.ensures.same.moment;
+      ready = c.sort.ensures.same.ready;
+    };
+  },
+  c.sort.ensures.is_tick_due,
+)
+
+pub returns-in-Ok-Some-clause-verdict : goal.returns-in-Ok-Some-clause-verdict
+returns-in-Ok-Some-clause-verdict c = rw c.into_vec.ensures (
+  replies_still _ _ _ c.args.self.now c.sort.new.self c.note.new.self c.note.ensures.rest (record {
+    outs = _;
+    handles = handles _ _ _ _ c.step.ensures.step c.sort.ensures.forgets;
+    reply_is = sym (sym c.in-Ok-Some.field-0-is ∙ c.in-Ok-Some.ensures.reply);
+    queues = c.in-Ok-Some.ensures.queued;
+    under_way = c.sort.ensures.under_way;
+    same = record {
+      instance = c.sort.ensures.same.instance;
+      moment = c.sort.ensures.same.moment;
+      ready = c.sort.ensures.same.ready;
+    };
+  }),
+  lets_before c.args.self.now c.sort.new.self c.note.new.self _ c.sort.ensures.is_tick_due c.sort.ensures.same.ready
+      c.note.ensures.is_tick_due,
+)

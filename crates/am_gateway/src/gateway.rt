@@ -1,0 +1,242 @@
+//! What stands between a server and its world.
+ghost use Rattle.std.specs.Prelude.{◌≡◌, ◌↔◌, ℕ, List, [], None, Some, false, true, min, IfOk, IfSome, IfNone, IsOk, IsTrue, OnErr, OnOk};
+ghost use Rattle.am_http.specs.Replies.{ready_reply as the_ready_reply};
+ghost use Rattle.am_serve.specs.Lanes.{is_ready, under_way_of, waiting_of};
+ghost use Rattle.am_world.specs.Moments.{last_moment};
+ghost use Rattle.am_world.specs.Places.{cause_at};
+ghost use Rattle.am_world.specs.Runs.{Forgets};
+ghost use Rattle.am_world.specs.Simulation.{put_out};
+ghost use Rattle.am_world.specs.declared.event.Event.TheVariants as event;
+
+use crate::sorting::sort;
+use am_http::{ConnectionId, ready_reply};
+use am_serve::{Host, Lanes, Verdict};
+use am_server::{Notice, Service};
+use am_text::Octets;
+use am_world::{AttemptName, Event, LAST_MOMENT, World};
+use std::alloc::{AllocError, Global};
+
+/// A try that went out of the world, of which no outcome came yet.
+#[derive(Debug, Drop)]
+pub struct Try {
+    /// The attempt.
+    pub attempt: AttemptName,
+    /// Which try of the attempt it is, 1 to 5.
+    pub tries: u8,
+}
+
+/// A world, with the notices that it put out and whose calls weren't begun yet.
+#[derive(Drop)]
+pub struct Gateway<'w> {
+    alloc: Global,
+    world: &'w mut World,
+    // The instance that all connections are opened to.
+    instance: u8,
+    // The moment of what happens now, in milliseconds since 1970.
+    moment: u64,
+    // The reply to `GET /ready`, after which the clock is told.
+    ready: Octets,
+    is_tick_due: bool,
+    notices: Lanes<Notice<Try>>,
+}
+
+impl<'w> Gateway<'w> {
+    ghost use Rattle.am_gateway.specs.Gateway.{IsSameGateway, IsVerdictOn, LetsTick, LosesEvent, SameUnderWay, TakesPiece, TellsWorld, piece_event};
+    ghost use Rattle.am_gateway.specs.Sorting.{Queues, QueuesSome, reply_on};
+
+    /// A gateway to a world that was just opened, whose connections are all opened to one instance.
+    ///
+    /// # Errors
+    /// Out of memory.
+    pub fn new(alloc: Global, world: &'w mut World, instance: u8) -> Result<Gateway<'w>, AllocError>
+        ensures world { IfOk result (λ gateway. gateway.world.now ≡ world.old) }
+        ensures instance { IfOk result (λ gateway. gateway.instance ≡ instance) }
+        ensures moment { IfOk result (λ gateway. gateway.moment ≡ 0) }
+        ensures ready { IfOk result (λ gateway. gateway.ready ≡ the_ready_reply) }
+        ensures is_tick_due { IfOk result (λ gateway. gateway.is_tick_due ≡ false) }
+        ensures waiting { IfOk result (λ gateway. (t : List ℕ) → waiting_of t gateway.notices.lanes ≡ []) }
+        ensures under_way { IfOk result (λ gateway. (t : List ℕ) → under_way_of t gateway.notices.lanes ≡ 0) }
+    {
+        let ready = ready_reply(alloc)?;
+        Ok(Gateway {
+            alloc,
+            world,
+            instance,
+            moment: 0,
+            ready,
+            is_tick_due: false,
+            notices: Lanes::new(alloc),
+        })
+    }
+
+    // Takes away what the world has put out: its notices wait behind those of their tenants, and the first reply on a
+    // connection is given, where one is named. A reply on another is dropped: the world puts none out yet. Out of memory: the
+    // reply is lost, and of the notices all but a first part.
+    fn sort(&mut self, connection: Option<u64>) -> Result<Option<Octets>, AllocError>
+        ensures reply { IfOk result (λ reply. reply ≡ reply_on connection (put_out self.old.world.now)) }
+        ensures queued { OnOk result (Queues self.old.notices.lanes (put_out self.old.world.now) self.new.notices.lanes) }
+        ensures err { OnErr result (QueuesSome self.old.notices.lanes (put_out self.old.world.now) self.new.notices.lanes) }
+        ensures forgets { Forgets self.old.world.now self.new.world.now }
+        ensures is_tick_due { self.new.is_tick_due ≡ self.old.is_tick_due }
+        ensures under_way { SameUnderWay self.old self.new }
+        ensures same { IsSameGateway self.old self.new }
+    {
+        let outputs = self.world.take_outputs(self.alloc);
+        sort(&mut self.notices, outputs, connection)
+    }
+
+    // Hands the world an event of no connection.
+    fn tell(&mut self, event: &Event) -> Result<(), AllocError>
+        ensures told { TellsWorld result event.now self.old self.new }
+        ensures is_tick_due { self.new.is_tick_due ≡ self.old.is_tick_due }
+        ensures under_way { SameUnderWay self.old self.new }
+        ensures same { IsSameGateway self.old self.new }
+    {
+        let _ = self.world.step(self.alloc, event);
+        match self.sort(None) {
+            Ok(_) => Ok(()),
+            Err(error) => Err(error),
+        }
+    }
+
+    // What the world makes of a piece of a connection.
+    fn take_piece(&mut self, connection: ConnectionId, piece: &[u8]) -> Result<Verdict, AllocError>
+        ensures takes { IfOk result (λ verdict. TakesPiece self.old connection piece.now verdict self.new) }
+        ensures err { OnErr result (LosesEvent (piece_event self.old connection piece.now) self.old self.new) }
+    {
+        let event = Event::Bytes {
+            connection,
+            moment: self.moment,
+            piece: Octets::read(self.alloc, piece)?,
+        };
+        self.answer(connection.number(), &event)
+    }
+
+    // What the world makes of an event of a connection.
+    fn answer(&mut self, connection: u64, event: &Event) -> Result<Verdict, AllocError>
+        ensures verdict { IfOk result (λ verdict. IsVerdictOn connection event.now self.old verdict self.new) }
+        ensures err { OnErr result (LosesEvent event.now self.old self.new) }
+    {
+        if self.world.step(self.alloc, event).is_err() {
+            return Ok(Verdict::Gone);
+        }
+        match self.sort(Some(connection)) {
+            Ok(Some(reply)) => {
+                self.note(&reply);
+                Ok(Verdict::Reply(reply.into_vec()))
+            }
+            Ok(None) => Ok(Verdict::Undecided),
+            Err(error) => Err(error),
+        }
+    }
+
+    // A reply to `GET /ready` lets the clock be told.
+    fn note(&mut self, reply: &Octets)
+        ensures is_tick_due { LetsTick self.old reply.now self.new }
+        ensures rest { self.new ≡ record self.old { is_tick_due = self.new.is_tick_due } }
+    {
+        if *reply == self.ready {
+            self.is_tick_due = true;
+        }
+    }
+}
+
+impl Host for Gateway<'_> {
+    ghost use Rattle.am_gateway.specs.Gateway.{ClosesConnection, OpensConnection, TakesPiece};
+
+    ghost opens = { OpensConnection };
+
+    ghost takes = { TakesPiece };
+
+    ghost closes = { ClosesConnection };
+
+    fn open(&mut self, connection: u64) -> bool {
+        let event = Event::Open {
+            connection: ConnectionId::new(connection),
+            instance: self.instance,
+        };
+        self.world.step(self.alloc, &event).is_ok()
+    }
+
+    // Where memory is refused, the connection is let go.
+    fn take(&mut self, connection: u64, piece: &[u8]) -> Verdict {
+        match self.take_piece(ConnectionId::new(connection), piece) {
+            Ok(verdict) => verdict,
+            Err(AllocError) => {
+                self.close(connection);
+                Verdict::Gone
+            }
+        }
+    }
+
+    fn close(&mut self, connection: u64) {
+        let event = Event::Close {
+            connection: ConnectionId::new(connection),
+        };
+        let _ = self.world.step(self.alloc, &event);
+    }
+}
+
+impl Service for Gateway<'_> {
+    ghost use Rattle.am_gateway.specs.Gateway.{BeginsCall, EndsCall, IsSameGateway, SameUnderWay, TellsWorld};
+
+    type Name = Try;
+
+    fn is_up(&self) -> bool
+        ensures { IsTrue result ↔ (cause_at self.now.instance self.now.world.now.instances ≡ None) }
+    {
+        self.world.cause(self.instance).is_none()
+    }
+
+    // The world takes no later moment than its last.
+    fn set_moment(&mut self, moment: u64)
+        ensures { self.new ≡ record self.old { moment = min moment last_moment } }
+    {
+        self.moment = moment.min(LAST_MOMENT);
+    }
+
+    // The world is told the moment where `GET /ready` was answered since it was last told.
+    fn tick(&mut self) -> Result<(), AllocError>
+        ensures not_due { self.old.is_tick_due ≡ false → IsOk result × (self.new ≡ self.old) }
+        ensures told { self.old.is_tick_due ≡ true → TellsWorld result (event.Tick self.old.moment) self.old self.new }
+        ensures is_tick_due { self.new.is_tick_due ≡ false }
+        ensures under_way { SameUnderWay self.old self.new }
+        ensures same { IsSameGateway self.old self.new }
+    {
+        if !self.is_tick_due {
+            return Ok(());
+        }
+        self.is_tick_due = false;
+        let event = Event::Tick {
+            moment: self.moment,
+        };
+        self.tell(&event)
+    }
+
+    // Tenants take turns.
+    fn next_notice(&mut self, free: usize) -> Option<Notice<Try>>
+        ensures begins { IfSome result (λ notice. BeginsCall free notice self.old self.new) }
+        ensures none { IfNone result ((t : List ℕ) → is_ready free t self.old.notices.lanes ≡ false) }
+        ensures stays { IfNone result (self.new ≡ self.old) }
+        ensures rest { self.new ≡ record self.old { notices = self.new.notices } }
+    {
+        let (_, notice) = self.notices.pop(free)?;
+        Some(notice)
+    }
+
+    fn end_call(&mut self, name: Try, status: Option<u16>) -> Result<(), AllocError>
+        ensures told { TellsWorld result (event.Outcome name.attempt name.tries self.old.moment status) self.old self.new }
+        ensures under_way { EndsCall name.attempt.tenant self.old self.new }
+        ensures is_tick_due { self.new.is_tick_due ≡ self.old.is_tick_due }
+        ensures same { IsSameGateway self.old self.new }
+    {
+        self.notices.end(&name.attempt.tenant);
+        let event = Event::Outcome {
+            attempt: name.attempt,
+            tries: name.tries,
+            moment: self.moment,
+            status,
+        };
+        self.tell(&event)
+    }
+}

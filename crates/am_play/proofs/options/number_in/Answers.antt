@@ -1,0 +1,22 @@
+use Rattle.std.proofs.Common.{rules, ◌≡◌, ◌∙◌, sym, None, Some}
+use Rattle.clap.specs.Words.{first_of, found_of, rows_of}
+use Rattle.clap.proofs.WalkLemmas.{first_value-rows}
+use Rattle.am_play.proofs.options.number_in.Goals as goal
+
+pub returns-in_err-get_str : goal.returns-in_err-get_str
+returns-in_err-get_str c =
+    let said : first_of c.args.name.now (rows_of (found_of c.args.matches.now)) ≡ None =
+    sym (first_value-rows (found_of c.args.matches.now) c.args.name.now) ∙ search rules in
+    rw said (search rules)
+
+pub returns-in_err-number : goal.returns-in_err-number
+returns-in_err-number c =
+    let said : first_of c.args.name.now (rows_of (found_of c.args.matches.now)) ≡ Some c.in_ok-get_str.field-0.now =
+    sym (first_value-rows (found_of c.args.matches.now) c.args.name.now) ∙ search rules in
+    rw said (search rules)
+
+pub returns : goal.returns
+returns c =
+    let said : first_of c.args.name.now (rows_of (found_of c.args.matches.now)) ≡ Some c.in_ok-get_str.field-0.now =
+    sym (first_value-rows (found_of c.args.matches.now) c.args.name.now) ∙ search rules in
+    rw said (search rules)

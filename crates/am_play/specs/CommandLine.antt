@@ -1,0 +1,124 @@
+-- The command lines that the program takes, as clap describes a command, and what they ask for.
+use Rattle.std.specs.Prelude.{◌≡◌, ◌≢◌, ◌⊎◌, ℕ, ◌&&◌, nat_le, if◌then◌else◌, true, List, [], ◌∷◌, Option, None, Some, option_and_then, option_map, codes, replicate, ◌-◌, ◌^◌}
+use Rattle.std.specs.Str.{bytes_eq}
+use Rattle.std.specs.Result.{result_ok}
+use Rattle.am_world.specs.Setup.{Settings}
+use Rattle.clap.specs.Words.{App, Row, Rule, Text, IsAmong, fault_of, first_of, new_app, new_rule, subcommand_of, with_rule, with_subcommand}
+use Rattle.clap.specs.Kinds.{Kinds}
+use Rattle.clap.specs.declared.error.kind.ErrorKind.{ErrorKind}
+use Rattle.clap.specs.declared.error.kind.ErrorKind.TheVariants.{DisplayHelp, DisplayVersion, OutOfMemory}
+use Rattle.hex.specs.Hex.{decode_sized}
+use Rattle.am_play.specs.Line.{◌>>=◌}
+use Rattle.am_play.specs.Number.{number_of}
+use Rattle.am_play.specs.declared.options.CommandLine.{CommandLine}
+use Rattle.am_play.specs.declared.options.Serving.{Serving}
+use Rattle.am_play.specs.declared.options.CommandLine.TheVariants.{Run, Serve, Help, Bad}
+
+-- the option `--NAME VALUE`, which may be absent
+abbrev pub option : Text → Rule
+option name = record (new_rule name) { long = Some name; value_names = 1 }
+
+-- .. and the value that an absent one has
+abbrev pub option_or : Text → Text → Rule
+option_or name value = record (new_rule name) {
+  long = Some name;
+  value_names = 1;
+  defaults = value ∷ [];
+}
+
+-- `amring`, which has a version and wants a subcommand
+abbrev pub top : App
+top = record (new_app (codes "amring")) {
+  top = record (new_app (codes "amring")).top { subcommand_required = true; has_version = true };
+}
+
+-- a subcommand with the options of all of them
+abbrev pub app_named : Text → App
+app_named name = with_rule (with_rule (new_app name) (option_or (codes "cache") (codes "512"))) (option (codes "key"))
+
+abbrev pub serve : App
+serve = with_rule (with_rule (app_named (codes "serve")) (option (codes "port"))) (option (codes "count"))
+
+-- `amring run` and `amring serve`
+abbrev pub command_line : App
+command_line = with_subcommand (with_subcommand top (app_named (codes "run")).top) serve.top
+
+-- the kinds of what is wrong with the words; none where clap takes them
+abbrev pub kinds : List Text → Kinds
+kinds words = fault_of command_line words
+
+-- the number that the option of this name says, where it is one from the least to the most
+abbrev pub number_in : Text → ℕ → ℕ → List Row → Option ℕ
+number_in name least most rows = do
+  text ← first_of name rows
+  number ← number_of text
+  if nat_le least number && nat_le number most then Some number else None
+
+-- the 32 bytes that 64 hexadecimal digits say
+abbrev pub key_of : Text → Option (List ℕ)
+key_of digits = result_ok (decode_sized digits 32)
+
+-- .. which are zeros where there are no digits
+abbrev pub key_or_zeros : Option Text → Option (List ℕ)
+key_or_zeros None = Some (replicate 32 0)
+key_or_zeros (Some digits) = key_of digits
+
+-- the service key that the options say
+abbrev pub key_in : List Row → Option (List ℕ)
+key_in rows = key_or_zeros (first_of (codes "key") rows)
+
+-- the settings that the options say: so many cached patterns, the service key, the ring of 1, 2 and 3, and the first
+-- incarnation 1
+abbrev pub settings_in : List Row → Option Settings
+settings_in rows = do
+  cache ← number_in (codes "cache") 1 65536 rows
+  key ← key_in rows
+  Some (record {
+    origin = record { service_key = key; ring = 1 ∷ 2 ∷ 3 ∷ []; first = 1 };
+    cache = cache;
+  })
+
+-- the number of connections that the options say; none where the option is absent
+abbrev pub count_or_none : Option Text → List Row → Option (Option ℕ)
+count_or_none None rows = Some None
+count_or_none (Some text) rows = option_map Some (number_in (codes "count") 1 (2 ^ 64 - 1) rows)
+
+abbrev pub count_in : List Row → Option (Option ℕ)
+count_in rows = count_or_none (first_of (codes "count") rows) rows
+
+-- how the options say to serve: by these settings, on a port, so many connections
+abbrev pub serving_in : List Row → Option Serving
+serving_in rows = do
+  setup ← settings_in rows
+  port ← number_in (codes "port") 1 65535 rows
+  count ← count_in rows
+  Some (record { setup = setup; port = port; count = count })
+
+-- what a subcommand with these options asks for
+abbrev pub asked_by : Text × List Row → Option CommandLine
+asked_by sub =
+    if bytes_eq sub.0 (codes "serve") then option_map Serve (serving_in sub.1) else option_map Run (settings_in sub.1)
+
+-- .. the one that was entered
+abbrev pub asked_of : Option (Text × List Row) → Option CommandLine
+asked_of entered = option_and_then asked_by entered
+
+-- a kind that says what is wrong with the words
+abbrev pub IsMistake : ErrorKind → Type 0
+IsMistake kind = (kind ≢ DisplayHelp) × (kind ≢ DisplayVersion) × (kind ≢ OutOfMemory)
+
+-- what an error of this kind tells
+abbrev pub Tells : ErrorKind → CommandLine → Type 0
+Tells kind (Run setup) = ⊥
+Tells kind (Serve serving) = ⊥
+Tells kind (Help text) = (kind ≡ DisplayHelp) ⊎ (kind ≡ DisplayVersion)
+Tells kind (Bad text) = IsMistake kind
+
+-- what a command line asks for: its words are the program's own and say settings; or they ask for the help or the
+-- version; or something is wrong with a word, or an option says nothing that it takes
+abbrev pub Asks : List Text → CommandLine → Type 0
+Asks words (Run setup) = (kinds words ≡ []) × (asked_of (subcommand_of command_line words) ≡ Some (Run setup))
+Asks words (Serve serving) = (kinds words ≡ []) × (asked_of (subcommand_of command_line words) ≡ Some (Serve serving))
+Asks words (Help text) = IsAmong DisplayHelp (kinds words) ⊎ IsAmong DisplayVersion (kinds words)
+Asks words (Bad text) = ((kind : ErrorKind) × IsAmong kind (kinds words) × IsMistake kind)
+    ⊎ ((kinds words ≡ []) × (asked_of (subcommand_of command_line words) ≡ None))

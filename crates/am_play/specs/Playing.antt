@@ -1,0 +1,155 @@
+-- What playing a scenario does: the trace of the events that the world gets, and what is written of each.
+use Rattle.std.specs.Prelude.{◌≡◌, ℕ, ◌+◌, nat_lt, nat_le, Bool, true, false, ◌&&◌, not, is_none, ◌⊎◌, List, [], ◌∷◌, ◌++◌, length, min, Option, Some, MatchOption, IsSome, codes, decimal}
+use Rattle.std.specs.List.{concat, list_all}
+use Rattle.am_world.specs.declared.event.Event.{Event}
+use Rattle.am_world.specs.declared.event.Event.TheVariants as event
+use Rattle.am_world.specs.declared.world.World.{World}
+use Rattle.am_world.specs.Runs.{Forgets}
+use Rattle.am_world.specs.Setup.{Origin}
+use Rattle.am_world.specs.Refusal.{refusal}
+use Rattle.am_world.specs.Simulation.{Opens, Step, fault_count, put_out, refused_by}
+use Rattle.am_world.specs.Ticks.{Either}
+use Rattle.am_play.specs.declared.command.Command.{Command}
+use Rattle.am_play.specs.declared.command.Command.TheVariants.{Skip, At, Tick, Open, Bytes, Call, Limits, Pump, Hook}
+use Rattle.am_play.specs.declared.play.Played.{Played}
+use Rattle.am_play.specs.declared.play.Played.TheVariants.{All, BadLine}
+use Rattle.am_play.specs.declared.play.Player.{Player}
+use Rattle.am_play.specs.declared.report.Try.{Try}
+use Rattle.am_play.specs.Line.{command_of}
+use Rattle.am_play.specs.Link.{Answers, Carries}
+use Rattle.am_play.specs.Names.{place_of, with_name}
+use Rattle.am_play.specs.Output.{is_answered}
+use Rattle.am_play.specs.Request.{request_text}
+use Rattle.am_play.specs.Trace.{Happened, outputs}
+use Rattle.am_play.specs.Tries.{tries_in}
+
+-- what an event is in the trace, by the player before it and after it
+abbrev pub happened : Player → Event → Player → Happened
+happened p e p' = record {
+  event = e;
+  outputs = put_out p'.world;
+  refused = refusal p.world e;
+  names = p.connections;
+  faults = fault_count p'.world;
+  unbuilt = refused_by p'.world;
+}
+
+-- an event came to the world, which forgot its outputs first; a refused one did nothing
+pub record Happens (p : Player) (e : Event) (p' : Player) (trace : List Happened) : Type 0 where
+  pub before : World
+  pub forgets : Forgets p.world before
+  pub step : Step before e p'.world
+  pub refused : IsSome (refusal p.world e) → p'.world ≡ before
+  pub connections : p'.connections ≡ p.connections
+  pub moment : p'.moment ≡ p.moment
+  pub hook : p'.hook ≡ p.hook
+  pub traced : trace ≡ happened p e p' ∷ []
+
+-- what stands on a line goes on after an event: it wasn't refused, and didn't answer the line's connection
+abbrev pub goes_on : ℕ → Player → Event → Player → Bool
+goes_on c p e p' = is_none (refusal p.world e) && not (is_answered c (put_out p'.world))
+
+-- a piece isn't empty, and has at most 4,096 bytes
+abbrev pub is_piece : List ℕ → Bool
+is_piece piece = nat_lt 0 (length piece) && nat_le (length piece) 4096
+
+-- the piece that would come next of what is left was lost
+pub record Loses (carries : Carries) (left : List ℕ) : Type 0 where
+  pub piece : List ℕ
+  pub after : List ℕ
+  pub cut : left ≡ piece ++ after
+  pub size : is_piece piece ≡ true
+  pub lost : carries piece false
+
+-- pieces came on a connection, one after the other; after the last one something is left only if it ended the line, or
+-- if the next piece was lost
+abbrev pub Come : Carries → ℕ → Player → List (List ℕ) → List ℕ → Player → List Happened → Type 0
+Come carries c p [] left p' trace = ((left ≡ []) ⊎ Loses carries left) × (p' ≡ p) × (trace ≡ [])
+Come carries c p (piece ∷ pieces) left p' trace =
+    (mid : Player) × (first rest : List Happened) × carries piece true
+    × Happens p (event.Bytes c p.moment piece) mid first
+    × (trace ≡ first ++ rest)
+    × Either (goes_on c p (event.Bytes c p.moment piece) mid)
+    (Come carries c mid pieces left p' rest)
+    ((pieces ≡ []) × (p' ≡ mid) × (rest ≡ []))
+
+-- bytes came on a connection, in pieces, all of them unless an event ended the line or a piece was lost
+pub record Gives (carries : Carries) (c : ℕ) (p : Player) (bytes : List ℕ) (p' : Player) (trace : List Happened) :
+    Type 0 where
+  pub pieces : List (List ℕ)
+  pub left : List ℕ
+  pub cut : bytes ≡ concat pieces ++ left
+  pub sizes : list_all is_piece pieces ≡ true
+  pub come : Come carries c p pieces left p' trace
+
+-- the name of a connection is known from now on
+abbrev pub naming : List ℕ → Player → Player
+naming name p = record p { connections = with_name name p.connections }
+
+-- the number of an instance as the world takes it: none past 255 is in any ring
+abbrev pub instance_of : ℕ → ℕ
+instance_of i = min i 255
+
+-- a connection was opened, and then, unless that was refused, a whole request came on it
+abbrev pub Calls : Carries → ℕ → Player → ℕ → List ℕ → Player → List Happened → Type 0
+Calls carries c p i text p' trace =
+    (mid : Player) × (first rest : List Happened) × Happens p (event.Open c i) mid first × (trace ≡ first ++ rest)
+    × Either (is_none (refusal p.world (event.Open c i))) (Gives carries c mid text p' rest) ((p' ≡ mid) × (rest ≡ []))
+
+-- the name of a connection became known, and then this holds of the connection, which is the name's place
+abbrev pub OnNamed : Player → List ℕ → (ℕ → Player → Type 0) → Type 0
+OnNamed p name Holds = (c : ℕ) × (place_of name (naming name p).connections ≡ Some c) × Holds c (naming name p)
+
+-- a command was done
+abbrev pub Obeys : Carries → Player → Command → Player → List Happened → Type 0
+Obeys carries p Skip p' trace = (p' ≡ p) × (trace ≡ [])
+Obeys carries p Pump p' trace = (p' ≡ p) × (trace ≡ [])
+Obeys carries p (At moment) p' trace = (p' ≡ record p { moment = moment }) × (trace ≡ [])
+Obeys carries p (Hook status) p' trace = (p' ≡ record p { hook = status }) × (trace ≡ [])
+Obeys carries p Tick p' trace = Happens p (event.Tick p.moment) p' trace
+Obeys carries p (Limits tenant limits) p' trace = Happens p (event.Limits tenant limits) p' trace
+Obeys carries p (Open name i) p' trace =
+    OnNamed p name (λ c q. Happens q (event.Open c (instance_of i)) p' trace)
+Obeys carries p (Bytes name text) p' trace = OnNamed p name (λ c q. Gives carries c q text p' trace)
+Obeys carries p (Call name i request) p' trace =
+    OnNamed p name (λ c q. Calls carries c q (instance_of i) (request_text request) p' trace)
+
+-- each of these tries got its outcome, one after the other: with the status that was read of what the receiver, to
+-- which its request went, answers now
+abbrev pub Settles : Answers → Player → List Try → Player → List Happened → Type 0
+Settles answers p [] p' trace = (p' ≡ p) × (trace ≡ [])
+Settles answers p (awaited ∷ tries) p' trace =
+    (status : Option ℕ) × (mid : Player) × (first rest : List Happened)
+    × answers awaited.request p.hook status
+    × Happens p (event.Outcome awaited.attempt awaited.tries p.moment status) mid first
+    × (trace ≡ first ++ rest) × Settles answers mid tries p' rest
+
+-- a line was played: its command was done, and then each try that this sent out got its outcome
+abbrev pub Does : Carries → Answers → Player → Command → Player → List Happened → Type 0
+Does carries answers p command p' trace =
+    (mid : Player) × (first rest : List Happened) × Obeys carries p command mid first × (trace ≡ first ++ rest)
+    × Settles answers mid (tries_in (outputs first)) p' rest
+
+-- the last line of a scenario that was played whole
+abbrev pub faults_line : ℕ → List ℕ
+faults_line faults = codes "faults " ++ (decimal faults ++ 10 ∷ [])
+
+-- what is written last, after this many faults; nothing where a line is no command
+abbrev pub ending : Played → ℕ → List ℕ
+ending All faults = faults_line faults
+ending (BadLine n) faults = []
+
+-- the lines from the n-th on were played, up to the first that is no command
+abbrev pub Plays : Carries → Answers → ℕ → Player → List (List ℕ) → Played → List Happened → Player → Type 0
+Plays carries answers n p [] played trace p' = (played ≡ All) × (trace ≡ []) × (p' ≡ p)
+Plays carries answers n p (line ∷ lines) played trace p' = MatchOption (command_of line)
+    ((played ≡ BadLine n) × (trace ≡ []) × (p' ≡ p))
+    (λ command. (mid : Player) × (first rest : List Happened) × Does carries answers p command mid first
+    × (trace ≡ first ++ rest) × Plays carries answers (n + 1) mid lines played rest p')
+
+-- where a scenario begins: a new world, no connection, the moment 0, and a receiver that takes all notices
+pub record IsStart (origin : Origin) (p : Player) : Type 0 where
+  pub opens : Opens origin p.world
+  pub connections : p.connections ≡ []
+  pub moment : p.moment ≡ 0
+  pub hook : p.hook ≡ Some 200

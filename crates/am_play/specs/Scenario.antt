@@ -1,0 +1,41 @@
+-- A whole scenario: its lines, and what playing them comes to.
+use Rattle.std.specs.Prelude.{◌≡◌, ℕ, ◌==◌, List, ◌++◌, Option, IfSome}
+use Rattle.std.specs.List.{slice_split}
+use Rattle.am_world.specs.Runs.{Alone}
+use Rattle.am_world.specs.Setup.{Origin}
+use Rattle.am_world.specs.Simulation.{fault_count}
+use Rattle.am_world.specs.View.{first_watch, names_once}
+use Rattle.am_play.specs.declared.play.Played.{Played}
+use Rattle.am_play.specs.declared.play.Player.{Player}
+use Rattle.am_play.specs.Link.{Answers, Carries}
+use Rattle.am_play.specs.Playing.{Plays, IsStart}
+use Rattle.am_play.specs.Trace.{Happened, events, outputs, no_fault, unbuilt}
+
+-- the lines, which end at LF; what follows the last LF is a line too
+abbrev pub lines_of : List ℕ → List (List ℕ)
+lines_of bytes = slice_split (λ b. b == 10) bytes
+
+-- the bytes that a reader has left, where they are known
+abbrev pub Known : Type 0
+Known = Option (List ℕ)
+
+-- lines were played over a link, and this happened; they are the reader's, where its bytes are known
+pub record Course (carries : Carries) (answers : Answers) (start : Player) (bytes : Known) (played : Played)
+    (trace : List Happened) (end : Player) : Type 0 where
+  pub lines : List (List ℕ)
+  pub are_read : IfSome bytes (λ bytes. lines ≡ lines_of bytes)
+  pub plays : Plays carries answers 1 start lines played trace end
+
+-- .. from a new world on, in which so many faults came
+pub record Scenario (carries : Carries) (answers : Answers) (origin : Origin) (bytes : Known) (played : Played)
+    (trace : List Happened) (faults : ℕ) : Type 0 where
+  pub start : Player
+  pub is_start : IsStart origin start
+  pub end : Player
+  pub course : Course carries answers start bytes played trace end
+  pub counted : faults ≡ fault_count end.world
+
+-- wherever a trace is cut: where no fault came before the cut, each tenant is as if alone until there
+abbrev pub AloneUntilFault : Origin → List Happened → Type 0
+AloneUntilFault origin trace = (first rest : List Happened) → trace ≡ first ++ rest → no_fault first →
+    names_once (first_watch origin) (events first) → Alone origin (events first) (unbuilt first) (outputs first)

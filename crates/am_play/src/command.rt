@@ -1,0 +1,81 @@
+ghost use Rattle.std.specs.Prelude.{◌≡◌, IfOk, string_bytes};
+ghost use Rattle.am_play.specs.Request.{request_text, tenant_line};
+
+use am_limit::Limits;
+use am_tenant::TenantName;
+use am_text::Text;
+use std::alloc::{AllocError, Global};
+
+/// What one line of a scenario asks for.
+#[derive(Debug, Drop)]
+pub enum Command {
+    /// An empty line or a comment.
+    Skip,
+    /// The own moment of the events that follow, in milliseconds since 1970-01-01T00:00:00Z.
+    At(u64),
+    /// A tick at that moment.
+    Tick,
+    /// A connection is opened to an instance.
+    Open {
+        connection: Text,
+        instance: u64,
+    },
+    /// The bytes of a text come on a connection.
+    Bytes {
+        connection: Text,
+        text: Text,
+    },
+    /// A connection is opened to an instance, and a whole request comes on it.
+    Call {
+        connection: Text,
+        instance: u64,
+        request: Request,
+    },
+    /// A tenant has these limits from now on.
+    Limits {
+        tenant: TenantName,
+        limits: Limits,
+    },
+    /// Every message that waits is delivered.
+    Pump,
+    /// The program's own receiver answers notices with this status from now on, or not at all.
+    Hook(Option<u16>),
+}
+
+/// The request of a `call` line.
+#[derive(Debug, Drop)]
+pub struct Request {
+    pub tenant: Option<Text>,
+    pub method: Text,
+    pub path: Text,
+    pub body: Text,
+}
+
+impl Request {
+    /// The request as it is sent: head and body by RFC 9112, with a `Content-Length` always.
+    pub fn to_text(&self, alloc: Global) -> Result<String, AllocError>
+        ensures { IfOk result (λ text. string_bytes text ≡ request_text self.now) }
+    {
+        let tenant = self.tenant_line(alloc)?;
+        let method = self.method.as_str();
+        let path = self.path.as_str();
+        let body = self.body.as_str();
+        let length = body.len();
+        format!(in alloc;
+            "{method} {path} HTTP/1.1\r\nHost: amring\r\n{tenant}Content-Length: {length}\r\n\r\n{body}"
+        )
+    }
+
+    /// The header line that names the tenant, empty where there is none.
+    fn tenant_line(&self, alloc: Global) -> Result<String, AllocError>
+        ensures { IfOk result (λ line. string_bytes line ≡ tenant_line self.now.tenant) }
+    {
+        match &self.tenant {
+            Some(tenant) => {
+                let name = tenant.as_str();
+                format!(in alloc; "X-Scope-OrgID: {name}\r\n")
+            }
+            None => Ok(String::new(alloc)),
+        }
+    }
+}

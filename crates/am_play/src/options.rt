@@ -1,0 +1,229 @@
+//! The command line: what its words ask for.
+ghost use Rattle.std.specs.Prelude.{◌≡◌, IfOk, MatchResult, None, Some, codes, false, map, true};
+ghost use Rattle.clap.specs.Words.{app_of, found_of, has_subcommand, kind_of, rows_of, rule_of};
+ghost use Rattle.clap.specs.Simple.{subcommand_rows_of};
+ghost use Rattle.am_play.specs.CommandLine.{Asks, Tells, asked_by, asked_of, command_line, count_in, key_in, number_in, option, option_or, serving_in, settings_in};
+
+use crate::number::number;
+use am_world::setup::Setup;
+use clap::error::ErrorKind;
+use clap::{Arg, ArgMatches, Command, Error};
+use hex::FromHex;
+use std::alloc::{AllocError, Global};
+use std::convert::AsStr;
+use std::fmt;
+
+/// What `--version` prints.
+const VERSION: &str = "0.1.0";
+
+const KEY_HELP: &str = "The service key, 64 hexadecimal digits; zeros without it";
+
+const PORT_HELP: &str = "The port to listen on, 1 to 65535";
+
+const COUNT_HELP: &str = "Ends once so many connections were answered";
+
+/// The most patterns that an instance may keep built.
+const MOST_CACHED: u64 = 65_536;
+
+/// The greatest port.
+const MOST_PORT: u64 = 65_535;
+
+/// The instances of the ring.
+const RING: [u8; 3] = [1, 2, 3];
+
+/// The first incarnation.
+const START: u32 = 1;
+
+/// How the program serves connections.
+#[derive(Drop)]
+pub struct Serving {
+    pub setup: Setup,
+    /// The port that it listens on, at least 1.
+    pub port: u16,
+    /// How many connections are answered, at least 1; any number where none is given.
+    pub count: Option<u64>,
+}
+
+/// What a command line asks for.
+#[derive(Drop)]
+pub enum CommandLine {
+    /// To play the scenario on standard input with these settings.
+    Run(Setup),
+    /// To serve connections.
+    Serve(Serving),
+    /// To see the help or the version, which is this text.
+    Help(String),
+    /// Nothing that the program does; the text says what is wrong.
+    Bad(String),
+}
+
+/// An option whose value isn't one that it takes.
+#[derive(Clone, Copy, Debug, PartialEq, Eq)]
+enum BadOption {
+    Cache,
+    Key,
+    Port,
+    Count,
+}
+
+impl fmt::Display for BadOption {
+    fn fmt<W: fmt::Write>(&self, f: &mut fmt::Formatter<W>) -> fmt::Result {
+        match self {
+            BadOption::Cache => write!(f, "--cache takes a number from 1 to {MOST_CACHED}"),
+            BadOption::Key => write!(f, "--key takes 64 hexadecimal digits"),
+            BadOption::Port => write!(f, "serve needs --port, a number from 1 to 65535"),
+            BadOption::Count => write!(f, "--count takes a number from 1 on"),
+        }
+    }
+}
+
+/// What the words of a command line ask for, of which the first is the program's own name.
+pub fn options<S: AsStr>(alloc: Global, words: &[S]) -> Result<CommandLine, AllocError>
+    ensures { IfOk result (Asks (map S.text words.entry.now)) }
+{
+    match form(alloc)?.try_get_matches_from(words) {
+        Ok(matches) => match asked(&matches) {
+            Ok(line) => Ok(line),
+            Err(bad) => Ok(CommandLine::Bad(format!(in alloc; "{bad}")?)),
+        },
+        Err(error) => told(alloc, &error),
+    }
+}
+
+/// The form of the program's command lines.
+fn form<'a>(alloc: Global) -> Result<Command<'a>, AllocError>
+    ensures { IfOk result (λ form. app_of form ≡ command_line) }
+{
+    let run = Command::new(alloc, "run")
+        .about("Plays the scenario on standard input")
+        .arg(cache(alloc))?
+        .arg(option(alloc, "key", "K", KEY_HELP))?;
+    let serve = Command::new(alloc, "serve")
+        .about("Serves connections over HTTP")
+        .arg(cache(alloc))?
+        .arg(option(alloc, "key", "K", KEY_HELP))?
+        .arg(option(alloc, "port", "P", PORT_HELP))?
+        .arg(option(alloc, "count", "N", COUNT_HELP))?;
+    Command::new(alloc, "amring")
+        .about("A multi-tenant Alertmanager")
+        .version(VERSION)
+        .subcommand_required(true)
+        .subcommand(run)?
+        .subcommand(serve)
+}
+
+/// The option of how many patterns are kept built.
+fn cache<'a>(alloc: Global) -> Arg<'a>
+    ensures rule { rule_of result ≡ option_or (codes "cache") (codes "512") }
+    ensures local { result.global ≡ false }
+{
+    Arg::new(alloc, "cache")
+        .long("cache")
+        .value_name("N")
+        .default_value("512")
+        .help("How many patterns each instance keeps built, 1 to 65536")
+}
+
+/// An option that may be absent.
+fn option<'a>(alloc: Global, name: &'a str, value: &'a str, help: &'a str) -> Arg<'a>
+    ensures rule { rule_of result ≡ option name.entry.now }
+    ensures local { result.global ≡ false }
+{
+    Arg::new(alloc, name)
+        .long(name)
+        .value_name(value)
+        .help(help)
+}
+
+/// What the subcommand of a command line asks for.
+fn asked(matches: &ArgMatches<'_>) -> Result<CommandLine, BadOption>
+    requires { has_subcommand matches.now ≡ true }
+    ensures { MatchResult result
+        (λ line. asked_of (subcommand_rows_of matches.now) ≡ Some line)
+        (λ _. asked_of (subcommand_rows_of matches.now) ≡ None) }
+{
+    let (name, options) = matches.subcommand().unwrap();
+    if name == "serve" {
+        Ok(CommandLine::Serve(serving_in(options)?))
+    } else {
+        Ok(CommandLine::Run(settings_in(options)?))
+    }
+}
+
+/// How the options of `serve` say to serve.
+fn serving_in(serve: &ArgMatches<'_>) -> Result<Serving, BadOption>
+    ensures { MatchResult result
+        (λ serving. serving_in (rows_of (found_of serve.now)) ≡ Some serving)
+        (λ _. serving_in (rows_of (found_of serve.now)) ≡ None) }
+{
+    let setup = settings_in(serve)?;
+    let port = number_in(serve, "port", 1, MOST_PORT).ok_or(BadOption::Port)?;
+    let count = count_in(serve).ok_or(BadOption::Count)?;
+    Ok(Serving {
+        setup,
+        port: port as u16,
+        count,
+    })
+}
+
+/// The number of connections that the options say; none where they say none.
+fn count_in(matches: &ArgMatches<'_>) -> Option<Option<u64>>
+    ensures { result ≡ count_in (rows_of (found_of matches.now)) }
+{
+    match matches.get_str("count") {
+        Some(_) => number_in(matches, "count", 1, u64::MAX).map(Some),
+        None => Some(None),
+    }
+}
+
+/// The settings that the options of a subcommand say.
+fn settings_in(run: &ArgMatches<'_>) -> Result<Setup, BadOption>
+    ensures { MatchResult result
+        (λ setup. settings_in (rows_of (found_of run.now)) ≡ Some setup)
+        (λ _. settings_in (rows_of (found_of run.now)) ≡ None) }
+{
+    let cache = number_in(run, "cache", 1, MOST_CACHED).ok_or(BadOption::Cache)?;
+    let key = key_in(run).ok_or(BadOption::Key)?;
+    Ok(Setup::new(key, &RING, cache as u32, START).unwrap())
+}
+
+/// The number that an option says, where it is one from the least to the most.
+fn number_in(matches: &ArgMatches<'_>, name: &str, least: u64, most: u64) -> Option<u64>
+    ensures { result ≡ number_in name.now least most (rows_of (found_of matches.now)) }
+{
+    let number = number(matches.get_str(name)?)?;
+    (least <= number && number <= most).then_some(number)
+}
+
+/// The service key that an option says; zeros where none does.
+fn key_in(matches: &ArgMatches<'_>) -> Option<[u8; 32]>
+    ensures { result ≡ key_in (rows_of (found_of matches.now)) }
+{
+    match matches.get_str("key") {
+        Some(digits) => <[u8; 32]>::from_hex(digits).ok(),
+        None => Some([0; 32]),
+    }
+}
+
+/// What clap's error tells: the help, the version, or what is wrong with the words.
+fn told(alloc: Global, error: &Error) -> Result<CommandLine, AllocError>
+    ensures { IfOk result (Tells (kind_of error.now)) }
+{
+    match error.kind() {
+        ErrorKind::OutOfMemory => Err(AllocError),
+        ErrorKind::DisplayHelp | ErrorKind::DisplayVersion => {
+            Ok(CommandLine::Help(error.to_string(alloc)?))
+        }
+        _ => Ok(CommandLine::Bad(complaint(alloc, error)?)),
+    }
+}
+
+/// What clap says is wrong with the words, without its own mark in front.
+fn complaint(alloc: Global, error: &Error) -> Result<String, AllocError> {
+    let text = error.to_string(alloc)?;
+    let text = text.as_str();
+    String::from_str(
+        alloc,
+        text.strip_prefix("error: ").unwrap_or(text).trim_end(),
+    )
+}

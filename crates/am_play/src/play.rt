@@ -1,0 +1,384 @@
+ghost use Rattle.std.specs.Prelude.{◌≡◌, ◌++◌, ◌&&◌, not, is_none, ℕ, List, [], IfOk, OnOk, string_bytes};
+ghost use Rattle.std.specs.List.{flat_map};
+ghost use Rattle.std.specs.Io.KnownBytes.{Appends};
+ghost use Rattle.am_world.specs.Refusal.{refusal};
+ghost use Rattle.am_world.specs.Runs.{Alone};
+ghost use Rattle.am_world.specs.Simulation.{fault_count, put_out};
+ghost use Rattle.am_world.specs.View.{first_watch, names_once};
+ghost use Rattle.am_play.specs.Output.{is_answered};
+ghost use Rattle.am_play.specs.Playing.{Happens, Gives, Calls, Obeys, Settles, Does, ending, faults_line, instance_of};
+ghost use Rattle.am_play.specs.Scenario.{Course, Scenario, AloneUntilFault};
+ghost use Rattle.am_play.specs.Trace.{Happened, Reports, events, outputs, printed, output_line, unbuilt};
+ghost use Rattle.am_play.specs.Tries.{tries_in, try_of};
+
+use crate::command::{Command, Request};
+use crate::connections::Connections;
+use crate::line::{LineFault, read_command};
+use crate::link::Link;
+use crate::report::{Report, Try};
+use crate::stops::Stops;
+use am_http::ConnectionId;
+use am_text::{Octets, Text};
+use am_world::event::{Event, Output};
+use am_world::setup::Setup;
+use am_world::world::World;
+use std::alloc::{AllocError, Global};
+use std::io::{BufRead, Write};
+use std::{io, mem};
+
+/// The most bytes that one event gives to the world.
+const PIECE: usize = 4096;
+
+/// What the program's own receiver answers at first: the status 200.
+const TAKEN: u16 = 200;
+
+/// How a scenario ended.
+#[derive(Clone, Copy, Debug, PartialEq, Eq)]
+pub enum Played {
+    /// Every line was played, and `faults N` was written.
+    All,
+    /// The line of this number, counted from 1, is no command. The lines before it were played.
+    BadLine(u64),
+}
+
+/// Plays the scenario that `reader` holds against a new world, and writes its output lines to `writer`. What a line
+/// gives to a connection goes over the link in pieces, and ends where one is lost. Each notice goes over it too, and the
+/// outcome of its try has the status that was read of the answer.
+///
+/// What is written are the lines of a trace: what happened, event by event. Whatever the other tenants do, a tenant's
+/// outputs in it are, byte for byte and in order, those of a private cluster that has this tenant alone; provided
+/// that no connection's name is opened twice and no pattern that the tenant brings was refused its build, and up to a first
+/// fault.
+///
+/// An error is one of reading or writing, or has the kind `OutOfMemory`; what was written stays.
+pub fn play<L: Link, R: BufRead + Drop, W: Write, E: Write>(
+    alloc: Global,
+    setup: Setup,
+    link: &mut L,
+    reader: R,
+    writer: &mut W,
+    errors: &mut E,
+) -> io::Result<Played>
+    // Where the bytes of the reader aren't known, there are lines of which this holds.
+    ensures { IfOk result (λ played. (trace : List Happened) × (faults : ℕ)
+        × Scenario L.carries L.answers setup.origin (R.remaining reader) played trace faults
+        × Appends (W.contents writer.old) (W.contents writer.new) (printed trace ++ ending played faults)
+        × (faults ≡ 0 → names_once (first_watch setup.origin) (events trace) →
+        Alone setup.origin (events trace) (unbuilt trace) (outputs trace))
+        × AloneUntilFault setup.origin trace) }
+{
+    let world = World::open(alloc, setup)?;
+    let mut player = Player {
+        world,
+        connections: Connections::new(alloc),
+        moment: 0,
+        hook: Some(TAKEN),
+    };
+    let played = player.play_lines(alloc, link, reader, writer, errors)?;
+    writer.flush()?;
+    Ok(played)
+}
+
+/// A scenario at one of its lines.
+#[derive(Drop)]
+struct Player {
+    world: World,
+    connections: Connections,
+    moment: u64,
+    /// The status that the program's own receiver answers; `None` where it doesn't answer.
+    hook: Option<u16>,
+}
+
+impl Player {
+    /// Plays the lines that are left, up to one that is no command. The text of each line is written before the next
+    /// line is read.
+    fn play_lines<L: Link, R: BufRead + Drop, W: Write, E: Write>(
+        &mut self,
+        alloc: Global,
+        link: &mut L,
+        reader: R,
+        writer: &mut W,
+        errors: &mut E,
+    ) -> io::Result<Played>
+        ensures { IfOk result (λ played. (trace : List Happened)
+            × Course L.carries L.answers self.old (R.remaining reader) played trace self.new
+            × Appends (W.contents writer.old) (W.contents writer.new)
+            (printed trace ++ ending played (fault_count self.new.world))) }
+    {
+        let mut number = 0u64;
+        let mut stops = Stops::none();
+        for line in reader.split(alloc, b'\n') {
+            let line = line?;
+            number += 1;
+            match read_command(alloc, line.as_slice()) {
+                Ok(command) => {
+                    let lines = self.play_line(alloc, link, command)?;
+                    stops.tell(&self.world, errors)?;
+                    writer.write_all(lines.as_bytes())?;
+                }
+                Err(LineFault::NotACommand) => return Ok(Played::BadLine(number)),
+                Err(LineFault::OutOfMemory) => return Err(io::ErrorKind::OutOfMemory.into()),
+            }
+        }
+        let last = faults_line(alloc, self.world.faults())?;
+        writer.write_all(last.as_bytes())?;
+        Ok(Played::All)
+    }
+
+    /// Does what a line asks for, and then gives each try that went out its outcome. Gives what is to be written of all
+    /// this.
+    fn play_line<L: Link>(
+        &mut self,
+        alloc: Global,
+        link: &mut L,
+        command: Command,
+    ) -> Result<String, AllocError>
+        ensures { IfOk result (λ lines. (trace : List Happened) × (string_bytes lines ≡ printed trace)
+            × Does L.carries L.answers self.old command self.new trace) }
+    {
+        let mut report = Report::new(alloc);
+        self.obey(alloc, link, command, &mut report)?;
+        let tries = mem::replace(&mut report.tries, Vec::new(alloc));
+        self.settle(alloc, link, tries.as_slice(), &mut report)?;
+        let Report { text, .. } = report;
+        Ok(text)
+    }
+
+    /// Sends each of these tries to the receiver, in order, and gives it its outcome.
+    fn settle<L: Link>(
+        &mut self,
+        alloc: Global,
+        link: &mut L,
+        tries: &[Try],
+        report: &mut Report,
+    ) -> Result<(), AllocError>
+        ensures { OnOk result (Reports report.old report.new (Settles L.answers self.old tries.now self.new)) }
+    {
+        for awaited in tries {
+            let status = link.tell(awaited.request.as_slice(), self.hook);
+            let event = awaited.outcome(self.moment, status);
+            self.bring(alloc, &event, report)?;
+        }
+        Ok(())
+    }
+
+    /// Does what a line asks for, and reports it.
+    fn obey<L: Link>(
+        &mut self,
+        alloc: Global,
+        link: &mut L,
+        command: Command,
+        report: &mut Report,
+    ) -> Result<(), AllocError>
+        ensures { OnOk result (Reports report.old report.new (Obeys L.carries self.old command self.new)) }
+    {
+        match command {
+            Command::Skip | Command::Pump => Ok(()),
+            Command::At(moment) => {
+                self.moment = moment;
+                Ok(())
+            }
+            Command::Hook(hook) => {
+                self.hook = hook;
+                Ok(())
+            }
+            Command::Tick => self.tick(alloc, report),
+            Command::Limits { tenant, limits } => {
+                self.bring(alloc, &Event::Limits { tenant, limits }, report)
+            }
+            Command::Open {
+                connection,
+                instance,
+            } => {
+                let connection = self.connections.id(alloc, connection.as_str())?;
+                self.open(alloc, connection, instance, report)?;
+                Ok(())
+            }
+            Command::Bytes { connection, text } => {
+                let connection = self.connections.id(alloc, connection.as_str())?;
+                self.give(alloc, link, connection, text.as_str().as_bytes(), report)
+            }
+            Command::Call {
+                connection,
+                instance,
+                request,
+            } => {
+                let connection = self.connections.id(alloc, connection.as_str())?;
+                let text = request.to_text(alloc)?;
+                self.call(alloc, link, connection, instance, text.as_bytes(), report)
+            }
+        }
+    }
+
+    /// Hands the world a tick at the present moment.
+    fn tick(&mut self, alloc: Global, report: &mut Report) -> Result<(), AllocError>
+        ensures { OnOk result (Reports report.old report.new (Happens self.old (Event.Tick self.old.moment) self.new)) }
+    {
+        let moment = self.moment;
+        self.bring(alloc, &Event::Tick { moment }, report)
+    }
+
+    /// Opens a connection and gives it a whole request.
+    fn call<L: Link>(
+        &mut self,
+        alloc: Global,
+        link: &mut L,
+        connection: ConnectionId,
+        instance: u64,
+        request: &[u8],
+        report: &mut Report,
+    ) -> Result<(), AllocError>
+        ensures { OnOk result (Reports report.old report.new
+            (Calls L.carries connection self.old (instance_of instance) request.now self.new)) }
+    {
+        if self.open(alloc, connection, instance, report)? {
+            self.give(alloc, link, connection, request, report)?;
+        }
+        Ok(())
+    }
+
+    /// Opens a connection, and says whether the world took it. No ring has an instance past 255.
+    fn open(
+        &mut self,
+        alloc: Global,
+        connection: ConnectionId,
+        instance: u64,
+        report: &mut Report,
+    ) -> Result<bool, AllocError>
+        ensures taken { IfOk result (λ taken.
+            taken ≡ is_none (refusal self.old.world (Event.Open connection (instance_of instance)))) }
+        ensures happens { OnOk result (Reports report.old report.new
+            (Happens self.old (Event.Open connection (instance_of instance)) self.new)) }
+    {
+        let event = Event::Open {
+            connection,
+            instance: instance.min(u64::from(u8::MAX)) as u8,
+        };
+        self.happen(alloc, &event, report)
+    }
+
+    /// Gives bytes to a connection, piece by piece as they come over the link, until it is answered, or a piece is
+    /// refused or lost.
+    fn give<L: Link>(
+        &mut self,
+        alloc: Global,
+        link: &mut L,
+        connection: ConnectionId,
+        bytes: &[u8],
+        report: &mut Report,
+    ) -> Result<(), AllocError>
+        ensures { OnOk result (Reports report.old report.new
+            (Gives L.carries connection self.old bytes.now self.new)) }
+    {
+        for piece in bytes.chunks(PIECE) {
+            if !link.carry(piece) {
+                return Ok(());
+            }
+            let event = Event::Bytes {
+                connection,
+                moment: self.moment,
+                piece: Octets::read(alloc, piece)?,
+            };
+            let is_taken = self.happen(alloc, &event, report)?;
+            if !self.goes_on(is_taken, connection) {
+                return Ok(());
+            }
+        }
+        Ok(())
+    }
+
+    /// Whether the bytes of a line go on after an event: it was taken, and didn't answer the line's connection.
+    fn goes_on(&self, is_taken: bool, connection: ConnectionId) -> bool
+        ensures { result ≡ (is_taken && not (is_answered connection (put_out self.now.world))) }
+    {
+        is_taken && !is_answered(self.world.outputs(), connection)
+    }
+
+    /// Hands an event to the world, whether it is taken or not.
+    fn bring(&mut self, alloc: Global, event: &Event, report: &mut Report) -> Result<(), AllocError>
+        ensures { OnOk result (Reports report.old report.new (Happens self.old event.now self.new)) }
+    {
+        self.happen(alloc, event, report)?;
+        Ok(())
+    }
+
+    /// Hands an event to the world and reports its outputs, and then its refusal. Says whether it was taken.
+    fn happen(
+        &mut self,
+        alloc: Global,
+        event: &Event,
+        report: &mut Report,
+    ) -> Result<bool, AllocError>
+        ensures taken { IfOk result (λ taken. taken ≡ is_none (refusal self.old.world event.now)) }
+        ensures happens { OnOk result (Reports report.old report.new (Happens self.old event.now self.new)) }
+    {
+        self.world.clear_outputs();
+        let taken = self.world.step(alloc, event);
+        self.push_outputs(alloc, report)?;
+        match taken {
+            Ok(()) => Ok(true),
+            Err(refused) => {
+                report.push_refusal(refused)?;
+                Ok(false)
+            }
+        }
+    }
+
+    /// Reports what the world put out at the last event.
+    fn push_outputs(&self, alloc: Global, report: &mut Report) -> Result<(), AllocError>
+        ensures text { OnOk result (string_bytes report.new.text ≡ string_bytes report.old.text ++
+            flat_map (output_line self.now.connections) (put_out self.now.world)) }
+        ensures tries { OnOk result (report.new.tries.items ≡ report.old.tries.items ++
+            tries_in (put_out self.now.world)) }
+    {
+        for output in self.world.outputs() {
+            self.push_output(alloc, output, report)?;
+        }
+        Ok(())
+    }
+
+    /// Reports an output. A reply on a connection that no line named has no line.
+    fn push_output(
+        &self,
+        alloc: Global,
+        output: &Output,
+        report: &mut Report,
+    ) -> Result<(), AllocError>
+        ensures text { OnOk result (string_bytes report.new.text ≡ string_bytes report.old.text ++
+            output_line self.now.connections output.now) }
+        ensures tries { OnOk result (report.new.tries.items ≡ report.old.tries.items ++ try_of output.now) }
+    {
+        match output {
+            Output::Reply { connection, bytes } => match self.connections.name(*connection) {
+                Some(name) => report.push_reply(alloc, name, bytes.as_slice()),
+                None => Ok(()),
+            },
+            Output::Notice {
+                attempt,
+                tries,
+                url,
+                bytes,
+            } => report.push_notice(alloc, attempt, *tries, url.as_str(), bytes.as_slice()),
+        }
+    }
+}
+
+/// The last line of a scenario.
+fn faults_line(alloc: Global, faults: u64) -> Result<String, AllocError>
+    ensures { IfOk result (λ line. string_bytes line ≡ faults_line faults) }
+{
+    format!(in alloc; "faults {faults}\n")
+}
+
+/// Whether the outputs have a reply on the connection.
+fn is_answered(outputs: &[Output], connection: ConnectionId) -> bool
+    ensures { result ≡ is_answered connection outputs.now }
+{
+    outputs.iter().any(|output| match output {
+        Output::Reply {
+            connection: answered,
+            ..
+        } => *answered == connection,
+        Output::Notice { .. } => false,
+    })
+}

@@ -1,0 +1,65 @@
+//! `serve`: a world behind a port.
+
+use crate::options::Serving;
+use crate::stops::Stops;
+use am_gateway::Gateway;
+use am_server::{Server, listen};
+use am_world::World;
+use mio::net::TcpListener;
+use std::io;
+use std::io::Write;
+use std::net::{Ipv4Addr, Net, SocketAddr};
+use std::process::ExitCode;
+use std::time::Clock;
+
+/// The instance that all connections are opened to: the lowest of the ring.
+const SERVING: u8 = 1;
+
+/// The exit status where the port can't be had.
+const NO_PORT: u8 = 2;
+
+/// Serves connections until as many were answered as were asked for, and prints `faults N` then; or until the instance stops,
+/// which is told on standard error and ends the program with a failure.
+///
+/// # Errors
+/// Those of the system's poll and clocks, and of printing; out of memory.
+pub fn serve<R: Net + Clock + Print + AllocGlobal, E: Write>(
+    rt: &R,
+    serving: Serving,
+    errors: &mut E,
+) -> io::Result<ExitCode> {
+    let address = SocketAddr::from((Ipv4Addr::LOCALHOST, serving.port));
+    let listener = match listen(rt, address) {
+        Ok(listener) => listener,
+        Err(error) if error.kind() == io::ErrorKind::OutOfMemory => return Err(error),
+        Err(_) => {
+            writeln!(errors, "port")?;
+            return Ok(ExitCode::from(NO_PORT));
+        }
+    };
+    let mut world = World::open(rt.alloc(), serving.setup)?;
+    writeln!(
+        errors,
+        "amring: serves http://{address}; GET /ready tells it the time, once a second or so"
+    )?;
+    attend(rt, listener, &mut world, serving.count)?;
+    Stops::none().tell(&world, errors)?;
+    let faults = world.faults();
+    print!(rt; "faults {faults}\n")?;
+    Ok(match world.cause(SERVING) {
+        None => ExitCode::SUCCESS,
+        Some(_) => ExitCode::FAILURE,
+    })
+}
+
+/// Serves the clients of a listener until all is done, or the instance stopped.
+fn attend<R: Net + Clock + AllocGlobal>(
+    rt: &R,
+    listener: TcpListener,
+    world: &mut World,
+    count: Option<u64>,
+) -> io::Result<()> {
+    let mut gateway = Gateway::new(rt.alloc(), world, SERVING)?;
+    let mut server = Server::open(rt, rt.alloc(), listener, &mut gateway, count)?;
+    server.serve(rt)
+}

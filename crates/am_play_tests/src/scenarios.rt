@@ -1,0 +1,431 @@
+//! Whole scenarios. What they must print was computed apart from this program.
+
+mod isolation;
+pub mod links;
+mod serving;
+mod streams;
+
+use am_play::play::{Played, play};
+use am_world::setup::Setup;
+use links::Direct;
+use serde_json::Value;
+use std::alloc::Global;
+use std::test::Fail;
+
+// One alert is posted and read back.
+const POSTED_AND_READ: (&str, &str) = (
+    r#"at 1750000000000
+tick
+call p 1 a POST /alertmanager/api/v2/alerts "[{\"labels\":{\"a\":\"b\"}}]"
+pump
+call g 1 a GET /alertmanager/api/v2/alerts
+pump
+"#,
+    r#"reply p "HTTP/1.1 200 OK\r\nContent-Type: application/json\r\nContent-Length: 0\r\nConnection: close\r\n\r\n"
+reply g "HTTP/1.1 200 OK\r\nContent-Type: application/json\r\nContent-Length: 297\r\nConnection: close\r\n\r\n[{\"annotations\":{},\"endsAt\":\"2025-06-15T15:11:40.000Z\",\"fingerprint\":\"d2b371819297f98a\",\"generatorURL\":\"\",\"labels\":{\"a\":\"b\"},\"receivers\":[{\"name\":\"default\"}],\"startsAt\":\"2025-06-15T15:06:40.000Z\",\"status\":{\"inhibitedBy\":[],\"silencedBy\":[],\"state\":\"active\"},\"updatedAt\":\"2025-06-15T15:06:40.000Z\"}]"
+faults 0
+"#,
+);
+
+// A request without a tenant, with an empty name, with names of 150 and 151 bytes, with a byte that no name
+// has, and with a reserved name.
+const TENANT_NAMES: (&str, &str) = (
+    r#"at 1750000000000
+tick
+call n0 1 - GET /alertmanager/api/v2/alerts
+open n1 1
+bytes n1 "GET /alertmanager/api/v2/alerts HTTP/1.1\r\nX-Scope-OrgID: \r\n\r\n"
+call n 1 xxxxxxxxxxxxxxxxxxxxxxxxxxxxxxxxxxxxxxxxxxxxxxxxxxxxxxxxxxxxxxxxxxxxxxxxxxxxxxxxxxxxxxxxxxxxxxxxxxxxxxxxxxxxxxxxxxxxxxxxxxxxxxxxxxxxxxxxxxxxxxxxxxxxxx GET /alertmanager/api/v2/alerts
+pump
+call n2 1 xxxxxxxxxxxxxxxxxxxxxxxxxxxxxxxxxxxxxxxxxxxxxxxxxxxxxxxxxxxxxxxxxxxxxxxxxxxxxxxxxxxxxxxxxxxxxxxxxxxxxxxxxxxxxxxxxxxxxxxxxxxxxxxxxxxxxxxxxxxxxxxxxxxxxxx GET /alertmanager/api/v2/alerts
+pump
+call n3 1 a|b GET /alertmanager/api/v2/alerts
+pump
+call n4 1 .. GET /alertmanager/api/v2/alerts
+pump
+"#,
+    r#"reply n0 "HTTP/1.1 401 Unauthorized\r\nContent-Type: application/json\r\nContent-Length: 13\r\nConnection: close\r\n\r\n{\"code\":\"N0\"}"
+reply n1 "HTTP/1.1 400 Bad Request\r\nContent-Type: application/json\r\nContent-Length: 13\r\nConnection: close\r\n\r\n{\"code\":\"N1\"}"
+reply n "HTTP/1.1 200 OK\r\nContent-Type: application/json\r\nContent-Length: 2\r\nConnection: close\r\n\r\n[]"
+reply n2 "HTTP/1.1 400 Bad Request\r\nContent-Type: application/json\r\nContent-Length: 13\r\nConnection: close\r\n\r\n{\"code\":\"N2\"}"
+reply n3 "HTTP/1.1 400 Bad Request\r\nContent-Type: application/json\r\nContent-Length: 13\r\nConnection: close\r\n\r\n{\"code\":\"N3\"}"
+reply n4 "HTTP/1.1 400 Bad Request\r\nContent-Type: application/json\r\nContent-Length: 13\r\nConnection: close\r\n\r\n{\"code\":\"N4\"}"
+faults 0
+"#,
+);
+
+// An empty list changes nothing, and nor does a list in which one alert has no labels.
+const EMPTY_AND_REFUSED_POSTS: (&str, &str) = (
+    r#"at 1750000000000
+tick
+call p 1 a POST /alertmanager/api/v2/alerts "[]"
+pump
+call g 1 a GET /alertmanager/api/v2/alerts
+pump
+call q 1 a POST /alertmanager/api/v2/alerts "[{\"labels\":{\"a\":\"b\"}},{\"labels\":{}},{\"labels\":{\"c\":\"d\"}}]"
+pump
+call h 1 a GET /alertmanager/api/v2/alerts
+pump
+"#,
+    r#"reply p "HTTP/1.1 200 OK\r\nContent-Type: application/json\r\nContent-Length: 0\r\nConnection: close\r\n\r\n"
+reply g "HTTP/1.1 200 OK\r\nContent-Type: application/json\r\nContent-Length: 2\r\nConnection: close\r\n\r\n[]"
+reply q "HTTP/1.1 400 Bad Request\r\nContent-Type: application/json\r\nContent-Length: 13\r\nConnection: close\r\n\r\n{\"code\":\"A1\"}"
+reply h "HTTP/1.1 200 OK\r\nContent-Type: application/json\r\nContent-Length: 2\r\nConnection: close\r\n\r\n[]"
+faults 0
+"#,
+);
+
+// An alert fires until its end.
+const AN_END: (&str, &str) = (
+    r#"at 1750000000000
+tick
+call p 1 a POST /alertmanager/api/v2/alerts "[{\"labels\":{\"a\":\"b\"},\"endsAt\":\"2025-06-15T15:07:40Z\"}]"
+pump
+at 1750000059999
+tick
+pump
+call g 1 a GET /alertmanager/api/v2/alerts
+pump
+at 1750000060000
+tick
+pump
+call h 1 a GET /alertmanager/api/v2/alerts
+pump
+"#,
+    r#"reply p "HTTP/1.1 200 OK\r\nContent-Type: application/json\r\nContent-Length: 0\r\nConnection: close\r\n\r\n"
+reply g "HTTP/1.1 200 OK\r\nContent-Type: application/json\r\nContent-Length: 297\r\nConnection: close\r\n\r\n[{\"annotations\":{},\"endsAt\":\"2025-06-15T15:07:40.000Z\",\"fingerprint\":\"d2b371819297f98a\",\"generatorURL\":\"\",\"labels\":{\"a\":\"b\"},\"receivers\":[{\"name\":\"default\"}],\"startsAt\":\"2025-06-15T15:07:40.000Z\",\"status\":{\"inhibitedBy\":[],\"silencedBy\":[],\"state\":\"active\"},\"updatedAt\":\"2025-06-15T15:06:40.000Z\"}]"
+reply h "HTTP/1.1 200 OK\r\nContent-Type: application/json\r\nContent-Length: 2\r\nConnection: close\r\n\r\n[]"
+faults 0
+"#,
+);
+
+// A second post at one moment moves the moment of the update by a millisecond.
+const POSTED_TWICE: (&str, &str) = (
+    r#"at 1750000000000
+tick
+call p 1 a POST /alertmanager/api/v2/alerts "[{\"labels\":{\"a\":\"b\"}}]"
+pump
+call q 1 a POST /alertmanager/api/v2/alerts "[{\"labels\":{\"a\":\"b\"}}]"
+pump
+call g 1 a GET /alertmanager/api/v2/alerts
+pump
+"#,
+    r#"reply p "HTTP/1.1 200 OK\r\nContent-Type: application/json\r\nContent-Length: 0\r\nConnection: close\r\n\r\n"
+reply q "HTTP/1.1 200 OK\r\nContent-Type: application/json\r\nContent-Length: 0\r\nConnection: close\r\n\r\n"
+reply g "HTTP/1.1 200 OK\r\nContent-Type: application/json\r\nContent-Length: 297\r\nConnection: close\r\n\r\n[{\"annotations\":{},\"endsAt\":\"2025-06-15T15:11:40.000Z\",\"fingerprint\":\"d2b371819297f98a\",\"generatorURL\":\"\",\"labels\":{\"a\":\"b\"},\"receivers\":[{\"name\":\"default\"}],\"startsAt\":\"2025-06-15T15:06:40.000Z\",\"status\":{\"inhibitedBy\":[],\"silencedBy\":[],\"state\":\"active\"},\"updatedAt\":\"2025-06-15T15:06:40.001Z\"}]"
+faults 0
+"#,
+);
+
+// An alert with 40 labels, posted from the last to the first.
+const MANY_LABELS: (&str, &str) = (
+    r#"at 1750000000000
+tick
+call p 1 a POST /alertmanager/api/v2/alerts "[{\"labels\":{\"l39\":\"v\",\"l38\":\"v\",\"l37\":\"v\",\"l36\":\"v\",\"l35\":\"v\",\"l34\":\"v\",\"l33\":\"v\",\"l32\":\"v\",\"l31\":\"v\",\"l30\":\"v\",\"l29\":\"v\",\"l28\":\"v\",\"l27\":\"v\",\"l26\":\"v\",\"l25\":\"v\",\"l24\":\"v\",\"l23\":\"v\",\"l22\":\"v\",\"l21\":\"v\",\"l20\":\"v\",\"l19\":\"v\",\"l18\":\"v\",\"l17\":\"v\",\"l16\":\"v\",\"l15\":\"v\",\"l14\":\"v\",\"l13\":\"v\",\"l12\":\"v\",\"l11\":\"v\",\"l10\":\"v\",\"l09\":\"v\",\"l08\":\"v\",\"l07\":\"v\",\"l06\":\"v\",\"l05\":\"v\",\"l04\":\"v\",\"l03\":\"v\",\"l02\":\"v\",\"l01\":\"v\",\"l00\":\"v\"}}]"
+call g 1 a GET /alertmanager/api/v2/alerts
+"#,
+    r#"reply p "HTTP/1.1 200 OK\r\nContent-Type: application/json\r\nContent-Length: 0\r\nConnection: close\r\n\r\n"
+reply g "HTTP/1.1 200 OK\r\nContent-Type: application/json\r\nContent-Length: 689\r\nConnection: close\r\n\r\n[{\"annotations\":{},\"endsAt\":\"2025-06-15T15:11:40.000Z\",\"fingerprint\":\"3c1d79935b26728d\",\"generatorURL\":\"\",\"labels\":{\"l00\":\"v\",\"l01\":\"v\",\"l02\":\"v\",\"l03\":\"v\",\"l04\":\"v\",\"l05\":\"v\",\"l06\":\"v\",\"l07\":\"v\",\"l08\":\"v\",\"l09\":\"v\",\"l10\":\"v\",\"l11\":\"v\",\"l12\":\"v\",\"l13\":\"v\",\"l14\":\"v\",\"l15\":\"v\",\"l16\":\"v\",\"l17\":\"v\",\"l18\":\"v\",\"l19\":\"v\",\"l20\":\"v\",\"l21\":\"v\",\"l22\":\"v\",\"l23\":\"v\",\"l24\":\"v\",\"l25\":\"v\",\"l26\":\"v\",\"l27\":\"v\",\"l28\":\"v\",\"l29\":\"v\",\"l30\":\"v\",\"l31\":\"v\",\"l32\":\"v\",\"l33\":\"v\",\"l34\":\"v\",\"l35\":\"v\",\"l36\":\"v\",\"l37\":\"v\",\"l38\":\"v\",\"l39\":\"v\"},\"receivers\":[{\"name\":\"default\"}],\"startsAt\":\"2025-06-15T15:06:40.000Z\",\"status\":{\"inhibitedBy\":[],\"silencedBy\":[],\"state\":\"active\"},\"updatedAt\":\"2025-06-15T15:06:40.000Z\"}]"
+faults 0
+"#,
+);
+
+// A connection's name that is opened again while its request is being read begins anew.
+const OPENED_AGAIN: (&str, &str) = (
+    r#"open c 1
+bytes c "POST /alertmanager/api/v2/alerts HTTP/1.1\r\nX-Scope-OrgID: b\r\nContent-Length: 99\r\n\r\n[{"
+open c 1
+bytes c "GET /alertmanager/api/v2/alerts HTTP/1.1\r\nX-Scope-OrgID: a\r\n"
+bytes c "\r\n"
+bytes c "\r\n"
+"#,
+    r#"reply c "HTTP/1.1 200 OK\r\nContent-Type: application/json\r\nContent-Length: 2\r\nConnection: close\r\n\r\n[]"
+refused We5
+faults 0
+"#,
+);
+
+// The receivers are listed; a path doesn't take each method; a document without a configuration is refused, and none is
+// there to be read.
+const RECEIVERS: (&str, &str) = (
+    r#"at 1750000000000
+call r 1 a GET /alertmanager/api/v2/receivers
+call p 1 a POST /alertmanager/api/v2/receivers "{}"
+call c 1 a POST /api/v1/alerts "{}"
+call k 1 a GET /api/v1/alerts
+"#,
+    r#"reply r "HTTP/1.1 200 OK\r\nContent-Type: application/json\r\nContent-Length: 20\r\nConnection: close\r\n\r\n[{\"name\":\"default\"}]"
+reply p "HTTP/1.1 405 Method Not Allowed\r\nContent-Type: application/json\r\nContent-Length: 13\r\nConnection: close\r\n\r\n{\"code\":\"H6\"}"
+reply c "HTTP/1.1 400 Bad Request\r\nContent-Type: application/json\r\nContent-Length: 13\r\nConnection: close\r\n\r\n{\"code\":\"C2\"}"
+reply k "HTTP/1.1 404 Not Found\r\nContent-Type: application/json\r\nContent-Length: 13\r\nConnection: close\r\n\r\n{\"code\":\"K1\"}"
+faults 0
+"#,
+);
+
+// Two tenants with configurations and limits of their own, as in examples/configured.scn.
+const CONFIGURED: (&str, &str) = (
+    r#"at 1750000000000
+tick
+limits team-b 1 1000 131072 16384 60
+
+call a1 1 team-a POST /api/v1/alerts "{\"alertmanager_config\":\"{\\\"route\\\":{\\\"receiver\\\":\\\"rest\\\",\\\"routes\\\":[{\\\"receiver\\\":\\\"disks\\\",\\\"matchers\\\":[\\\"alertname=~\\\\\\\"Disk.*\\\\\\\"\\\"]}]},\\\"receivers\\\":[{\\\"name\\\":\\\"rest\\\"},{\\\"name\\\":\\\"disks\\\"}]}\"}"
+call b1 1 team-b POST /api/v1/alerts "{\"alertmanager_config\":\"{\\\"route\\\":{\\\"receiver\\\":\\\"on-call\\\"},\\\"receivers\\\":[{\\\"name\\\":\\\"on-call\\\"}]}\"}"
+
+call a2 1 team-a POST /alertmanager/api/v2/alerts "[{\"labels\":{\"alertname\":\"DiskFull\"}},{\"labels\":{\"alertname\":\"NoPing\"}}]"
+call b2 1 team-b POST /alertmanager/api/v2/alerts "[{\"labels\":{\"alertname\":\"DiskFull\"}},{\"labels\":{\"alertname\":\"NoPing\"}}]"
+call b3 1 team-b POST /alertmanager/api/v2/alerts "[{\"labels\":{\"alertname\":\"DiskFull\"}}]"
+
+call a3 1 team-a GET /alertmanager/api/v2/alerts?receiver=disks
+call a4 1 team-a GET /alertmanager/api/v2/receivers
+call b4 1 team-b GET /alertmanager/api/v2/alerts
+call b5 1 team-b DELETE /api/v1/alerts
+call b6 1 team-b GET /alertmanager/api/v2/receivers
+"#,
+    r#"reply a1 "HTTP/1.1 201 Created\r\nContent-Type: application/json\r\nContent-Length: 0\r\nConnection: close\r\n\r\n"
+reply b1 "HTTP/1.1 201 Created\r\nContent-Type: application/json\r\nContent-Length: 0\r\nConnection: close\r\n\r\n"
+reply a2 "HTTP/1.1 200 OK\r\nContent-Type: application/json\r\nContent-Length: 0\r\nConnection: close\r\n\r\n"
+reply b2 "HTTP/1.1 429 Too Many Requests\r\nContent-Type: application/json\r\nContent-Length: 14\r\nConnection: close\r\n\r\n{\"code\":\"Li1\"}"
+reply b3 "HTTP/1.1 200 OK\r\nContent-Type: application/json\r\nContent-Length: 0\r\nConnection: close\r\n\r\n"
+reply a3 "HTTP/1.1 200 OK\r\nContent-Type: application/json\r\nContent-Length: 310\r\nConnection: close\r\n\r\n[{\"annotations\":{},\"endsAt\":\"2025-06-15T15:11:40.000Z\",\"fingerprint\":\"744e61ca074bea90\",\"generatorURL\":\"\",\"labels\":{\"alertname\":\"DiskFull\"},\"receivers\":[{\"name\":\"disks\"}],\"startsAt\":\"2025-06-15T15:06:40.000Z\",\"status\":{\"inhibitedBy\":[],\"silencedBy\":[],\"state\":\"active\"},\"updatedAt\":\"2025-06-15T15:06:40.000Z\"}]"
+reply a4 "HTTP/1.1 200 OK\r\nContent-Type: application/json\r\nContent-Length: 34\r\nConnection: close\r\n\r\n[{\"name\":\"rest\"},{\"name\":\"disks\"}]"
+reply b4 "HTTP/1.1 200 OK\r\nContent-Type: application/json\r\nContent-Length: 312\r\nConnection: close\r\n\r\n[{\"annotations\":{},\"endsAt\":\"2025-06-15T15:11:40.000Z\",\"fingerprint\":\"744e61ca074bea90\",\"generatorURL\":\"\",\"labels\":{\"alertname\":\"DiskFull\"},\"receivers\":[{\"name\":\"on-call\"}],\"startsAt\":\"2025-06-15T15:06:40.000Z\",\"status\":{\"inhibitedBy\":[],\"silencedBy\":[],\"state\":\"active\"},\"updatedAt\":\"2025-06-15T15:06:40.000Z\"}]"
+reply b5 "HTTP/1.1 200 OK\r\nContent-Type: application/json\r\nContent-Length: 0\r\nConnection: close\r\n\r\n"
+reply b6 "HTTP/1.1 200 OK\r\nContent-Type: application/json\r\nContent-Length: 20\r\nConnection: close\r\n\r\n[{\"name\":\"default\"}]"
+faults 0
+"#,
+);
+
+// A group's notice is tried three times: the receiver answers 500, then not at all, then 200. A minute after its first
+// notice the group tells that its alert is resolved.
+const NOTIFIED: (&str, &str) = (
+    r#"at 1750000000000
+tick
+hook 500
+call c 1 shop POST /api/v1/alerts "{\"alertmanager_config\":\"{\\\"route\\\":{\\\"receiver\\\":\\\"pager\\\",\\\"group_wait\\\":\\\"10s\\\",\\\"group_interval\\\":\\\"1m\\\"},\\\"receivers\\\":[{\\\"name\\\":\\\"pager\\\",\\\"webhook_configs\\\":[{\\\"url\\\":\\\"http://localhost:8080/pager\\\"}]}]}\"}"
+call p 1 shop POST /alertmanager/api/v2/alerts "[{\"labels\":{\"alertname\":\"DiskFull\"},\"startsAt\":\"2025-06-15T15:06:40Z\",\"endsAt\":\"2025-06-15T15:07:40Z\"}]"
+at 1750000010000
+tick
+hook none
+at 1750000019999
+tick
+at 1750000020000
+tick
+hook 200
+at 1750000040000
+tick
+at 1750000070000
+tick
+"#,
+    r#"reply c "HTTP/1.1 201 Created\r\nContent-Type: application/json\r\nContent-Length: 0\r\nConnection: close\r\n\r\n"
+reply p "HTTP/1.1 200 OK\r\nContent-Type: application/json\r\nContent-Length: 0\r\nConnection: close\r\n\r\n"
+notice shop 1 1 1 http://localhost:8080/pager "POST /pager HTTP/1.1\r\nHost: localhost:8080\r\nContent-Type: application/json\r\nContent-Length: 418\r\nConnection: close\r\n\r\n{\"alerts\":[{\"annotations\":{},\"endsAt\":\"0001-01-01T00:00:00Z\",\"fingerprint\":\"744e61ca074bea90\",\"generatorURL\":\"\",\"labels\":{\"alertname\":\"DiskFull\"},\"startsAt\":\"2025-06-15T15:06:40.000Z\",\"status\":\"firing\"}],\"commonAnnotations\":{},\"commonLabels\":{\"alertname\":\"DiskFull\"},\"externalURL\":\"http://localhost/alertmanager\",\"groupKey\":\"0{}\",\"groupLabels\":{},\"receiver\":\"pager\",\"status\":\"firing\",\"truncatedAlerts\":0,\"version\":\"4\"}"
+notice shop 1 1 2 http://localhost:8080/pager "POST /pager HTTP/1.1\r\nHost: localhost:8080\r\nContent-Type: application/json\r\nContent-Length: 418\r\nConnection: close\r\n\r\n{\"alerts\":[{\"annotations\":{},\"endsAt\":\"0001-01-01T00:00:00Z\",\"fingerprint\":\"744e61ca074bea90\",\"generatorURL\":\"\",\"labels\":{\"alertname\":\"DiskFull\"},\"startsAt\":\"2025-06-15T15:06:40.000Z\",\"status\":\"firing\"}],\"commonAnnotations\":{},\"commonLabels\":{\"alertname\":\"DiskFull\"},\"externalURL\":\"http://localhost/alertmanager\",\"groupKey\":\"0{}\",\"groupLabels\":{},\"receiver\":\"pager\",\"status\":\"firing\",\"truncatedAlerts\":0,\"version\":\"4\"}"
+notice shop 1 1 3 http://localhost:8080/pager "POST /pager HTTP/1.1\r\nHost: localhost:8080\r\nContent-Type: application/json\r\nContent-Length: 418\r\nConnection: close\r\n\r\n{\"alerts\":[{\"annotations\":{},\"endsAt\":\"0001-01-01T00:00:00Z\",\"fingerprint\":\"744e61ca074bea90\",\"generatorURL\":\"\",\"labels\":{\"alertname\":\"DiskFull\"},\"startsAt\":\"2025-06-15T15:06:40.000Z\",\"status\":\"firing\"}],\"commonAnnotations\":{},\"commonLabels\":{\"alertname\":\"DiskFull\"},\"externalURL\":\"http://localhost/alertmanager\",\"groupKey\":\"0{}\",\"groupLabels\":{},\"receiver\":\"pager\",\"status\":\"firing\",\"truncatedAlerts\":0,\"version\":\"4\"}"
+notice shop 1 2 1 http://localhost:8080/pager "POST /pager HTTP/1.1\r\nHost: localhost:8080\r\nContent-Type: application/json\r\nContent-Length: 426\r\nConnection: close\r\n\r\n{\"alerts\":[{\"annotations\":{},\"endsAt\":\"2025-06-15T15:07:40.000Z\",\"fingerprint\":\"744e61ca074bea90\",\"generatorURL\":\"\",\"labels\":{\"alertname\":\"DiskFull\"},\"startsAt\":\"2025-06-15T15:06:40.000Z\",\"status\":\"resolved\"}],\"commonAnnotations\":{},\"commonLabels\":{\"alertname\":\"DiskFull\"},\"externalURL\":\"http://localhost/alertmanager\",\"groupKey\":\"0{}\",\"groupLabels\":{},\"receiver\":\"pager\",\"status\":\"resolved\",\"truncatedAlerts\":0,\"version\":\"4\"}"
+faults 0
+"#,
+);
+
+// The request that reads the alerts of the tenant `a`.
+const READ: &str =
+    "GET /alertmanager/api/v2/alerts HTTP/1.1\r\nHost: amring\r\nX-Scope-OrgID: a\r\nContent-Length: 0\r\n\r\n";
+
+/// The settings of a command line without options.
+pub fn setup() -> Result<Setup, Fail> {
+    Ok(Setup::new([0; 32], &[1, 2, 3], 512, 1).ok_or("no settings")?)
+}
+
+/// Plays a scenario, and gives how it ended and what it wrote.
+fn played(alloc: Global, scenario: &[u8]) -> Result<(Played, Vec<u8>), Fail> {
+    let setup = setup()?;
+    let mut written = Vec::new(alloc);
+    let errors = &mut Vec::new(alloc);
+    let played = play(alloc, setup, &mut Direct, scenario, &mut written, errors)?;
+    Ok((played, written))
+}
+
+#[test]
+fn scenarios(rt: HostRuntime) -> Result<(), Fail> {
+    for (scenario, wanted) in [
+        POSTED_AND_READ,
+        TENANT_NAMES,
+        EMPTY_AND_REFUSED_POSTS,
+        AN_END,
+        POSTED_TWICE,
+        MANY_LABELS,
+        OPENED_AGAIN,
+        RECEIVERS,
+        CONFIGURED,
+        NOTIFIED,
+    ] {
+        let (end, written) = played(rt.alloc(), scenario.as_bytes())?;
+        assert_eq!(rt; end, Played::All, "{scenario}");
+        assert!(rt; written.as_slice() == wanted.as_bytes(), "{scenario}");
+    }
+    Ok(())
+}
+
+/// A `bytes` line for each piece of a text.
+fn push_pieces(
+    alloc: Global,
+    lines: &mut String,
+    connection: &str,
+    text: &str,
+    size: usize,
+) -> Result<(), Fail> {
+    for piece in text.as_bytes().chunks(size.max(1)) {
+        let piece = Value::String(String::from_utf8_lossy(alloc, piece)?).to_string(alloc)?;
+        lines.push_str(format!(in alloc; "bytes {connection} {piece}\n")?.as_str())?;
+    }
+    Ok(())
+}
+
+#[test]
+fn a_request_may_be_cut_anywhere(rt: HostRuntime) -> Result<(), Fail> {
+    let alloc = rt.alloc();
+    let (whole, wanted) = POSTED_AND_READ;
+    let posts = whole.split_once("call g").ok_or("no second request")?.0;
+    for size in 1..READ.len() {
+        let mut scenario = String::from_str(alloc, posts)?;
+        scenario.push_str("open g 1\n")?;
+        push_pieces(alloc, &mut scenario, "g", READ, size)?;
+        let (end, written) = played(alloc, scenario.as_bytes())?;
+        assert_eq!(rt; end, Played::All, "pieces of {size}");
+        assert!(rt; written.as_slice() == wanted.as_bytes(), "pieces of {size}");
+    }
+    Ok(())
+}
+
+/// A scenario in which a post comes in five pieces.
+fn many_pieces(alloc: Global) -> Result<String, Fail> {
+    let (whole, _) = POSTED_AND_READ;
+    let (posts, reads) = whole.split_once("]\"").ok_or("no post")?;
+    let mut scenario = String::from_str(alloc, posts)?;
+    for _ in 0..20_000 {
+        scenario.push(' ')?;
+    }
+    scenario.push_str("]\"")?;
+    scenario.push_str(reads)?;
+    Ok(scenario)
+}
+
+#[test]
+fn a_request_of_many_pieces(rt: HostRuntime) -> Result<(), Fail> {
+    let alloc = rt.alloc();
+    let (_, wanted) = POSTED_AND_READ;
+    let scenario = many_pieces(alloc)?;
+    let (end, written) = played(alloc, scenario.as_bytes())?;
+    assert_eq!(rt; end, Played::All);
+    assert!(rt; written.as_slice() == wanted.as_bytes());
+    Ok(())
+}
+
+#[test]
+fn bad_lines(rt: HostRuntime) -> Result<(), Fail> {
+    for line in [
+        b"ticks".as_slice(),
+        b"tick ",
+        b" tick",
+        b"tick\r",
+        b"TICK",
+        b"at",
+        b"at ",
+        b"at +1",
+        b"at -1",
+        b"at 1 ",
+        b"at 18446744073709551616",
+        b"open c",
+        b"open  1",
+        b"open c 1 ",
+        b"open c one",
+        b"bytes c",
+        b"bytes c ",
+        b"bytes c 1",
+        b"bytes c x",
+        b"bytes c \"\\q\"",
+        b"bytes c \"\\ud800\"",
+        b"bytes c \"a\" \"b\"",
+        b"call c 1 a GET",
+        b"call c 1 a GET /x ",
+        b"call c 1  GET /x",
+        b"call c 1 a GET /x []",
+        b"join 4",
+        b"hook",
+        b"hook none ",
+        b"# a comment\xff",
+        b"open \xff 1",
+    ] {
+        let mut scenario = b"# first\n\nopen c 2\n".to_vec(rt.alloc())?;
+        scenario.extend_from_slice(line)?;
+        scenario.extend_from_slice(b"\nopen c 2\n")?;
+        let (end, written) = played(rt.alloc(), scenario.as_slice())?;
+        let is_comment = line.starts_with(b"#");
+        let wanted_end = if is_comment {
+            Played::All
+        } else {
+            Played::BadLine(4)
+        };
+        let wanted = if is_comment {
+            "refused We2\nrefused We2\nfaults 0\n"
+        } else {
+            "refused We2\n"
+        };
+        assert_eq!(rt; end, wanted_end, "{line:?}");
+        assert!(rt; written.as_slice() == wanted.as_bytes(), "{line:?}");
+    }
+    Ok(())
+}
+
+#[test]
+fn lines_that_are_taken(rt: HostRuntime) -> Result<(), Fail> {
+    for (scenario, wanted) in [
+        ("", "faults 0\n"),
+        ("pump", "faults 0\n"),
+        ("\n\n# tick\n#", "faults 0\n"),
+        (
+            "at 00000000000000000000007\ntick\nat 6\ntick",
+            "refused We1\nfaults 0\n",
+        ),
+        ("at 250000000000001\ntick", "refused We1\nfaults 0\n"),
+        (
+            "open c 9\nopen c 0\nopen c 300\nopen c 18446744073709551615",
+            "refused We2\nrefused We2\nrefused We2\nrefused We2\nfaults 0\n",
+        ),
+        ("bytes c \t\"a\" \r\n", "refused We5\nfaults 0\n"),
+        ("bytes c \"\"", "faults 0\n"),
+        ("call c 2 - GET /x \"body\"", "refused We2\nfaults 0\n"),
+        (
+            "hook 100\nhook 999\nhook none\nhook 99\nhook 1000",
+            "faults 0\n",
+        ),
+    ] {
+        let (end, written) = played(rt.alloc(), scenario.as_bytes())?;
+        assert_eq!(rt; end, Played::All, "{scenario}");
+        assert!(rt; written.as_slice() == wanted.as_bytes(), "{scenario}");
+    }
+    Ok(())
+}
+
+#[test]
+fn pieces_end_with_the_answer(rt: HostRuntime) -> Result<(), Fail> {
+    let alloc = rt.alloc();
+    let mut scenario = String::from_str(alloc, "open c 1\nbytes c \"?\\r\\n\\r\\n")?;
+    for _ in 0..9000 {
+        scenario.push('x')?;
+    }
+    scenario.push_str("\"\nbytes c \"x\"\nbytes d \"")?;
+    for _ in 0..9000 {
+        scenario.push('x')?;
+    }
+    scenario.push_str("\"\n")?;
+    let (end, written) = played(alloc, scenario.as_bytes())?;
+    let wanted =
+        r#"reply c "HTTP/1.1 400 Bad Request\r\nContent-Type: application/json\r\nContent-Length: 13\r\nConnection: close\r\n\r\n{\"code\":\"H1\"}"
+refused We5
+refused We5
+faults 0
+"#;
+    assert_eq!(rt; end, Played::All);
+    assert!(rt; written.as_slice() == wanted.as_bytes());
+    Ok(())
+}

@@ -1,0 +1,108 @@
+//! A world that is served on a port of this machine, turn by turn.
+
+use super::setup;
+use am_gateway::Gateway;
+use am_server::{Server, listen};
+use am_world::World;
+use std::alloc::Global;
+use std::io;
+use std::io::{Read, Write};
+use std::net::{Ipv4Addr, SocketAddr, TcpListener, TcpStream};
+use std::test::Fail;
+use std::time::Duration;
+
+// A POST of an alert, in two pieces.
+const FIRST_PIECE: &[u8] =
+    b"POST /alertmanager/api/v2/alerts HTTP/1.1\r\nX-Scope-OrgID: a\r\nContent-Len";
+
+const SECOND_PIECE: &[u8] = b"gth: 22\r\n\r\n[{\"labels\":{\"b\":\"c\"}}]";
+
+/// The server, and what a test does with it.
+#[derive(Drop)]
+struct Stand<'s, 'w> {
+    rt: &'s HostRuntime,
+    address: SocketAddr,
+    server: Server<'s, Gateway<'w>>,
+}
+
+impl Stand<'_, '_> {
+    fn connect(&self) -> io::Result<TcpStream> {
+        let client = TcpStream::connect(self.rt, self.address)?;
+        client.set_read_timeout(Some(Duration::from_secs(5)))?;
+        Ok(client)
+    }
+
+    /// Some turns: those in which the system tells of all that came, and one more.
+    fn turns(&mut self) -> io::Result<()> {
+        for _ in 0..4u8 {
+            self.server.turn(self.rt)?;
+        }
+        Ok(())
+    }
+
+    /// Sends a request in two pieces, each served before the next is sent, and gives the reply.
+    fn ask(&mut self, alloc: Global, first: &[u8], second: &[u8]) -> io::Result<String> {
+        let mut client = self.connect()?;
+        client.write_all(first)?;
+        self.turns()?;
+        client.write_all(second)?;
+        self.turns()?;
+        let mut reply = String::new(alloc);
+        client.read_to_string(&mut reply)?;
+        Ok(reply)
+    }
+}
+
+fn post(alloc: Global, path: &str, body: &str) -> io::Result<String> {
+    let length = body.len();
+    Ok(format!(in alloc;
+        "POST {path} HTTP/1.1\r\nX-Scope-OrgID: a\r\nContent-Length: {length}\r\n\r\n{body}"
+    )?)
+}
+
+// A whole request, one in two pieces, and a notice, beside a client that stays silent.
+#[test]
+fn serves_requests_and_tells_a_webhook(rt: HostRuntime) -> Result<(), Fail> {
+    let alloc = rt.alloc();
+    let any = SocketAddr::from((Ipv4Addr::LOCALHOST, 0));
+    let hook = TcpListener::bind(&rt, any)?;
+    let listener = listen(&rt, any)?;
+    let address = listener.local_addr()?;
+    let mut world = World::open(alloc, setup()?)?;
+    let mut gateway = Gateway::new(alloc, &mut world, 1)?;
+    let server = Server::open(&rt, alloc, listener, &mut gateway, Some(3))?;
+    let mut stand = Stand {
+        rt: &rt,
+        address,
+        server,
+    };
+    let silent = stand.connect()?;
+
+    let port = hook.local_addr()?.port();
+    let body = format!(in alloc;
+        "{{\"alertmanager_config\":\"{{\\\"route\\\":{{\\\"receiver\\\":\\\"r\\\",\\\"group_wait\\\":\\\"0s\\\"}},\\\"receivers\\\":[{{\\\"name\\\":\\\"r\\\",\\\"webhook_configs\\\":[{{\\\"url\\\":\\\"http://127.0.0.1:{port}/hook\\\"}}]}}]}}\"}}"
+    )?;
+    let whole = post(alloc, "/api/v1/alerts", body.as_str())?;
+    let reply = stand.ask(alloc, whole.as_bytes(), b"")?;
+    assert!(rt; reply.starts_with("HTTP/1.1 201 "));
+
+    let reply = stand.ask(alloc, FIRST_PIECE, SECOND_PIECE)?;
+    assert!(rt; reply.starts_with("HTTP/1.1 200 "));
+
+    let reply = stand.ask(alloc, b"GET /ready HTTP/1.1\r\n\r\n", b"")?;
+    assert!(rt; reply.ends_with("ready"));
+    assert!(rt; stand.server.is_done());
+
+    let (mut call, _) = hook.accept()?;
+    let mut request = [0u8; 20];
+    call.read_exact(&mut request)?;
+    assert_eq!(rt; &request, b"POST /hook HTTP/1.1\r");
+    call.write_all(b"HTTP/1.1 200 OK\r\nContent-Length: 0\r\n\r\n")?;
+    stand.turns()?;
+    assert_eq!(rt; stand.server.calls(), 0);
+    drop(stand);
+    drop(gateway);
+    assert_eq!(rt; world.faults(), 0);
+    drop(silent);
+    Ok(())
+}

@@ -1,0 +1,43 @@
+//! What a server serves.
+
+use am_serve::Host;
+use am_text::{Octets, Text};
+use std::alloc::AllocError;
+
+/// A notice whose call wasn't begun yet.
+#[derive(Debug, Drop)]
+pub struct Notice<N: Drop> {
+    /// What the service knows the call by.
+    pub name: N,
+    /// The URL as it is written.
+    pub url: Text,
+    /// The whole request.
+    pub request: Octets,
+}
+
+/// Who answers a server's clients, is told the time, and has notices that go out.
+pub trait Service: Host {
+    /// What the service knows a call by.
+    type Name: Drop;
+
+    /// Whether it serves: no fault stopped it.
+    fn is_up(&self) -> bool;
+
+    /// All that comes from here on happens at this moment, in milliseconds since 1970.
+    fn set_moment(&mut self, moment: u64);
+
+    /// Does what is due at the moment, where the clock may go on.
+    ///
+    /// # Errors
+    /// Out of memory.
+    fn tick(&mut self) -> Result<(), AllocError>;
+
+    /// The next notice whose call is to begin, where so many calls more may be under way.
+    fn next_notice(&mut self, free: usize) -> Option<Notice<Self::Name>>;
+
+    /// Takes what came of a call: the status of the answer, or `None` where there was none.
+    ///
+    /// # Errors
+    /// Out of memory.
+    fn end_call(&mut self, name: Self::Name, status: Option<u16>) -> Result<(), AllocError>;
+}
