@@ -1,5 +1,5 @@
 -- Why queries are refused.
-use Rattle.std.proofs.Common.{◌≡◌, inl, inr, ℕ, List, [], ◌∷◌, append-nil, Option, IsSome, Result, length, ◌≤◌, None, Ok, Err, false, true, ap, arith, refl, sym, subst, ◌∙◌}
+use Rattle.std.proofs.Common.{◌≡◌, ◌⊎◌, inl, inr, ℕ, List, [], ◌∷◌, append-nil, Option, IsSome, Result, length, ◌≤◌, None, Ok, Err, false, true, ap, arith, refl, sym, subst, ◌∙◌}
 use Rattle.sqlite.specs.declared.types.Value.TheVariants.{Text}
 use Rattle.sqlite.specs.declared.error.Error.{Error}
 use Rattle.sqlite_trees.specs.declared.error.StoreError.{StoreError}
@@ -7,7 +7,7 @@ use Rattle.sqlite_trees.specs.declared.error.StoreError.TheVariants.{OutOfMemory
 use Rattle.sqlite.specs.Order.{Row}
 use Rattle.sqlite.specs.Effect.{Database, RefusesQuery, RefusesToRead}
 use Rattle.sqlite.specs.Listing.{reads_listing, understood, IsSourceOf}
-use Rattle.sqlite.specs.State.{FailsToQuery, HasCause, IsNotRun, IsNoStatement, State, store_error}
+use Rattle.sqlite.specs.State.{FailsToQuery, HasCause, IsNotRun, IsNoStatement, IsTooLate, State, store_error}
 use Rattle.sqlite.specs.Command.TheVariants.{Select}
 use Rattle.sqlite.specs.Query.{Query}
 use Rattle.sqlite_sql.specs.Query.{has_no_fold}
@@ -17,11 +17,11 @@ use Rattle.sqlite_resolve.specs.declared.compiled.Compiled.{Compiled}
 use Rattle.sqlite_resolve.specs.declared.error.CompileError.{CompileError}
 use Rattle.sqlite.proofs.Callers.{IsPlain, command_of}
 use Rattle.sqlite_tied.specs.Compute.{everything}
-use Rattle.am_store.proofs.Compiled.{select_config_is, select_config_plain, select_config_unlisted, select_silences_is, select_silences_plain, select_silences_unlisted}
+use Rattle.am_store.proofs.Compiled.{select_config_is, select_config_plain, select_config_unlisted, select_config_stamp_is, select_config_stamp_plain, select_config_stamp_unlisted, select_silence_stamp_is, select_silence_stamp_plain, select_silence_stamp_unlisted, select_silences_is, select_silences_plain, select_silences_unlisted}
 use Rattle.am_store.proofs.CompiledOpening.{select_all_configs_is, select_all_configs_plain, select_all_configs_unlisted, select_all_silences_is, select_all_silences_plain, select_all_silences_unlisted, select_config_tenants_is, select_config_tenants_plain, select_config_tenants_unlisted, select_silence_tenants_is, select_silence_tenants_plain, select_silence_tenants_unlisted, select_version_is, select_version_plain, select_version_unlisted}
 use Rattle.am_store.specs.Failing.{IsExcused, IsQuery, MayFail}
 use Rattle.am_store.specs.Tables.{store_schema}
-use Rattle.am_store.specs.Texts.{select_all_configs, select_all_silences, select_config, select_config_tenants, select_silence_tenants, select_silences, select_version}
+use Rattle.am_store.specs.Texts.{select_all_configs, select_all_silences, select_config, select_config_stamp, select_config_tenants, select_silence_stamp, select_silence_tenants, select_silences, select_version}
 
 -- ---- why a statement fails
 
@@ -68,6 +68,13 @@ module _ (old new : State) where
         let same : h.0 ≡ query.compiled = (let e = sym h.1.is ∙ here in cc) in
         let it = rw (same, query.plain.0, query.plain.1, append-nil params) at h.2 in
         inr (inr (inr (at_limit it.0 e it.1 it.2)))
+
+    -- a query of a transaction
+    pub late_excused : (e : Error) → FailsToQuery sql params old new e ⊎ IsTooLate sql params old new e → IsExcused old new e
+    late_excused e (inl failed) = query_excused e failed
+    late_excused e (inr late) =
+        let same : late.0 ≡ query.compiled = (let e = sym late.1.is ∙ here in cc) in
+        absurd (let no = rw (same, query.plain.0) at late.2 in cc)
 
 -- ---- the queries of a store
 
@@ -122,6 +129,14 @@ given_tenant_silences : IsGiven select_silences 1 (understood store_schema selec
 unfolding understood everything
 given_tenant_silences = (omega arith, refl)
 
+given_config_stamp : IsGiven select_config_stamp 1 (understood store_schema select_config_stamp)
+unfolding understood everything
+given_config_stamp = (omega arith, refl)
+
+given_silence_stamp : IsGiven select_silence_stamp 2 (understood store_schema select_silence_stamp)
+unfolding understood everything
+given_silence_stamp = (omega arith, refl)
+
 pub asks_version : IsQuery select_version []
 asks_version = from select_version [] _ _ select_version_unlisted refl refl refl _ refl select_version_is select_version_plain given_version
 
@@ -143,3 +158,9 @@ module _ (t : List ℕ) where
 
   pub asks_tenant_silences : IsQuery select_silences (Text t ∷ [])
   asks_tenant_silences = from select_silences (Text t ∷ []) _ _ select_silences_unlisted refl refl refl _ refl select_silences_is select_silences_plain given_tenant_silences
+
+  pub asks_config_stamp : IsQuery select_config_stamp (Text t ∷ [])
+  asks_config_stamp = from select_config_stamp (Text t ∷ []) _ _ select_config_stamp_unlisted refl refl refl _ refl select_config_stamp_is select_config_stamp_plain given_config_stamp
+
+  pub asks_silence_stamp : (id : List ℕ) → IsQuery select_silence_stamp (Text t ∷ Text id ∷ [])
+  asks_silence_stamp id = from select_silence_stamp (Text t ∷ Text id ∷ []) _ _ select_silence_stamp_unlisted refl refl refl _ refl select_silence_stamp_is select_silence_stamp_plain given_silence_stamp

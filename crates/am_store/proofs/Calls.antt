@@ -117,6 +117,15 @@ module _ (old new : State) (count : ℕ) where
       deletes (codes "silence") 3 silence_columns (1 ∷ 2 ∷ []) ((1 ∷ 2 ∷ []) ∷ []) (plain ∷ []) 2 refl (λ olds news. refl) delete_silence (Text t ∷ Text id ∷ []) old new store.schema delete_silence_plain count
       of_silence delete_silence_is refl (all_weaker IsSilenceRow HasId silence_id (old.now.trees 3) store.silences) store.silences_apart h
 
+  pub silence_sound : (t id : List ℕ) → IsStore old.now → Executes delete_silence (Text t ∷ Text id ∷ []) old new (Ok count) → IsDatabase new.now
+  silence_sound t id store h = (runs_as delete_silence (Text t ∷ Text id ∷ []) old new store_schema store.schema _ delete_silence_is delete_silence_plain count h).sound
+
+  pub put_config_sound : (t : List ℕ) (stamp : Stamp) (body : Option (List ℕ)) → IsStore old.now → Executes insert_config (config_fields t stamp body) old new (Ok count) → IsDatabase new.now
+  put_config_sound t stamp body store h = (runs_as insert_config (config_fields t stamp body) old new store_schema store.schema _ insert_config_is insert_config_plain count h).sound
+
+  pub put_silence_sound : (t : List ℕ) (stamp : Stamp) (s : SilenceText) → IsStore old.now → Executes insert_silence (silence_fields t stamp s) old new (Ok count) → IsDatabase new.now
+  put_silence_sound t stamp s store h = (runs_as insert_silence (silence_fields t stamp s) old new store_schema store.schema _ insert_silence_is insert_silence_plain count h).sound
+
   pub took_out_silences : (t : List ℕ) → IsStore old.now → Executes delete_silences (Text t ∷ []) old new (Ok count) → TakesOut 3 (hit of_tenant (Text t ∷ [])) old.now new.now
   took_out_silences t store h =
       deletes (codes "silence") 3 silence_columns (1 ∷ 2 ∷ []) ((1 ∷ 2 ∷ []) ∷ []) (plain ∷ []) 2 refl (λ olds news. refl) delete_silences (Text t ∷ []) old new store.schema delete_silences_plain count

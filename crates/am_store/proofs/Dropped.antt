@@ -1,5 +1,5 @@
 -- Why a deletion is refused.
-use Rattle.std.proofs.Common.{◌≡◌, inl, inr, ℕ, ℤ, zero, suc, ◌==◌, ◌||◌, Bool, true, false, not, ◌&&◌, codes, List, [], ◌∷◌, length, append-nil, eqb-true, slice_get, Option, IsSome, None, Some, Ok, Err, Result, ap, arith, length-append, refl, sym, subst, ◌∙◌}
+use Rattle.std.proofs.Common.{◌≡◌, inl, inr, ℕ, ℤ, zero, suc, ◌==◌, ◌||◌, Bool, true, false, not, ◌&&◌, codes, List, [], ◌∷◌, length, eqb-true, slice_get, Option, IsSome, None, Some, Err, ap, arith, length-append, refl, sym, subst}
 use Rattle.std.specs.List.{AllByRecursion, list_any}
 use Rattle.std.proofs.lemmas.Bool.{cases_Bool, not-true, both_ways, false_from_ne_true}
 use Rattle.sqlite_value.specs.declared.keys.Order.{Order}
@@ -9,13 +9,12 @@ use Rattle.sqlite.specs.Command.TheVariants.{Delete}
 use Rattle.sqlite.specs.Query.{Query}
 use Rattle.sqlite.specs.Rows.{Queried}
 use Rattle.sqlite.specs.Listing.{understood}
-use Rattle.sqlite.specs.State.{EndsScope, Escapes, ExecutesIn, ExecutesInside, IsMisplaced, RunsAlone, State, mode_of, text_of}
+use Rattle.sqlite.specs.State.{Escapes, ExecutesInside, IsMisplaced, State}
 use Rattle.sqlite.proofs.Callers.{IsPlain, command_of}
-use Rattle.sqlite_resolve.specs.declared.compiled.Compiled.{Compiled}
-use Rattle.sqlite_resolve.specs.declared.error.CompileError.{CompileError}
 use Rattle.sqlite_schema.specs.declared.program.Program.{Program}
-use Rattle.am_store.specs.Failing.{IsExcused, MayFail}
-use Rattle.am_store.proofs.Asked.{IsGiven, by_cause, not_run, refuses_query}
+use Rattle.am_store.specs.Failing.{IsExcused}
+use Rattle.am_store.proofs.Asked.{IsGiven, refuses_query}
+use Rattle.am_store.proofs.Executed.{statement_excused}
 use Rattle.sqlite.specs.Rowids.TheVariants.{Given}
 use Rattle.sqlite.specs.Does.{Does}
 use Rattle.sqlite.specs.Edit.{edit_of, without_all}
@@ -79,7 +78,7 @@ all_true : (rows : List Row) → AllByRecursion (λ row. true ≡ true) rows
 all_true [] = tt
 all_true (r ∷ rs) = (refl, all_true rs)
 
-refers : (among : Among) (db : Trees) → Refers among store_schema db
+pub refers : (among : Among) (db : Trees) → Refers among store_schema db
 refers among db = (all_true (db 0), (all_true (db 1), (all_true (db 3), tt)))
 
 module _ (name : List ℕ) (tree : ℕ) (columns : List Column) (primary : List ℕ) (uniques : List (List ℕ)) (orders : List Order) (at : ℕ)
@@ -155,34 +154,12 @@ module _ (old new : State) (sql : List ℕ) (params : Row) (has : old.now.schema
     (at : ℕ) (p : Program) (is : command_of (understood store_schema sql) ≡ Delete at p)
     (stops : (text : List ℕ) (stop : Option Error)
     → Does old.step_limit (record { keys = Enforced; in_doubt = false; may_wait = false }) params (record { schema = store_schema; trees = old.now.trees }) text None (Delete at p) (Err stop) → IsSome old.step_limit) where
-  limited : (text : List ℕ) (stop : Option Error) → Does old.step_limit (mode_of old) params old.now text None (Delete at p) (Err stop) → MayFail old new
-  limited text stop does =
-      inr (inr (stops text stop (subst (λ s. Does old.step_limit (mode_of old) params (record old.now { schema = s }) text None (Delete at p) (Err stop)) has does)))
-
-  ran : (c : Compiled) (e : Error) → c.command ≡ Delete at p → c.returning ≡ None → RunsAlone false old new sql c params (Err e) → IsExcused old new e
-  ran c e command bare h = elim (rw (command, bare) at h) [
-    | inl refused ↦ elim refused.0 [ inl misplaced ↦ absurd (not_misplaced old at p e misplaced) | inr does ↦ inr (limited (text_of sql c) (Some e) does.1) ]
-    | inr failed ↦ by_cause old new _ (limited (text_of sql c) None) e failed.0 failed.1 failed.2
-  ]
-
   pub deletion_excused : (e : Error) → ExecutesInside 0 sql params old new (Err e) → IsExcused old new e
-  unfolding ExecutesIn EndsScope
-  deletion_excused e (inl (inl stopped, _)) =
-      let known = understood_as in not_run old new sql params known.0 (ap (λ s. understood s sql) has ∙ known.1) (subst (IsGiven sql (length params)) known.1 given) (subst IsPlain known.1 plain).1 e stopped
-    where
-      value : (r : Result Compiled CompileError) → IsPlain r → (c : Compiled) × (r ≡ Ok c)
-      value (Ok c) bare = (c, refl)
-      value (Err e) bare = absurd bare
-
-      understood_as : (c : Compiled) × (understood store_schema sql ≡ Ok c)
-      understood_as = value (understood store_schema sql) plain
-  deletion_excused e (inl (inr h, _)) =
-      let known = sym h.1.is ∙ ap (λ s. understood s sql) has in
-      let bare = subst IsPlain (sym known) plain in
-      ran h.0 e (ap command_of known ∙ is) bare.0 (rw (bare.1, append-nil params) at h.2)
-  deletion_excused e (inr (ends, _, _)) =
-      let known = sym ends.1.is ∙ ap (λ s. understood s sql) has in
-      absurd (no_escape old at p (subst (Escapes 0 old) (ap command_of known ∙ is) ends.2))
+  deletion_excused e h =
+      elim (statement_excused old new sql params has given plain (Delete at p) is (λ c command bare. rw (command, bare) refl) (not_misplaced old at p) (no_escape old at p) ⊥ (λ text stop does. inl (stops text stop does)) e h) [
+        | inl excused ↦ excused
+        | inr none ↦ absurd none
+      ]
 
 -- ---- the deletions of a store
 

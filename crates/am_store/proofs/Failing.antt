@@ -11,8 +11,9 @@ use Rattle.sqlite.specs.declared.error.ErrorCode.TheVariants as code
 use Rattle.sqlite.specs.State.{HasCleanDisk, IsUnchanged, State, Survives}
 use Rattle.sqlite.specs.Steps.{FailsToCommit}
 use Rattle.sqlite.specs.Tree.{Trees}
-use Rattle.am_store.specs.Failing.{FailsForCause, IsCaused, IsExcused, MayFail}
-use Rattle.am_store.specs.Reading.{GivesValue}
+use Rattle.am_store.specs.Failing.{FailsForCause, FailsToOpen, IsCaused, IsExcused, IsJudged, MayFail}
+use Rattle.am_store.specs.Reading.{GivesValue, RefusesForeign}
+use Rattle.am_store.specs.Rows.{IsStore}
 use Rattle.am_store.specs.declared.refusal.StoreRefusal.{StoreRefusal}
 use Rattle.am_store.specs.declared.refusal.StoreRefusal.TheVariants as refusal
 use Rattle.am_store.proofs.Asked.{by_cause}
@@ -30,6 +31,16 @@ given_fails old new (Ok x) given = tt
 given_fails old new (Err OutOfMemory) given = tt
 given_fails old new (Err (Refused why)) given = absurd (let no = given in cc)
 
+-- what judges the rows that were read
+pub tested : {X : Type 0} (old new : State) (r : Result X (Failure StoreRefusal)) → RefusesForeign r → (IsStore old.now → GivesValue r) → FailsToOpen old new r
+tested old new (Ok x) foreign given = tt
+tested old new (Err OutOfMemory) foreign given = tt
+tested old new (Err (Refused why)) foreign given = inl (foreign, λ store. let no = given store in cc)
+
+pub caused_judged : (old new : State) (failure : Failure StoreRefusal) → IsCaused old new failure → IsJudged old new failure
+caused_judged old new (Refused why) caused = inr caused
+caused_judged old new OutOfMemory caused = tt
+
 -- ---- one read after another that changed nothing
 
 module _ (a b c : State) (P : Trees → Type 0) (same : IsUnchanged a b) (s : Survives a b P) where
@@ -42,9 +53,14 @@ module _ (a b c : State) (P : Trees → Type 0) (same : IsUnchanged a b) (s : Su
   caused_then (Refused why) is = (is.0, may_fail is.1)
   caused_then OutOfMemory is = tt
 
-  pub fails_then : {X : Type 0} (r : Result X (Failure StoreRefusal)) → FailsForCause b c r → FailsForCause a c r
-  fails_then (Ok x) h = tt
-  fails_then (Err failure) h = caused_then failure h
+  pub judged_then : (failure : Failure StoreRefusal) → IsJudged b c failure → IsJudged a c failure
+  judged_then (Refused why) (inl foreign) = inl (foreign.0, λ store. foreign.1 (subst IsStore (sym same.0.now_is) store))
+  judged_then (Refused why) (inr caused) = inr (caused.0, may_fail caused.1)
+  judged_then OutOfMemory is = tt
+
+  pub opens_then : {X : Type 0} (r : Result X (Failure StoreRefusal)) → FailsToOpen b c r → FailsToOpen a c r
+  opens_then (Ok x) h = tt
+  opens_then (Err failure) h = judged_then failure h
 
 -- ---- a call within others
 

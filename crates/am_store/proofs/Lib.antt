@@ -1,7 +1,9 @@
 pub mod Compiled
 pub mod CompiledOpening
 pub mod Asked
+pub mod Executed
 pub mod Dropped
+pub mod Inserted
 pub mod Failing
 pub mod RowLists
 pub mod Statements

@@ -154,6 +154,7 @@ module _ (name : List ℕ) (tree : ℕ) (columns : List Column) (primary : List 
       record {
         schema = ap (λ (d : Database). d.schema) now;
         id = next_rowid (db tree);
+        chosen = refl;
         free = not-true _ fresh.0;
         rows = ap (λ (d : Database). d.trees tree) now ∙ ap (λ (t : Trees). t tree) trees ∙ applies.rows ∙ ap (λ all. put_all (db tree) all) news;
         others = subst (λ (all : Trees). KeepsOthers tree db all) (sym (ap (λ (d : Database). d.trees) now ∙ trees)) applies.tables;

@@ -8,6 +8,7 @@ use Rattle.sqlite.specs.declared.error.Error.TheVariants.{SqliteFailure}
 use Rattle.sqlite.specs.declared.error.ErrorCode.TheVariants as code
 use Rattle.sqlite.specs.Order.{Row, bytes, column}
 use Rattle.sqlite.specs.Tree.{Trees}
+use Rattle.am_text.specs.Outcome.{ForRefused}
 use Rattle.am_text.specs.declared.failure.Failure.{Failure}
 use Rattle.am_text.specs.declared.failure.Failure.TheVariants.{OutOfMemory}
 use Rattle.am_tenant.specs.Names.{is_tenant_name, same}
@@ -18,6 +19,8 @@ use Rattle.am_item.specs.declared.item.Item.{Item}
 use Rattle.am_item.specs.Key.{Key, key_cmp}
 use Rattle.am_store.specs.Rows.{IsConfig, IsSilenceRow, IsStamp, config_in, pairs_in, silence_in, stamp_at}
 use Rattle.am_store.specs.Stored.{key_in, stored_item}
+use Rattle.am_store.specs.declared.refusal.StoreRefusal.{StoreRefusal}
+use Rattle.am_store.specs.declared.refusal.StoreRefusal.TheVariants.{Foreign}
 
 -- there is a value, unless memory ran out
 abbrev pub GivesValue : {X R : Type 0} → Result X (Failure R) → Type 0
@@ -27,6 +30,10 @@ GivesValue result = IfErr result (λ failure. failure ≡ OutOfMemory)
 abbrev pub GivesColumn : {X : Type 0} → Result X Error → Type 0
 GivesColumn result = IfErr result (λ e. e ≡ SqliteFailure code.OutOfMemory)
 
+-- what is refused is no item of a tenant
+abbrev pub RefusesForeign : {X : Type 0} → Result X (Failure StoreRefusal) → Type 0
+RefusesForeign result = IfErr result (λ failure. ForRefused failure (λ why. why ≡ Foreign))
+
 -- from this place on four columns hold a stamp
 pub record HasStamp (row : Row) (at : ℕ) (s : Stamp) : Type 0 where
   pub moment : column row at ≡ Int (pos s.moment)
@@ -34,6 +41,10 @@ pub record HasStamp (row : Row) (at : ℕ) (s : Stamp) : Type 0 where
   pub incarnation : column row (at + 2) ≡ Int (pos s.incarnation)
   pub count : column row (at + 3) ≡ Int (pos s.count)
   pub stamp : IsStamp s
+
+-- its first four columns hold a stamp
+abbrev pub IsStamped : Row → Type 0
+IsStamped row = (s : Stamp) × HasStamp row 0 s
 
 -- the stamp doesn't exceed that of the row's first four columns
 abbrev pub reached : Stamp → Row → Bool

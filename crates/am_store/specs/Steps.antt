@@ -4,7 +4,7 @@ use Rattle.std.specs.List.{AllByRecursion}
 use Rattle.std.specs.Ordering.{is_eq}
 use Rattle.sqlite.specs.declared.types.Value.TheVariants.{Int}
 use Rattle.sqlite.specs.Order.{Row}
-use Rattle.sqlite.specs.Edit.{is_taken}
+use Rattle.sqlite.specs.Edit.{is_taken, next_rowid}
 use Rattle.sqlite.specs.Tree.{Trees, put_row}
 use Rattle.sqlite.specs.Effect.{Database}
 use Rattle.sqlite.specs.State.{State}
@@ -25,10 +25,11 @@ pub record TakesOut (tree : ℕ) (test : Row → Bool) (old new : Database) : Ty
   pub rows : new.trees tree ≡ filter (λ r. not (test r)) (old.trees tree)
   pub others : KeepsOthers tree old.trees new.trees
 
--- a row with these columns was put into a table, under a rowid that none has
+-- a row with these columns was put into a table, under the rowid that the database chooses, which none has
 pub record PutsRow (tree : ℕ) (fields : Row) (old new : Database) : Type 0 where
   pub schema : new.schema ≡ store_schema
   pub id : ℤ
+  pub chosen : id ≡ next_rowid (old.trees tree)
   pub free : is_taken (old.trees tree) (Int id ∷ fields) ≡ false
   pub rows : new.trees tree ≡ put_row (Int id ∷ fields) (old.trees tree)
   pub others : KeepsOthers tree old.trees new.trees

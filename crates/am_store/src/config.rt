@@ -1,6 +1,6 @@
 //! Configurations: their rows are read, taken out and put in.
 
-ghost use Rattle.std.specs.Prelude.{◌≡◌, [], ◌∷◌, filter, map, IfErr, IfOk, IfSome, IsTrue, IsUtf8, OnOk};
+ghost use Rattle.std.specs.Prelude.{◌≡◌, ◌⊎◌, [], ◌∷◌, filter, map, IfErr, IfOk, IfSome, IsTrue, IsUtf8, OnOk};
 ghost use Rattle.std.specs.List.Sorted.{IsPermutation};
 ghost use Rattle.sqlite.specs.declared.types.Value.TheVariants.{Text as Words};
 ghost use Rattle.sqlite.specs.Effect.{IsDatabase};
@@ -9,11 +9,11 @@ ghost use Rattle.sqlite.specs.State.{HasCleanDisk, IsUnchanged, KeepsCommit, Sur
 ghost use Rattle.sqlite.specs.Term.{eval_all};
 ghost use Rattle.sqlite.specs.Values.{bound};
 ghost use Rattle.am_tenant.specs.Names.{is_tenant_name};
-ghost use Rattle.am_store.specs.Failing.{IsExcused, IsReady};
+ghost use Rattle.am_store.specs.Failing.{IsExcused, IsPutExcused, IsReady, PutsEach, RefusesRow};
 ghost use Rattle.am_store.specs.Rows.{IsNumbered, IsStamp, IsStore, config_fields};
 ghost use Rattle.am_store.specs.Steps.{PutsRow, Stores, TakesOut};
 ghost use Rattle.am_store.specs.Stored.{ConfigurationText, stamped};
-ghost use Rattle.am_store.specs.Tables.{store_schema};
+ghost use Rattle.am_store.specs.Tables.{config, store_schema};
 ghost use Rattle.am_store.specs.Where.{config_stamp, hit, of_tenant};
 
 use crate::numbers::signed;
@@ -62,6 +62,8 @@ fn stamps<S: Alter>(tx: &mut Transaction<'_, S>, tenant: &TenantName) -> Result<
         × IsPermutation (map (λ r. eval_all config_stamp ((Words tenant.now ∷ []) ∷ r ∷ []))
         (filter (hit of_tenant (Words tenant.now ∷ [])) ((state S.Store tx.old.conn.now).now.trees 1)))
         rows.items) }
+    ensures fails { HasCleanDisk (state S.Store tx.new.conn.now) → IsStore (state S.Store tx.old.conn.now).now
+        → IfErr result (IsExcused (state S.Store tx.old.conn.now) (state S.Store tx.new.conn.now)) }
     ensures kept { HasCleanDisk (state S.Store tx.new.conn.now) → IsStore (state S.Store tx.old.conn.now).now
         → KeepsCommit (state S.Store tx.old.conn.now) (state S.Store tx.new.conn.now) }
     ensures inside { HasCleanDisk (state S.Store tx.new.conn.now) → IsStore (state S.Store tx.old.conn.now).now
@@ -115,6 +117,12 @@ fn put_in<S: Alter>(
         → (state S.Store tx.old.conn.now).now.schema ≡ store_schema
         → OnOk result (PutsRow 1 (config_fields tenant.now stamp.now body.now) (state S.Store tx.old.conn.now).now
         (state S.Store tx.new.conn.now).now) }
+    ensures fails { HasCleanDisk (state S.Store tx.new.conn.now) → IsReady (state S.Store tx.old.conn.now)
+        → IfErr result (λ e. IsExcused (state S.Store tx.old.conn.now) (state S.Store tx.new.conn.now) e
+        ⊎ RefusesRow (config 1) (config_fields tenant.now stamp.now body.now)
+        (state S.Store tx.old.conn.now).now.trees) }
+    ensures sound { HasCleanDisk (state S.Store tx.new.conn.now) → IsReady (state S.Store tx.old.conn.now)
+        → OnOk result (IsDatabase (state S.Store tx.new.conn.now).now) }
     ensures kept { HasCleanDisk (state S.Store tx.new.conn.now)
         → KeepsCommit (state S.Store tx.old.conn.now) (state S.Store tx.new.conn.now) }
     ensures inside { HasCleanDisk (state S.Store tx.new.conn.now)
@@ -140,6 +148,14 @@ pub(crate) fn put<S: Alter>(
     ensures same_reference { tx.new.conn.ghost_name ≡ tx.old.conn.ghost_name }
     ensures ok { HasCleanDisk (state S.Store tx.new.conn.now) → IsStore (state S.Store tx.old.conn.now).now
         → OnOk result (Stores tenant.now (stamped stamp.now (ConfigurationText body.now) ∷ [])
+        (state S.Store tx.old.conn.now).now (state S.Store tx.new.conn.now).now) }
+    ensures fails { HasCleanDisk (state S.Store tx.new.conn.now) → IsReady (state S.Store tx.old.conn.now)
+        → IfErr result (IsPutExcused tenant.now (stamped stamp.now (ConfigurationText body.now) ∷ [])
+        (state S.Store tx.old.conn.now) (state S.Store tx.new.conn.now)) }
+    ensures sound { HasCleanDisk (state S.Store tx.new.conn.now) → IsReady (state S.Store tx.old.conn.now)
+        → OnOk result (IsDatabase (state S.Store tx.new.conn.now).now) }
+    ensures puts { HasCleanDisk (state S.Store tx.new.conn.now) → IsStore (state S.Store tx.old.conn.now).now
+        → OnOk result (PutsEach tenant.now (stamped stamp.now (ConfigurationText body.now) ∷ [])
         (state S.Store tx.old.conn.now).now (state S.Store tx.new.conn.now).now) }
     ensures kept { HasCleanDisk (state S.Store tx.new.conn.now) → IsStore (state S.Store tx.old.conn.now).now
         → KeepsCommit (state S.Store tx.old.conn.now) (state S.Store tx.new.conn.now) }

@@ -6,10 +6,10 @@ ghost use Rattle.sqlite.specs.Effect.{IsDatabase};
 ghost use Rattle.sqlite.specs.Held.{state};
 ghost use Rattle.sqlite.specs.State.{HasCleanDisk, IsUnchanged, KeepsCommit, Survives};
 ghost use Rattle.am_store.specs.Apart.{HasId};
-ghost use Rattle.am_store.specs.Failing.{FailsForCause};
+ghost use Rattle.am_store.specs.Failing.{FailsToOpen};
 ghost use Rattle.am_store.specs.Opening.{AreRising, AreRowsOf, Founds, HasVersion, IsVersionRow, LeavesNew};
 ghost use Rattle.am_store.specs.Opening.{MakesTable, Opens, Rests};
-ghost use Rattle.am_store.specs.Reading.{GivesValue};
+ghost use Rattle.am_store.specs.Reading.{GivesValue, RefusesForeign};
 ghost use Rattle.am_store.specs.Rows.{IsConfig, IsSilenceRow, IsStore};
 ghost use Rattle.am_store.specs.Steps.{Commits, IsSame, Leaves, PutsRow};
 ghost use Rattle.am_store.specs.Tables.{config, no_schema, one_table, silence, store_schema, two_tables, version};
@@ -145,6 +145,7 @@ fn found<S: Alter>(conn: &mut Connection<S>) -> Result<(), Error>
 fn test_version(row: &Row) -> Result<(), Failure<StoreRefusal>>
     ensures ok { OnOk result (IsVersionRow row.now) }
     ensures given { IsVersionRow row.now → GivesValue result }
+    ensures foreign { RefusesForeign result }
 {
     let _rowid: i64 = or_foreign(row.get(0))?;
     let number: u64 = or_foreign(row.get(1))?;
@@ -159,6 +160,7 @@ fn test_version(row: &Row) -> Result<(), Failure<StoreRefusal>>
 fn test_configs(alloc: Global, rows: &[Row]) -> Result<(), Failure<StoreRefusal>>
     ensures ok { OnOk result (All IsConfig rows.now) }
     ensures given { All IsConfig rows.now → GivesValue result }
+    ensures foreign { RefusesForeign result }
 {
     for row in rows {
         read_config(alloc, row)?;
@@ -170,6 +172,7 @@ fn test_configs(alloc: Global, rows: &[Row]) -> Result<(), Failure<StoreRefusal>
 fn test_silences(alloc: Global, rows: &[Row]) -> Result<(), Failure<StoreRefusal>>
     ensures ok { OnOk result (All IsSilenceRow rows.now) }
     ensures given { All IsSilenceRow rows.now → GivesValue result }
+    ensures foreign { RefusesForeign result }
 {
     for row in rows {
         read_silence(alloc, row)?;
@@ -181,6 +184,7 @@ fn test_silences(alloc: Global, rows: &[Row]) -> Result<(), Failure<StoreRefusal
 fn test_rowids(rows: &[Row]) -> Result<(), Failure<StoreRefusal>>
     ensures ok { OnOk result (AreRising rows.now) }
     ensures given { All HasId rows.now → AreRising rows.now → GivesValue result }
+    ensures foreign { RefusesForeign result }
 {
     for at in 1..rows.len() {
         let last: i64 = or_foreign(rows[at - 1].get(0))?;
@@ -200,8 +204,8 @@ fn check_version<S: Alter>(conn: &mut Connection<S>) -> Result<(), Failure<Store
     ensures ok { HasCleanDisk (state S.Store conn.new) → (state S.Store conn.old).now.schema ≡ store_schema
         → OnOk result (IsUnchanged (state S.Store conn.old) (state S.Store conn.new)
         × (IsDatabase (state S.Store conn.old).now → HasVersion (state S.Store conn.old).now.trees)) }
-    ensures fails { HasCleanDisk (state S.Store conn.new) → IsStore (state S.Store conn.old).now
-        → FailsForCause (state S.Store conn.old) (state S.Store conn.new) result }
+    ensures fails { HasCleanDisk (state S.Store conn.new) → (state S.Store conn.old).now.schema ≡ store_schema
+        → FailsToOpen (state S.Store conn.old) (state S.Store conn.new) result }
     ensures idle { conn.old.in_transaction ≡ false → conn.new.in_transaction ≡ false }
 {
     let rows = query::rows(conn, "SELECT rowid, n FROM version", &[])?;
@@ -222,8 +226,8 @@ fn check_configs<S: Alter>(
     ensures ok { HasCleanDisk (state S.Store conn.new) → (state S.Store conn.old).now.schema ≡ store_schema
         → OnOk result (IsUnchanged (state S.Store conn.old) (state S.Store conn.new)
         × (IsDatabase (state S.Store conn.old).now → AreRowsOf IsConfig ((state S.Store conn.old).now.trees 1))) }
-    ensures fails { HasCleanDisk (state S.Store conn.new) → IsStore (state S.Store conn.old).now
-        → FailsForCause (state S.Store conn.old) (state S.Store conn.new) result }
+    ensures fails { HasCleanDisk (state S.Store conn.new) → (state S.Store conn.old).now.schema ≡ store_schema
+        → FailsToOpen (state S.Store conn.old) (state S.Store conn.new) result }
     ensures idle { conn.old.in_transaction ≡ false → conn.new.in_transaction ≡ false }
 {
     let rows = query::rows(
@@ -246,8 +250,8 @@ fn check_silences<S: Alter>(
     ensures ok { HasCleanDisk (state S.Store conn.new) → (state S.Store conn.old).now.schema ≡ store_schema
         → OnOk result (IsUnchanged (state S.Store conn.old) (state S.Store conn.new)
         × (IsDatabase (state S.Store conn.old).now → AreRowsOf IsSilenceRow ((state S.Store conn.old).now.trees 3))) }
-    ensures fails { HasCleanDisk (state S.Store conn.new) → IsStore (state S.Store conn.old).now
-        → FailsForCause (state S.Store conn.old) (state S.Store conn.new) result }
+    ensures fails { HasCleanDisk (state S.Store conn.new) → (state S.Store conn.old).now.schema ≡ store_schema
+        → FailsToOpen (state S.Store conn.old) (state S.Store conn.new) result }
     ensures idle { conn.old.in_transaction ≡ false → conn.new.in_transaction ≡ false }
 {
     let rows = query::rows(
@@ -266,8 +270,8 @@ fn check<S: Alter>(alloc: Global, conn: &mut Connection<S>) -> Result<(), Failur
     ensures ok { HasCleanDisk (state S.Store conn.new)
         → OnOk result (IsStore (state S.Store conn.old).now
         × IsUnchanged (state S.Store conn.old) (state S.Store conn.new)) }
-    ensures fails { HasCleanDisk (state S.Store conn.new) → IsStore (state S.Store conn.old).now
-        → FailsForCause (state S.Store conn.old) (state S.Store conn.new) result }
+    ensures fails { HasCleanDisk (state S.Store conn.new)
+        → FailsToOpen (state S.Store conn.old) (state S.Store conn.new) result }
     ensures idle { conn.old.in_transaction ≡ false → conn.new.in_transaction ≡ false }
 {
     if !is_store(alloc, conn.schema())? {
@@ -290,8 +294,8 @@ pub(crate) fn open<S: Alter>(
         → OnErr result (IsSame (state S.Store conn.old) (state S.Store conn.new)) }
     ensures used { IfErr result (λ failure. failure ≡ Failure.Refused StoreRefusal.Foreign
         → (state S.Store conn.old).now.schema ≡ no_schema → ⊥) }
-    ensures fails { HasCleanDisk (state S.Store conn.new) → IsStore (state S.Store conn.old).now
-        → FailsForCause (state S.Store conn.old) (state S.Store conn.new) result }
+    ensures fails { HasCleanDisk (state S.Store conn.new) → ((state S.Store conn.old).now.schema ≡ no_schema → ⊥)
+        → FailsToOpen (state S.Store conn.old) (state S.Store conn.new) result }
     ensures idle { conn.new.in_transaction ≡ false }
     ensures crash { Survives (state S.Store conn.old) (state S.Store conn.new) (LeavesNew (state S.Store conn.old)) }
 {

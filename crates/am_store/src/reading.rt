@@ -8,7 +8,7 @@ ghost use Rattle.uuid.specs.Text.{parsed};
 ghost use Rattle.am_match.specs.Matchers.{IsMatcher, MatcherText};
 ghost use Rattle.am_match.specs.Spelling.{IsSpellable, Spells, spelling};
 ghost use Rattle.am_tenant.specs.Names.{is_tenant_name};
-ghost use Rattle.am_store.specs.Reading.{GivesColumn, GivesValue, ReadsConfig, ReadsSilence};
+ghost use Rattle.am_store.specs.Reading.{GivesColumn, GivesValue, ReadsConfig, ReadsSilence, RefusesForeign};
 ghost use Rattle.am_store.specs.Rows.{IsConfig, IsSilenceRow, body_value, id_text};
 
 use crate::refusal::StoreRefusal;
@@ -28,6 +28,7 @@ use uuid::Uuid;
 pub(crate) fn or_foreign<T>(read: Result<T, Error>) -> Result<T, Failure<StoreRefusal>>
     ensures value { MatchResult read (λ value. result ≡ Ok value) (λ _. IsErr result) }
     ensures given { GivesColumn read → GivesValue result }
+    ensures foreign { RefusesForeign result }
 {
     match read {
         Ok(value) => Ok(value),
@@ -41,6 +42,7 @@ pub(crate) fn tenant_in(row: &Row, at: usize) -> Result<TenantName, Failure<Stor
     ensures text { IfOk result (λ tenant. column row.now at ≡ Words tenant) }
     ensures name { IfOk result (λ tenant. IsTrue (is_tenant_name tenant)) }
     ensures given { (t : List ℕ) → column row.now at ≡ Words t → IsTrue (is_tenant_name t) → GivesValue result }
+    ensures foreign { RefusesForeign result }
 {
     let ValueRef::Text(bytes) = or_foreign(row.get_ref(at))? else {
         return Err(Failure::Refused(StoreRefusal::Foreign));
@@ -56,6 +58,7 @@ fn text_in(alloc: Global, row: &Row, at: usize) -> Result<Text, Failure<StoreRef
     ensures text { IfOk result (λ text. column row.now at ≡ Blob text) }
     ensures utf8 { IfOk result (λ text. IsUtf8 text) }
     ensures given { (t : List ℕ) → column row.now at ≡ Blob t → IsUtf8 t → GivesValue result }
+    ensures foreign { RefusesForeign result }
 {
     let ValueRef::Blob(bytes) = or_foreign(row.get_ref(at))? else {
         return Err(Failure::Refused(StoreRefusal::Foreign));
@@ -72,6 +75,7 @@ fn body_in(alloc: Global, row: &Row) -> Result<Option<Text>, Failure<StoreRefusa
     ensures utf8 { IfOk result (λ body. IfSome body IsUtf8) }
     ensures given { 2 < length row.now → (body : Option (List ℕ)) → column row.now 2 ≡ body_value body
         → IfSome body IsUtf8 → GivesValue result }
+    ensures foreign { RefusesForeign result }
 {
     if let ValueRef::Null = or_foreign(row.get_ref(2))? {
         return Ok(None);
@@ -86,6 +90,7 @@ pub(crate) fn read_config(
 ) -> Result<(TenantName, Item), Failure<StoreRefusal>>
     ensures reads { IfOk result (λ p. ReadsConfig row.now p.0 p.1) }
     ensures given { IsConfig row.now → GivesValue result }
+    ensures foreign { RefusesForeign result }
 {
     if row.column_count() != 7 {
         return Err(Failure::Refused(StoreRefusal::Foreign));
@@ -118,6 +123,7 @@ fn id_in(row: &Row) -> Result<SilenceId, Failure<StoreRefusal>>
     ensures back { IfOk result (λ id. parsed (id_text id) ≡ Some id) }
     ensures given { (id : List ℕ) → column row.now 2 ≡ Words (id_text id) → parsed (id_text id) ≡ Some id
         → GivesValue result }
+    ensures foreign { RefusesForeign result }
 {
     let ValueRef::Text(bytes) = or_foreign(row.get_ref(2))? else {
         return Err(Failure::Refused(StoreRefusal::Foreign));
@@ -139,6 +145,7 @@ fn matchers_in(alloc: Global, row: &Row) -> Result<Vec<Matcher>, Failure<StoreRe
         × Spells bytes matchers.items) }
     ensures given { (ms : List MatcherText) → column row.now 8 ≡ Blob (spelling ms) → IsSpellable ms → All IsMatcher ms
         → GivesValue result }
+    ensures foreign { RefusesForeign result }
 {
     let ValueRef::Blob(bytes) = or_foreign(row.get_ref(8))? else {
         return Err(Failure::Refused(StoreRefusal::Foreign));
@@ -163,6 +170,7 @@ pub(crate) fn read_silence(
 ) -> Result<(TenantName, Item), Failure<StoreRefusal>>
     ensures reads { IfOk result (λ p. ReadsSilence row.now p.0 p.1) }
     ensures given { IsSilenceRow row.now → GivesValue result }
+    ensures foreign { RefusesForeign result }
 {
     if row.column_count() != 13 {
         return Err(Failure::Refused(StoreRefusal::Foreign));

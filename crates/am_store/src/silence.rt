@@ -1,8 +1,9 @@
 //! Silences: their rows are read, taken out and put in.
 
-ghost use Rattle.std.specs.Prelude.{◌≡◌, ◌≤◌, [], ◌∷◌, filter, length, map, IfErr, IfOk, IsTrue, OnOk, Some};
+ghost use Rattle.std.specs.Prelude.{◌≡◌, ◌⊎◌, ◌≤◌, [], ◌∷◌, filter, length, map, IfErr, IfOk, IsTrue, OnOk, Some};
 ghost use Rattle.std.specs.List.Sorted.{IsPermutation};
 ghost use Rattle.sqlite.specs.declared.types.Value.TheVariants.{Text as Words};
+ghost use Rattle.sqlite.specs.Effect.{IsDatabase};
 ghost use Rattle.sqlite.specs.Held.{state};
 ghost use Rattle.sqlite.specs.State.{HasCleanDisk, IsUnchanged, KeepsCommit, Survives};
 ghost use Rattle.sqlite.specs.Term.{eval_all};
@@ -10,11 +11,12 @@ ghost use Rattle.sqlite.specs.Values.{bound};
 ghost use Rattle.uuid.specs.Text.{parsed};
 ghost use Rattle.am_match.specs.Spelling.{IsSpellable, Spells};
 ghost use Rattle.am_tenant.specs.Names.{is_tenant_name};
-ghost use Rattle.am_store.specs.Failing.{IsExcused, IsReady};
+ghost use Rattle.am_store.specs.Failing.{IsExcused, IsPutExcused, IsReady, PutsEach, RefusesRow};
+ghost use Rattle.am_store.specs.Reading.{GivesColumn};
 ghost use Rattle.am_store.specs.Rows.{IsNumbered, IsSilence, IsStamp, IsStore, id_text, silence_fields};
 ghost use Rattle.am_store.specs.Steps.{PutsRow, Stores, TakesOut};
 ghost use Rattle.am_store.specs.Stored.{SilenceWords, silence_text, stamped};
-ghost use Rattle.am_store.specs.Tables.{store_schema};
+ghost use Rattle.am_store.specs.Tables.{silence as silence_table, store_schema};
 ghost use Rattle.am_store.specs.Where.{hit, of_silence, of_tenant, silence_stamp};
 
 use crate::config::named;
@@ -53,7 +55,8 @@ pub(crate) fn text_of<'b>(id: &SilenceId, buffer: &'b mut [u8]) -> &'b str
 // The bytes that spell the matchers.
 fn spelled(alloc: Global, matchers: &[Matcher]) -> Result<Octets, Error>
     requires { IsSpellable matchers.now }
-    ensures { IfOk result (λ bytes. Spells bytes matchers.now) }
+    ensures given { GivesColumn result }
+    ensures spelled { IfOk result (λ bytes. Spells bytes matchers.now) }
 {
     match spell_matchers(alloc, matchers) {
         Ok(bytes) => Ok(bytes),
@@ -108,6 +111,8 @@ fn stamps<S: Alter>(
         (filter (hit of_silence (Words tenant.now ∷ Words id.now ∷ []))
         ((state S.Store tx.old.conn.now).now.trees 3)))
         rows.items) }
+    ensures fails { HasCleanDisk (state S.Store tx.new.conn.now) → IsStore (state S.Store tx.old.conn.now).now
+        → IfErr result (IsExcused (state S.Store tx.old.conn.now) (state S.Store tx.new.conn.now)) }
     ensures kept { HasCleanDisk (state S.Store tx.new.conn.now) → IsStore (state S.Store tx.old.conn.now).now
         → KeepsCommit (state S.Store tx.old.conn.now) (state S.Store tx.new.conn.now) }
     ensures inside { HasCleanDisk (state S.Store tx.new.conn.now) → IsStore (state S.Store tx.old.conn.now).now
@@ -133,6 +138,8 @@ pub(crate) fn take_out<S: Alter>(
         (state S.Store tx.old.conn.now).now (state S.Store tx.new.conn.now).now) }
     ensures fails { HasCleanDisk (state S.Store tx.new.conn.now) → IsReady (state S.Store tx.old.conn.now)
         → IfErr result (IsExcused (state S.Store tx.old.conn.now) (state S.Store tx.new.conn.now)) }
+    ensures sound { HasCleanDisk (state S.Store tx.new.conn.now) → IsReady (state S.Store tx.old.conn.now)
+        → OnOk result (IsDatabase (state S.Store tx.new.conn.now).now) }
     ensures kept { HasCleanDisk (state S.Store tx.new.conn.now)
         → KeepsCommit (state S.Store tx.old.conn.now) (state S.Store tx.new.conn.now) }
     ensures inside { HasCleanDisk (state S.Store tx.new.conn.now)
@@ -190,6 +197,12 @@ fn put_in<S: Alter>(
         → (state S.Store tx.old.conn.now).now.schema ≡ store_schema
         → OnOk result (PutsRow 3 (silence_fields tenant.now stamp.now (silence_text silence.now))
         (state S.Store tx.old.conn.now).now (state S.Store tx.new.conn.now).now) }
+    ensures fails { HasCleanDisk (state S.Store tx.new.conn.now) → IsReady (state S.Store tx.old.conn.now)
+        → IfErr result (λ e. IsExcused (state S.Store tx.old.conn.now) (state S.Store tx.new.conn.now) e
+        ⊎ RefusesRow (silence_table 3) (silence_fields tenant.now stamp.now (silence_text silence.now))
+        (state S.Store tx.old.conn.now).now.trees) }
+    ensures sound { HasCleanDisk (state S.Store tx.new.conn.now) → IsReady (state S.Store tx.old.conn.now)
+        → OnOk result (IsDatabase (state S.Store tx.new.conn.now).now) }
     ensures kept { HasCleanDisk (state S.Store tx.new.conn.now)
         → KeepsCommit (state S.Store tx.old.conn.now) (state S.Store tx.new.conn.now) }
     ensures inside { HasCleanDisk (state S.Store tx.new.conn.now)
@@ -217,6 +230,14 @@ pub(crate) fn put<S: Alter>(
     ensures same_reference { tx.new.conn.ghost_name ≡ tx.old.conn.ghost_name }
     ensures ok { HasCleanDisk (state S.Store tx.new.conn.now) → IsStore (state S.Store tx.old.conn.now).now
         → OnOk result (Stores tenant.now (stamped stamp.now (SilenceWords (silence_text silence.now)) ∷ [])
+        (state S.Store tx.old.conn.now).now (state S.Store tx.new.conn.now).now) }
+    ensures fails { HasCleanDisk (state S.Store tx.new.conn.now) → IsReady (state S.Store tx.old.conn.now)
+        → IfErr result (IsPutExcused tenant.now (stamped stamp.now (SilenceWords (silence_text silence.now)) ∷ [])
+        (state S.Store tx.old.conn.now) (state S.Store tx.new.conn.now)) }
+    ensures sound { HasCleanDisk (state S.Store tx.new.conn.now) → IsReady (state S.Store tx.old.conn.now)
+        → OnOk result (IsDatabase (state S.Store tx.new.conn.now).now) }
+    ensures puts { HasCleanDisk (state S.Store tx.new.conn.now) → IsStore (state S.Store tx.old.conn.now).now
+        → OnOk result (PutsEach tenant.now (stamped stamp.now (SilenceWords (silence_text silence.now)) ∷ [])
         (state S.Store tx.old.conn.now).now (state S.Store tx.new.conn.now).now) }
     ensures kept { HasCleanDisk (state S.Store tx.new.conn.now) → IsStore (state S.Store tx.old.conn.now).now
         → KeepsCommit (state S.Store tx.old.conn.now) (state S.Store tx.new.conn.now) }

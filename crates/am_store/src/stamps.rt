@@ -1,12 +1,12 @@
 //! Stamps in columns.
 
-ghost use Rattle.std.specs.Prelude.{◌≡◌, ◌≤◌, ℕ, IfOk, pos};
+ghost use Rattle.std.specs.Prelude.{◌≡◌, ◌≤◌, ℕ, All, IfOk, pos};
 ghost use Rattle.sqlite.specs.Order.{column};
 ghost use Rattle.sqlite.specs.declared.types.Value.TheVariants.{Int};
 ghost use Rattle.std.specs.List.{list_any};
 ghost use Rattle.am_text.specs.Moment.{greatest_moment};
 ghost use Rattle.am_item.specs.declared.stamp.Stamp.{Stamp as StampText};
-ghost use Rattle.am_store.specs.Reading.{GivesColumn, HasStamp, reached};
+ghost use Rattle.am_store.specs.Reading.{GivesColumn, HasStamp, IsStamped, reached};
 
 use am_item::Stamp;
 use am_text::Moment;
@@ -48,7 +48,8 @@ pub(crate) fn moment_of(row: &Row, at: usize) -> Result<Moment, Error>
 
 // Whether one of the stamps, each a row of four columns, isn't exceeded by this one.
 pub(crate) fn is_reached(rows: &[Row], stamp: &Stamp) -> Result<bool, Error>
-    ensures { IfOk result (λ is_reached. is_reached ≡ list_any (reached stamp.now) rows.now) }
+    ensures reached { IfOk result (λ is_reached. is_reached ≡ list_any (reached stamp.now) rows.now) }
+    ensures given { All IsStamped rows.now → GivesColumn result }
 {
     for row in rows {
         if !stamp.exceeds(&stamp_of(row, 0)?) {

@@ -12,7 +12,7 @@ ghost use Rattle.am_item.specs.Best.{IsRising};
 ghost use Rattle.am_item.specs.Key.{SilenceKey};
 ghost use Rattle.am_share.specs.Pairs.{things_of};
 ghost use Rattle.am_text.specs.Outcome.{ForRefused};
-ghost use Rattle.am_store.specs.Failing.{FailsForCause, IsCaused};
+ghost use Rattle.am_store.specs.Failing.{FailsForCause, IsJudged, IsPutCaused};
 ghost use Rattle.am_store.specs.Opening.{IsForeign, LeavesNew, Opens, Rests};
 ghost use Rattle.am_store.specs.Rows.{IsFit, IsStore, pairs_in};
 ghost use Rattle.am_store.specs.Steps.{Commits, Empties, IsSame, Leaves, Removes, Stores};
@@ -66,8 +66,9 @@ impl<S: Alter> Store<S> {
             → Opens (state S.Store conn) (state S.Store store)) }
         ensures err { IfErr result (λ e. HasCleanDisk (state S.Store e.1) → IsTrue (state S.Store e.1).is_open
             → IsSame (state S.Store conn) (state S.Store e.1)) }
-        ensures fails { IfErr result (λ e. HasCleanDisk (state S.Store e.1) → IsStore (state S.Store conn).now
-            → IsCaused (state S.Store conn) (state S.Store e.1) e.0) }
+        ensures fails { IfErr result (λ e. HasCleanDisk (state S.Store e.1)
+            → ((state S.Store conn).now.schema ≡ no_schema → ⊥)
+            → IsJudged (state S.Store conn) (state S.Store e.1) e.0) }
         ensures used { IfErr result (λ e. e.0 ≡ Failure.Refused StoreRefusal.Foreign
             → (state S.Store conn).now.schema ≡ no_schema → ⊥) }
         ensures foreign { IfErr result (λ e. HasCleanDisk (state S.Store e.1)
@@ -97,7 +98,8 @@ impl<S: Alter> Store<S> {
     /// one is there whose stamp is no smaller. Alerts and sent entries are passed over. Other tenants' rows stay.
     ///
     /// # Errors
-    /// `F2`, or out of memory. All rows stay; where it shut the store, they are as before or as committed.
+    /// `F2` where the disk failed or a row can't be stored, as it is too large; or out of memory. All rows stay; where
+    /// it shut the store, they are as before or as committed.
     pub fn put(
         &mut self,
         alloc: Global,
@@ -111,6 +113,9 @@ impl<S: Alter> Store<S> {
         ensures err { HasCleanDisk (state S.Store self.new) → IsStore (state S.Store self.old).now
             → IsTrue (state S.Store self.new).is_open
             → OnErr result (IsSame (state S.Store self.old) (state S.Store self.new)) }
+        ensures fails { HasCleanDisk (state S.Store self.new) → IsStore (state S.Store self.old).now
+            → IfErr result (IsPutCaused tenant.now (stored_items items.now) (state S.Store self.old)
+            (state S.Store self.new)) }
         ensures database { IfErr result (λ failure. ForRefused failure (λ refusal. refusal ≡ StoreRefusal.Database)) }
         ensures crash { Survives (state S.Store self.old) (state S.Store self.new)
             (Leaves (Stores tenant.now (stored_items items.now)) (state S.Store self.old)) }
@@ -164,7 +169,7 @@ impl<S: Alter> Store<S> {
     /// Drops a silence of a tenant, and commits that. All other rows stay.
     ///
     /// # Errors
-    /// As of [`Store::put`].
+    /// `F2` where the disk failed, or out of memory. What stays is as of [`Store::put`].
     pub fn drop_silence(
         &mut self,
         tenant: &TenantName,
@@ -191,7 +196,7 @@ impl<S: Alter> Store<S> {
     /// Drops all rows of a tenant, and commits that. Other tenants' rows stay.
     ///
     /// # Errors
-    /// As of [`Store::put`].
+    /// `F2` where the disk failed, or out of memory. What stays is as of [`Store::put`].
     pub fn drop_tenant(&mut self, tenant: &TenantName) -> Result<(), Failure<StoreRefusal>>
         ensures dropped { HasCleanDisk (state S.Store self.new) → IsStore (state S.Store self.old).now
             → OnOk result (Commits (Empties tenant.now) (state S.Store self.old) (state S.Store self.new)) }

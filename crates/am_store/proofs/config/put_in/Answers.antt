@@ -1,5 +1,7 @@
+use Rattle.std.proofs.Common.{rules}
 use Rattle.sqlite.specs.Held.{state}
-use Rattle.am_store.proofs.Calls.{put_in_config, was_inside}
+use Rattle.am_store.proofs.Calls.{put_in_config, put_config_sound, was_inside}
+use Rattle.am_store.proofs.Inserted.{config_refused}
 use Rattle.am_store.proofs.config.put_in.Goals as goal
 
 pub returns-clause-ok : goal.returns-clause-ok
@@ -11,3 +13,16 @@ returns-clause-ok g c clean has =
 
 pub returns-clause-inside : goal.returns-clause-inside
 returns-clause-inside g c clean = λ was. (c.in_ok-execute.ensures.runs clean was).1.mode
+
+pub returns-clause-sound : goal.returns-clause-sound
+returns-clause-sound g c clean ready =
+    let old = state g.S.Store c.args.tx.now.conn.now in
+    let new = state g.S.Store c.execute.new.self.conn.now in
+    put_config_sound old new c.in_ok-execute.field-0 c.args.tenant.now c.args.stamp.now c.args.body.now ready.store (rw c.columns.ensures.bound at (c.in_ok-execute.ensures.runs clean ready.inside).0)
+
+pub returns-in_err-execute-clause-fails : goal.returns-in_err-execute-clause-fails
+returns-in_err-execute-clause-fails g c clean ready =
+    let old = state g.S.Store c.args.tx.now.conn.now in
+    let new = state g.S.Store c.execute.new.self.conn.now in
+    let excused = config_refused old new ready.store.schema c.args.tenant.now c.args.stamp.now c.args.body.now _ (rw c.columns.ensures.bound at (c.in_err-execute.ensures.runs clean ready.inside)) in
+    search rules

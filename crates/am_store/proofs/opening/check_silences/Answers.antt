@@ -2,10 +2,11 @@ use Rattle.std.proofs.Common.{rules}
 use Rattle.std.proofs.lemmas.Result.{on_ok_weaker}
 use Rattle.sqlite.specs.Held.{state}
 use Rattle.am_store.specs.Texts.{select_all_silences}
-use Rattle.am_store.specs.Reading.{GivesValue}
+use Rattle.am_store.specs.Reading.{GivesValue, RefusesForeign}
+use Rattle.am_store.specs.Rows.{IsStore}
 use Rattle.am_store.proofs.Passing.{silences_pass}
 use Rattle.am_store.proofs.Asked.{asks_silences}
-use Rattle.am_store.proofs.Failing.{given_fails}
+use Rattle.am_store.proofs.Failing.{caused_judged, tested}
 use Rattle.am_store.proofs.Checks.{silences_checked, plain_at}
 use Rattle.am_store.proofs.CompiledOpening.{select_all_silences_plain}
 use Rattle.am_store.proofs.opening.check_silences.Goals as goal
@@ -27,22 +28,25 @@ returns-clause-ok g c clean has =
     on_ok_weaker c.test_rowids.result (λ rising. silences_checked old new has rows (c.in_ok-rows.ensures.shown clean) (rw c.deref.ensures.value at c.in_ok-test_silences.ensures.ok) (rw c.deref-2.ensures.value at rising)) c.test_rowids.ensures.ok
 
 pub returns-in_err-test_silences-clause-fails : goal.returns-in_err-test_silences-clause-fails
-returns-in_err-test_silences-clause-fails g c clean store =
+returns-in_err-test_silences-clause-fails g c clean has =
     let old = state g.S.Store c.args.conn.now in
     let new = state g.S.Store c.rows.new.conn in
-    let passed = silences_pass old new store c.in_ok-rows.rows.items (c.in_ok-rows.ensures.shown clean) in
+    let foreign : RefusesForeign c.from_residual-in_err-test_silences.result = search rules in
+    let given : IsStore old.now → GivesValue c.from_residual-in_err-test_silences.result = λ store.
+    (let passed = silences_pass old new store c.in_ok-rows.rows.items (c.in_ok-rows.ensures.shown clean) in
     let read = c.in_err-test_silences.ensures.given (rw c.deref.ensures.value passed.all) in
-    let given : GivesValue c.from_residual-in_err-test_silences.result = search rules in
-    given_fails old new c.from_residual-in_err-test_silences.result given
+    search rules) in
+    tested old new c.from_residual-in_err-test_silences.result foreign given
 
 pub returns-clause-fails : goal.returns-clause-fails
-returns-clause-fails g c clean store =
+returns-clause-fails g c clean has =
     let old = state g.S.Store c.args.conn.now in
     let new = state g.S.Store c.rows.new.conn in
+    tested old new c.test_rowids.result c.test_rowids.ensures.foreign (λ store.
     let passed = silences_pass old new store c.in_ok-rows.rows.items (c.in_ok-rows.ensures.shown clean) in
-    given_fails old new c.test_rowids.result (c.test_rowids.ensures.given (rw c.deref-2.ensures.value passed.ids) (rw c.deref-2.ensures.value passed.rising))
+    c.test_rowids.ensures.given (rw c.deref-2.ensures.value passed.ids) (rw c.deref-2.ensures.value passed.rising))
 
 pub returns-in_err-rows-clause-fails : goal.returns-in_err-rows-clause-fails
-returns-in_err-rows-clause-fails g c clean store =
-    let caused = c.in_err-rows.ensures.fails clean store.schema asks_silences in
+returns-in_err-rows-clause-fails g c clean has =
+    let judged = caused_judged (state g.S.Store c.args.conn.now) (state g.S.Store c.rows.new.conn) _ (c.in_err-rows.ensures.fails clean has asks_silences) in
     search rules

@@ -1,7 +1,7 @@
 use Rattle.std.proofs.Common.{rules}
 use Rattle.am_store.proofs.Dropped.{silence_excused}
 use Rattle.sqlite.specs.Held.{state}
-use Rattle.am_store.proofs.Calls.{took_out_silence, was_inside}
+use Rattle.am_store.proofs.Calls.{silence_sound, took_out_silence, was_inside}
 use Rattle.am_store.proofs.silence.take_out.Goals as goal
 
 pub returns-clause-ok : goal.returns-clause-ok
@@ -20,3 +20,9 @@ returns-in_err-execute-clause-fails g c clean ready =
     let new = state g.S.Store c.execute.new.self.conn.now in
     let excused = silence_excused old new ready.store.schema ready.sound c.args.tenant.now c.args.id.now _ (rw c.keyed.ensures at (c.in_err-execute.ensures.runs clean ready.inside)) in
     search rules
+
+pub returns-clause-sound : goal.returns-clause-sound
+returns-clause-sound g c clean ready =
+    let old = state g.S.Store c.args.tx.now.conn.now in
+    let new = state g.S.Store c.execute.new.self.conn.now in
+    silence_sound old new c.in_ok-execute.field-0 c.args.tenant.now c.args.id.now ready.store (rw c.keyed.ensures at (c.in_ok-execute.ensures.runs clean ready.inside).0)
