@@ -90,27 +90,28 @@ fn read_alert<'a>(
     })
 }
 
-// An alert that a silence and an alert mute.
+// One alert, which a silence and an alert mute.
 fn muted<'a>(
     alloc: Global,
     labels: &'a LabelSet,
     details: &'a Stamped<AlertDetails>,
-) -> Result<ReadAlert<'a>, AllocError> {
+) -> Result<Vec<ReadAlert<'a>>, AllocError> {
     let mut silences = Vec::new(alloc);
     silences.push(SilenceId::from_bytes([
         0, 1, 2, 3, 4, 5, 0x46, 7, 0x88, 9, 10, 11, 12, 13, 14, 15,
     ]))?;
     let mut inhibiting = Vec::new(alloc);
     inhibiting.push(labels)?;
-    read_alert(alloc, labels, details, silences, inhibiting)
+    let mut alerts = Vec::new(alloc);
+    alerts.push(read_alert(alloc, labels, details, silences, inhibiting)?)?;
+    Ok(alerts)
 }
 
 // What is read of that alert.
 fn muted_json(alloc: Global) -> Result<Octets, Fail> {
     let labels = label_set(alloc, "a=b")?;
     let details = stamped(details(alloc, "", 1750000300000, "http://p")?)?;
-    let mut alerts = Vec::new(alloc);
-    alerts.push(muted(alloc, &labels, &details)?)?;
+    let alerts = muted(alloc, &labels, &details)?;
     let config = Config::default_config(alloc)?;
     Ok(alerts_json(alloc, &config, &alerts)?)
 }
