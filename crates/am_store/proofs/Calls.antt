@@ -15,6 +15,7 @@ use Rattle.sqlite.proofs.Callers.{IsPlain, runs_as}
 use Rattle.sqlite.specs.Effect.{IsDatabase}
 use Rattle.sqlite.specs.Store.{Ghosts}
 use Rattle.sqlite.specs.Held.{Held, state}
+use Rattle.sqlite.proofs.StateLemmas.{survives_then}
 use Rattle.sqlite.proofs.InsideLemmas.{inside_keeps, unchanged_keeps}
 use Rattle.std.proofs.lemmas.Bool.{cases_Bool}
 use Rattle.std.specs.Global.{Vec}
@@ -73,6 +74,10 @@ on_ok P Q (Err e) f h = tt
 
 pub clean_before : (old new : State) (P : Trees → Type 0) → Survives old new P → HasCleanDisk new → HasCleanDisk old
 clean_before old new P s clean = omega (arith, s.clean, clean)
+
+-- one call after another, of which none commits
+pub both_survive : (a b c : State) → Survives a b (λ _. ⊥) → Survives b c (λ _. ⊥) → Survives a c (λ _. ⊥)
+both_survive a b c = survives_then a b c (λ _. ⊥) (λ _. ⊥) (λ _. ⊥) (λ _ db none. none) (λ _ db none. none)
 
 -- a query keeps the last commit
 pub query_keeps : (old new : State) (sql : List ℕ) (params : Row) (r : Result (Vec Row) Error) → IsPlain (understood old.now.schema sql)

@@ -9,8 +9,8 @@ use Rattle.sqlite.specs.Command.TheVariants.{Delete}
 use Rattle.sqlite.specs.Query.{Query}
 use Rattle.sqlite.specs.Rows.{Queried}
 use Rattle.sqlite.specs.Listing.{understood}
-use Rattle.sqlite.specs.State.{Escapes, ExecutesInside, IsMisplaced, State}
-use Rattle.sqlite.proofs.Callers.{IsPlain, command_of}
+use Rattle.sqlite.specs.State.{ExecutesInside, State}
+use Rattle.sqlite.proofs.Callers.{IsPlain, command_of, statement_of}
 use Rattle.sqlite_schema.specs.declared.program.Program.{Program}
 use Rattle.am_store.specs.Failing.{IsExcused}
 use Rattle.am_store.proofs.Asked.{IsGiven, refuses_query}
@@ -81,6 +81,11 @@ all_true (r ∷ rs) = (refl, all_true rs)
 pub refers : (among : Among) (db : Trees) → Refers among store_schema db
 refers among db = (all_true (db 0), (all_true (db 1), (all_true (db 3), tt)))
 
+-- nothing is left to do, so nothing is refused
+pub settled : (n : ℕ) (next : Trees) (why : Option Refusal) → Leads store_schema Enforced n next [] (Err why) → ⊥
+settled zero next why h = let no = h.1 in cc
+settled (suc n) next why h = omega (arith, ap length h.2, length-append h.0 (h.1 ∷ []))
+
 module _ (name : List ℕ) (tree : ℕ) (columns : List Column) (primary : List ℕ) (uniques : List (List ℕ)) (orders : List Order) (at : ℕ)
     (found : slice_get store_schema.tables at ≡ Some (table_of name tree columns primary uniques orders))
     (free : (olds news : List Row) → works store_schema Enforced 0 tree olds news ≡ [])
@@ -104,10 +109,6 @@ module _ (name : List ℕ) (tree : ℕ) (columns : List Column) (primary : List 
   not_refused ids NoRowid is = cc
   not_refused ids BadReference is = referred _ is
   not_refused ids TooDeep is = is
-
-  settled : (n : ℕ) (next : Trees) (why : Option Refusal) → Leads store_schema Enforced n next [] (Err why) → ⊥
-  settled zero next why h = let no = h.1 in cc
-  settled (suc n) next why h = omega (arith, ap length h.2, length-append h.0 (h.1 ∷ []))
 
   not_written : (ids : List ℤ) (why : Option Refusal) → Writes store_schema Enforced db (edit_of db table ids Given 0 []) (Err why) → ⊥
   not_written ids why (inl refused) = not_refused ids refused.0 refused.1
@@ -137,26 +138,13 @@ module _ (name : List ℕ) (tree : ℕ) (columns : List Column) (primary : List 
 
 -- ---- a deletion within a transaction
 
-not_misplaced : (s : State) (at : ℕ) (p : Program) (e : Error) → IsMisplaced s (Delete at p) e → ⊥
-not_misplaced s at p e (inl (_, inl (clash, _))) = cc
-not_misplaced s at p e (inl (_, inr (inl clash, _))) = cc
-not_misplaced s at p e (inl (_, inr (inr clash, _))) = cc
-not_misplaced s at p e (inr (_, name, inl clash, _)) = cc
-not_misplaced s at p e (inr (_, name, inr clash, _)) = cc
-
-no_escape : (s : State) (at : ℕ) (p : Program) → Escapes 0 s (Delete at p) → ⊥
-no_escape s at p (inl (inl clash)) = cc
-no_escape s at p (inl (inr clash)) = cc
-no_escape s at p (inr (name, inl clash, _)) = cc
-no_escape s at p (inr (name, inr clash, _)) = cc
-
 module _ (old new : State) (sql : List ℕ) (params : Row) (has : old.now.schema ≡ store_schema) (given : IsGiven sql (length params) (understood store_schema sql)) (plain : IsPlain (understood store_schema sql))
     (at : ℕ) (p : Program) (is : command_of (understood store_schema sql) ≡ Delete at p)
     (stops : (text : List ℕ) (stop : Option Error)
     → Does old.step_limit (record { keys = Enforced; in_doubt = false; may_wait = false }) params (record { schema = store_schema; trees = old.now.trees }) text None (Delete at p) (Err stop) → IsSome old.step_limit) where
   pub deletion_excused : (e : Error) → ExecutesInside 0 sql params old new (Err e) → IsExcused old new e
   deletion_excused e h =
-      elim (statement_excused old new sql params has given plain (Delete at p) is (λ c command bare. rw (command, bare) refl) (not_misplaced old at p) (no_escape old at p) ⊥ (λ text stop does. inl (stops text stop does)) e h) [
+      elim (statement_excused old new sql params store_schema has given plain (Delete at p) is (λ c command bare. rw (command, bare) refl) refl ⊥ (λ stop does. inl (stops (statement_of sql (understood store_schema sql)) stop does)) e h) [
         | inl excused ↦ excused
         | inr none ↦ absurd none
       ]

@@ -14,7 +14,7 @@ use Rattle.sqlite.specs.Table.{Table}
 use Rattle.sqlite.specs.Term.{col, lit}
 use Rattle.sqlite.specs.Tree.{put_row}
 use Rattle.sqlite.proofs.Callers.{IsPlain, command_of, runs_as, statement_of}
-use Rattle.am_store.specs.Opening.{Founds, MakesTable}
+use Rattle.am_store.specs.Opening.{Founds, HasNoRows, MakesTable}
 use Rattle.am_store.specs.Rows.{config_in, pairs_in, silence_in}
 use Rattle.am_store.specs.Steps.{PutsRow}
 use Rattle.am_store.specs.Tables.{column_of, config, no_schema, one_table, silence, store_schema, two_tables, version}
@@ -59,7 +59,7 @@ module _ (old new : State) (count : ℕ) where
       (lit Null ∷ col 0 0 ∷ []) 2 insert_version_is refl (rw (cast_int (pos 1)) refl) h
 
 -- the schema that the three tables make
-pub made_schema : created two_tables (silence 0) ≡ store_schema
+made_schema : created two_tables (silence 0) ≡ store_schema
 made_schema = rw (decimal_digit 1 (omega arith)) refl
 
 not_1_0 : ◌≡◌ {A = ℕ} 1 0 → ⊥
@@ -68,19 +68,26 @@ not_1_0 e = cc
 not_3_0 : ◌≡◌ {A = ℕ} 3 0 → ⊥
 not_3_0 e = cc
 
--- what the four statements make of a blank database
-pub founds : (a b c d e : Database) → a.schema ≡ no_schema → MakesTable no_schema (version 0) a b → MakesTable one_table (config 0) b c → MakesTable two_tables (silence 0) c d
-    → PutsRow 0 (Int (pos 1) ∷ []) d e → Founds a e
+-- what the three tables make of a blank database
+pub no_rows : (a b c d : Database) → MakesTable no_schema (version 0) a b → MakesTable one_table (config 0) b c → MakesTable two_tables (silence 0) c d → HasNoRows d
+no_rows a b c d one two three = record {
+  schema = three.schema ∙ made_schema;
+  versions = three.others.0 ∙ two.others.0 ∙ one.empty;
+  configs = three.others.1.0 ∙ two.empty;
+  silences = three.empty;
+}
+
+-- what the four statements make of it
+pub founds : (a d e : Database) → a.schema ≡ no_schema → HasNoRows d → PutsRow 0 (Int (pos 1) ∷ []) d e → Founds a e
 unfolding pairs_in
-founds a b c d e blank one two three put =
-    let versions : d.trees 0 ≡ [] = three.others.0 ∙ two.others.0 ∙ one.empty in
-    let configs : e.trees 1 ≡ [] = put.others.1.0 not_1_0 ∙ three.others.1.0 ∙ two.empty in
-    let silences : e.trees 3 ≡ [] = put.others.1.1.0 not_3_0 ∙ three.empty in
+founds a d e blank none put =
+    let configs : e.trees 1 ≡ [] = put.others.1.0 not_1_0 ∙ none.configs in
+    let silences : e.trees 3 ≡ [] = put.others.1.1.0 not_3_0 ∙ none.silences in
     record {
       blank = blank;
       store = record {
         schema = put.schema;
-        version = (put.id, put.rows ∙ ap (put_row (Int put.id ∷ Int (pos 1) ∷ [])) versions);
+        version = (put.id, put.rows ∙ ap (put_row (Int put.id ∷ Int (pos 1) ∷ [])) none.versions);
         configs = rw configs tt;
         configs_apart = rw configs tt;
         silences = rw silences tt;

@@ -16,8 +16,8 @@ use Rattle.sqlite.specs.Does.{Does}
 use Rattle.sqlite.specs.Effect.{value_rows}
 use Rattle.sqlite.specs.Rows.{Sourced}
 use Rattle.sqlite.specs.Listing.{understood}
-use Rattle.sqlite.specs.State.{Escapes, ExecutesInside, IsMisplaced, State}
-use Rattle.sqlite.proofs.Callers.{IsPlain, command_of}
+use Rattle.sqlite.specs.State.{ExecutesInside, State}
+use Rattle.sqlite.proofs.Callers.{IsPlain, command_of, statement_of}
 use Rattle.sqlite_rules.specs.Action.{Writes}
 use Rattle.sqlite_schema.specs.declared.schema.Among.TheVariants.{All}
 use Rattle.sqlite_schema.specs.declared.schema.Column.{Column}
@@ -74,24 +74,11 @@ module _ (name : List ℕ) (tree : ℕ) (columns : List Column) (primary : List 
 
 -- ---- an insertion within a transaction
 
-not_misplaced : (s : State) (at : ℕ) (from : Source) (e : Error) → IsMisplaced s (Insert at from) e → ⊥
-not_misplaced s at from e (inl (_, inl (clash, _))) = cc
-not_misplaced s at from e (inl (_, inr (inl clash, _))) = cc
-not_misplaced s at from e (inl (_, inr (inr clash, _))) = cc
-not_misplaced s at from e (inr (_, name, inl clash, _)) = cc
-not_misplaced s at from e (inr (_, name, inr clash, _)) = cc
-
-no_escape : (s : State) (at : ℕ) (from : Source) → Escapes 0 s (Insert at from) → ⊥
-no_escape s at from (inl (inl clash)) = cc
-no_escape s at from (inl (inr clash)) = cc
-no_escape s at from (inr (name, inl clash, _)) = cc
-no_escape s at from (inr (name, inr clash, _)) = cc
-
 module _ (old new : State) (sql : List ℕ) (params : Row) (has : old.now.schema ≡ store_schema) (given : IsGiven sql (length params) (understood store_schema sql)) (plain : IsPlain (understood store_schema sql))
     (at : ℕ) (from : Source) (is : command_of (understood store_schema sql) ≡ Insert at from) (Refuses : Type 0) where
-  pub insertion_excused : Stops old params (Insert at from) Refuses → (e : Error) → ExecutesInside 0 sql params old new (Err e) → IsExcused old new e ⊎ Refuses
-  insertion_excused =
-      statement_excused old new sql params has given plain (Insert at from) is (λ c command bare. rw (command, bare) refl) (not_misplaced old at from) (no_escape old at from) Refuses
+  pub insertion_excused : ((text : List ℕ) → Stops old store_schema text params (Insert at from) Refuses) → (e : Error) → ExecutesInside 0 sql params old new (Err e) → IsExcused old new e ⊎ Refuses
+  insertion_excused stops =
+      statement_excused old new sql params store_schema has given plain (Insert at from) is (λ c command bare. rw (command, bare) refl) refl Refuses (stops (statement_of sql (understood store_schema sql)))
 
 -- ---- the insertions of a store
 

@@ -17,6 +17,8 @@ pub mod Gone
 pub mod Commits
 pub mod Resting
 pub mod Founding
+pub mod Makeable
+pub mod FirstRow
 pub mod Rising
 pub mod Tested
 pub mod Checks

@@ -6,10 +6,10 @@ use Rattle.sqlite.specs.Listing.{understood}
 use Rattle.sqlite.specs.Order.{Row}
 use Rattle.sqlite.specs.State.{CommitsShowing, FailsToQuery, HasCleanDisk, IsRolledBack, IsUnchanged, Shown, State, Survives}
 use Rattle.sqlite.proofs.Callers.{IsPlain, never_commits}
-use Rattle.sqlite.proofs.StateLemmas.{survives_then, survives_weaker}
+use Rattle.sqlite.proofs.StateLemmas.{survives_weaker}
 use Rattle.am_store.specs.Opening.{Rests}
 use Rattle.am_store.specs.Steps.{IsSame}
-use Rattle.am_store.proofs.Calls.{clean_before, query_fails, shown_unchanged}
+use Rattle.am_store.proofs.Calls.{both_survive, clean_before, query_fails, shown_unchanged}
 
 pub unchanged_rests : (old new : State) → Survives old new (λ _. ⊥) → (HasCleanDisk new → IsUnchanged old new ⊎ IsRolledBack old new) → Rests old new
 unchanged_rests old new s h = record {
@@ -35,7 +35,7 @@ query_rests old new sql params r s ok err bare =
 -- one after the other
 pub rests_then : (a b c : State) → Rests a b → Rests b c → Rests a c
 rests_then a b c one two = record {
-  survives = survives_then a b c (λ _. ⊥) (λ _. ⊥) (λ _. ⊥) (λ _ db none. none) (λ _ db none. none) one.survives two.survives;
+  survives = both_survive a b c one.survives two.survives;
   same = λ clean still.
       let last = two.same clean still in
       let first = one.same (clean_before b c _ two.survives clean) last.0 in (

@@ -14,13 +14,20 @@ use Rattle.sqlite.specs.Table.{Table}
 use Rattle.am_store.specs.Apart.{AreApart}
 use Rattle.am_store.specs.Rows.{IsStore, pairs_in}
 use Rattle.am_store.specs.Steps.{Commits, IsSame}
-use Rattle.am_store.specs.Tables.{no_schema}
+use Rattle.am_store.specs.Tables.{no_schema, store_schema}
 
 -- a table was made behind those of a schema, and no row lies in it; the others are as they were
 pub record MakesTable (before : Schema) (table : Table) (old new : Database) : Type 0 where
   pub schema : new.schema ≡ created before table
   pub empty : new.trees (next_tree before) ≡ []
   pub others : KeepsRows before.tables old.trees new.trees
+
+-- the tables of a store were made, and no row lies in them
+pub record HasNoRows (db : Database) : Type 0 where
+  pub schema : db.schema ≡ store_schema
+  pub versions : db.trees 0 ≡ []
+  pub configs : db.trees 1 ≡ []
+  pub silences : db.trees 3 ≡ []
 
 -- the row is that of version 1
 pub record IsVersionRow (row : Row) : Type 0 where

@@ -6,8 +6,8 @@ ghost use Rattle.sqlite.specs.Effect.{IsDatabase};
 ghost use Rattle.sqlite.specs.Held.{state};
 ghost use Rattle.sqlite.specs.State.{HasCleanDisk, IsUnchanged, KeepsCommit, Survives};
 ghost use Rattle.am_store.specs.Apart.{HasId};
-ghost use Rattle.am_store.specs.Failing.{FailsToOpen};
-ghost use Rattle.am_store.specs.Opening.{AreRising, AreRowsOf, Founds, HasVersion, IsVersionRow, LeavesNew};
+ghost use Rattle.am_store.specs.Failing.{FailsToOpen, IsExcused};
+ghost use Rattle.am_store.specs.Opening.{AreRising, AreRowsOf, Founds, HasNoRows, HasVersion, IsVersionRow, LeavesNew};
 ghost use Rattle.am_store.specs.Opening.{MakesTable, Opens, Rests};
 ghost use Rattle.am_store.specs.Reading.{GivesValue, RefusesForeign};
 ghost use Rattle.am_store.specs.Rows.{IsConfig, IsSilenceRow, IsStore};
@@ -30,6 +30,10 @@ fn make_version<S: Alter>(tx: &mut Transaction<'_, S>) -> Result<(), Error>
         → (state S.Store tx.old.conn.now).now.schema ≡ no_schema
         → OnOk result (MakesTable no_schema (version 0) (state S.Store tx.old.conn.now).now
         (state S.Store tx.new.conn.now).now) }
+    ensures fails { HasCleanDisk (state S.Store tx.new.conn.now)
+        → IsTrue (state S.Store tx.old.conn.now).in_transaction
+        → (state S.Store tx.old.conn.now).now.schema ≡ no_schema
+        → IfErr result (IsExcused (state S.Store tx.old.conn.now) (state S.Store tx.new.conn.now)) }
     ensures kept { HasCleanDisk (state S.Store tx.new.conn.now)
         → KeepsCommit (state S.Store tx.old.conn.now) (state S.Store tx.new.conn.now) }
     ensures inside { HasCleanDisk (state S.Store tx.new.conn.now)
@@ -48,6 +52,10 @@ fn make_config<S: Alter>(tx: &mut Transaction<'_, S>) -> Result<(), Error>
         → (state S.Store tx.old.conn.now).now.schema ≡ one_table
         → OnOk result (MakesTable one_table (config 0) (state S.Store tx.old.conn.now).now
         (state S.Store tx.new.conn.now).now) }
+    ensures fails { HasCleanDisk (state S.Store tx.new.conn.now)
+        → IsTrue (state S.Store tx.old.conn.now).in_transaction
+        → (state S.Store tx.old.conn.now).now.schema ≡ one_table
+        → IfErr result (IsExcused (state S.Store tx.old.conn.now) (state S.Store tx.new.conn.now)) }
     ensures kept { HasCleanDisk (state S.Store tx.new.conn.now)
         → KeepsCommit (state S.Store tx.old.conn.now) (state S.Store tx.new.conn.now) }
     ensures inside { HasCleanDisk (state S.Store tx.new.conn.now)
@@ -70,6 +78,10 @@ fn make_silence<S: Alter>(tx: &mut Transaction<'_, S>) -> Result<(), Error>
         → (state S.Store tx.old.conn.now).now.schema ≡ two_tables
         → OnOk result (MakesTable two_tables (silence 0) (state S.Store tx.old.conn.now).now
         (state S.Store tx.new.conn.now).now) }
+    ensures fails { HasCleanDisk (state S.Store tx.new.conn.now)
+        → IsTrue (state S.Store tx.old.conn.now).in_transaction
+        → (state S.Store tx.old.conn.now).now.schema ≡ two_tables
+        → IfErr result (IsExcused (state S.Store tx.old.conn.now) (state S.Store tx.new.conn.now)) }
     ensures kept { HasCleanDisk (state S.Store tx.new.conn.now)
         → KeepsCommit (state S.Store tx.old.conn.now) (state S.Store tx.new.conn.now) }
     ensures inside { HasCleanDisk (state S.Store tx.new.conn.now)
@@ -94,6 +106,10 @@ fn put_version<S: Alter>(tx: &mut Transaction<'_, S>) -> Result<(), Error>
         → (state S.Store tx.old.conn.now).now.schema ≡ store_schema
         → OnOk result (PutsRow 0 (Int (pos 1) ∷ []) (state S.Store tx.old.conn.now).now
         (state S.Store tx.new.conn.now).now) }
+    ensures fails { HasCleanDisk (state S.Store tx.new.conn.now)
+        → IsTrue (state S.Store tx.old.conn.now).in_transaction
+        → HasNoRows (state S.Store tx.old.conn.now).now
+        → IfErr result (IsExcused (state S.Store tx.old.conn.now) (state S.Store tx.new.conn.now)) }
     ensures kept { HasCleanDisk (state S.Store tx.new.conn.now)
         → KeepsCommit (state S.Store tx.old.conn.now) (state S.Store tx.new.conn.now) }
     ensures inside { HasCleanDisk (state S.Store tx.new.conn.now)
@@ -111,6 +127,10 @@ fn make_tables<S: Alter>(tx: &mut Transaction<'_, S>) -> Result<(), Error>
     ensures ok { HasCleanDisk (state S.Store tx.new.conn.now)
         → (state S.Store tx.old.conn.now).now.schema ≡ no_schema
         → OnOk result (Founds (state S.Store tx.old.conn.now).now (state S.Store tx.new.conn.now).now) }
+    ensures fails { HasCleanDisk (state S.Store tx.new.conn.now)
+        → IsTrue (state S.Store tx.old.conn.now).in_transaction
+        → (state S.Store tx.old.conn.now).now.schema ≡ no_schema
+        → IfErr result (IsExcused (state S.Store tx.old.conn.now) (state S.Store tx.new.conn.now)) }
     ensures kept { HasCleanDisk (state S.Store tx.new.conn.now)
         → KeepsCommit (state S.Store tx.old.conn.now) (state S.Store tx.new.conn.now) }
     ensures inside { HasCleanDisk (state S.Store tx.new.conn.now)
@@ -132,6 +152,8 @@ fn found<S: Alter>(conn: &mut Connection<S>) -> Result<(), Error>
         → OnOk result (Commits Founds (state S.Store conn.old) (state S.Store conn.new)) }
     ensures err { HasCleanDisk (state S.Store conn.new) → IsTrue (state S.Store conn.new).is_open
         → OnErr result (IsSame (state S.Store conn.old) (state S.Store conn.new)) }
+    ensures fails { HasCleanDisk (state S.Store conn.new)
+        → IfErr result (IsExcused (state S.Store conn.old) (state S.Store conn.new)) }
     ensures idle { conn.new.in_transaction ≡ false }
     ensures crash { Survives (state S.Store conn.old) (state S.Store conn.new) (LeavesNew (state S.Store conn.old)) }
 {
@@ -294,7 +316,7 @@ pub(crate) fn open<S: Alter>(
         → OnErr result (IsSame (state S.Store conn.old) (state S.Store conn.new)) }
     ensures used { IfErr result (λ failure. failure ≡ Failure.Refused StoreRefusal.Foreign
         → (state S.Store conn.old).now.schema ≡ no_schema → ⊥) }
-    ensures fails { HasCleanDisk (state S.Store conn.new) → ((state S.Store conn.old).now.schema ≡ no_schema → ⊥)
+    ensures fails { HasCleanDisk (state S.Store conn.new)
         → FailsToOpen (state S.Store conn.old) (state S.Store conn.new) result }
     ensures idle { conn.new.in_transaction ≡ false }
     ensures crash { Survives (state S.Store conn.old) (state S.Store conn.new) (LeavesNew (state S.Store conn.old)) }

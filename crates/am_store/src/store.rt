@@ -54,9 +54,10 @@ impl<S: Alter> Store<S> {
     /// one that has tables, each row is tested, and nothing is written.
     ///
     /// # Errors
-    /// `F3` where the database has tables and is no store; `F2` where a call of the database was refused; or out of
-    /// memory. The connection is handed back and nothing was written; where a failure shut it, a crash leaves what was
-    /// there before, or a store in which nothing is stored.
+    /// `F3` where the database has tables and is no store; `F2`, of a blank one too, where the disk failed or refused,
+    /// a failure before had shut the connection, or it has a limit on steps; or out of memory. The connection is handed
+    /// back and nothing was written; where a failure shut it, a crash leaves what was there before, or a store in which
+    /// nothing is stored.
     pub fn open(
         alloc: Global,
         mut conn: Connection<S>,
@@ -67,7 +68,6 @@ impl<S: Alter> Store<S> {
         ensures err { IfErr result (λ e. HasCleanDisk (state S.Store e.1) → IsTrue (state S.Store e.1).is_open
             → IsSame (state S.Store conn) (state S.Store e.1)) }
         ensures fails { IfErr result (λ e. HasCleanDisk (state S.Store e.1)
-            → ((state S.Store conn).now.schema ≡ no_schema → ⊥)
             → IsJudged (state S.Store conn) (state S.Store e.1) e.0) }
         ensures used { IfErr result (λ e. e.0 ≡ Failure.Refused StoreRefusal.Foreign
             → (state S.Store conn).now.schema ≡ no_schema → ⊥) }

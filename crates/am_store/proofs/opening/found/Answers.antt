@@ -1,12 +1,14 @@
-use Rattle.std.proofs.Common.{◌≡◌, refl, not, ap, subst, rules, sym, IsTrue, OnErr, ◌∙◌}
+use Rattle.std.proofs.Common.{◌≡◌, refl, not, ap, subst, rules, sym, IfErr, IsTrue, OnErr, ◌∙◌}
 use Rattle.sqlite.specs.Held.{state}
 use Rattle.sqlite.specs.State.{HasCleanDisk, KeepsCommit, Survives}
 use Rattle.sqlite.proofs.Callers.{survives_begin}
 use Rattle.sqlite.proofs.StateLemmas.{survives_then}
+use Rattle.am_store.specs.Failing.{IsExcused}
 use Rattle.am_store.specs.Opening.{LeavesNew}
 use Rattle.am_store.specs.Steps.{IsSame}
 use Rattle.am_store.proofs.Calls.{clean_before}
 use Rattle.am_store.proofs.Commits.{commit_fails}
+use Rattle.am_store.proofs.Failing.{commit_excused, excused_before}
 use Rattle.am_store.proofs.opening.found.Goals as goal
 
 pub returns-clause-err : goal.returns-clause-err
@@ -39,3 +41,31 @@ returns-clause-crash g c =
     (_, rw begun at (c.in_ok-make_tables.ensures.ok (clean_before (state g.S.Store mid) (state g.S.Store last) _ c.commit.ensures.survives clean) (rw begun c.requires.blank)), is)) one c.commit.ensures.survives in
     let same : last ≡ c.conn-2-1.given.0 = search rules in
     subst (λ h. Survives (state g.S.Store old) (state g.S.Store h) P) same whole
+
+pub returns-clause-fails : goal.returns-clause-fails
+returns-clause-fails g c clean =
+    let old = c.args.conn.now in
+    let mid = c.make_tables.new.tx.conn.now in
+    let last = c.commit.new.self.0 in
+    let begun = c.transaction-tx.ensures.begun in
+    let same : last ≡ c.conn-2-1.given.0 = search rules in
+    let clean_last : HasCleanDisk (state g.S.Store last) = subst (λ h. HasCleanDisk (state g.S.Store h)) (sym same) clean in
+    let clean_mid = clean_before (state g.S.Store mid) (state g.S.Store last) _ c.commit.ensures.survives clean_last in
+    let one : Survives (state g.S.Store old) (state g.S.Store mid) (λ _. ⊥) = survives_begin g.S.Store old (state g.S.Store mid) _ (rw begun at c.make_tables.ensures.survives) in
+    let inside = rw begun at (c.in_ok-make_tables.ensures.inside clean_mid) in
+    subst (λ h. IfErr c.commit.result (IsExcused (state g.S.Store old) (state g.S.Store h))) same
+    (commit_excused (state g.S.Store old) (state g.S.Store mid) (state g.S.Store last) _ _ clean_mid one c.commit.ensures.survives (inside refl) c.commit.result (c.commit.ensures.err clean_last))
+
+pub returns-in_err-make_tables-clause-fails : goal.returns-in_err-make_tables-clause-fails
+returns-in_err-make_tables-clause-fails g c clean =
+    let old = c.args.conn.now in
+    let mid = c.make_tables.new.tx.conn.now in
+    let last = c.drop-tx.new.self.0 in
+    let begun = c.transaction-tx.ensures.begun in
+    let same : last ≡ c.conn-1.given.0 = search rules in
+    let clean_last : HasCleanDisk (state g.S.Store last) = subst (λ h. HasCleanDisk (state g.S.Store h)) (sym same) clean in
+    let clean_mid = clean_before (state g.S.Store mid) (state g.S.Store last) _ c.drop-tx.ensures.survives clean_last in
+    let excused : IfErr c.make_tables.result (IsExcused (state g.S.Store old) (state g.S.Store c.conn-1.given.0)) =
+    subst (λ h. IfErr c.make_tables.result (IsExcused (state g.S.Store old) (state g.S.Store h))) same
+    (excused_before (state g.S.Store old) (state g.S.Store mid) (state g.S.Store last) _ c.drop-tx.ensures.survives c.make_tables.result ((rw begun at c.make_tables.ensures.fails) clean_mid refl c.requires.blank)) in
+    search rules
