@@ -36,12 +36,27 @@ use std::marker::Model;
 
 /// What an instance has to do by itself, of all tenants. A call that fails leaves nothing planned of any tenant but how long
 /// groups wait; where `due` and `retry` fail, nothing changes.
-#[derive(Drop)]
 pub struct Agenda {
     paces: Paces,
     groups: Groups,
     attempts: Attempts,
     timers: TimerQueue,
+}
+
+// Written out, so that a crate which owns one need not prove anew how its parts are dropped.
+impl Drop for Agenda {
+    fn drop(self) {
+        let Agenda {
+            paces,
+            groups,
+            attempts,
+            timers,
+        } = self;
+        drop(paces);
+        drop(groups);
+        drop(attempts);
+        drop(timers);
+    }
 }
 
 impl Model for Agenda {

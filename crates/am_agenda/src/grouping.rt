@@ -1,6 +1,6 @@
 //! The groups of alerts, with the timers of their flushes.
 
-ghost use Rattle.std.specs.Prelude.{◌≡◌, ℕ, false, List, [], OnOk, if◌then◌else◌};
+ghost use Rattle.std.specs.Prelude.{◌≡◌, ℕ, false, List, [], IfOk, OnOk, if◌then◌else◌};
 ghost use Rattle.std.specs.List.Sorted.{IsStrictlySortedBy};
 ghost use Rattle.std.specs.Map.{keys_of, lookup};
 ghost use Rattle.am_labels.specs.Labels.{labels_cmp};
@@ -40,35 +40,20 @@ pub fn put_in(
         then gave (flush_due_of paces.now (grouped_of tenant.now groups.new) x.name.key) x.due
         else has_timer timers.old.timers x)) }
 {
+    let changed = copy_groups(alloc, known.groups.as_slice())?;
     groups.put(alloc, tenant, labels, known)?;
-    refresh_known(alloc, timers, groups, paces, tenant, labels)
+    refresh_all(alloc, timers, groups, paces, tenant, changed.as_slice())
 }
 
-// Sets the timers of the groups of an alert anew.
-fn refresh_known(
-    alloc: Global,
-    timers: &mut TimerQueue,
-    groups: &Groups,
-    paces: &[Pace],
-    tenant: &TenantName,
-    labels: &LabelSet,
-) -> Result<(), AllocError>
-    ensures { OnOk result ((x : Timed) → has_timer timers.new.timers x ≡
-        (if is_for_one tenant.now paces.now (groups_known (lookup (is_set labels.now) (grouped_of tenant.now groups.now).alerts)) x
-        then gave (flush_due_of paces.now (grouped_of tenant.now groups.now) x.name.key) x.due
-        else has_timer timers.old.timers x)) }
+/// A copy of groups.
+pub fn copy_groups(alloc: Global, groups: &[Group]) -> Result<Listed<Group>, AllocError>
+    ensures { IfOk result (λ copy. copy ≡ groups.now) }
 {
-    match groups.known(tenant, labels) {
-        Some(known) => refresh_all(
-            alloc,
-            timers,
-            groups,
-            paces,
-            tenant,
-            known.groups.as_slice(),
-        ),
-        None => Ok(()),
+    let mut copies = Vec::with_capacity(alloc, groups.len())?;
+    for group in groups {
+        copies.push(group.copy()?)?;
     }
+    Ok(Listed::from_vec(copies))
 }
 
 /// Removes an alert, and sets the timers of its groups anew.

@@ -10,3 +10,4 @@ mod refresh;
 mod trying;
 
 pub use agenda::Agenda;
+pub use grouping::copy_groups;

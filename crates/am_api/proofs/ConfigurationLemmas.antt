@@ -1,5 +1,5 @@
 -- Why a posted configuration is refused.
-use Rattle.std.proofs.Common.{◌≡◌, ◌⊎◌, ℕ, ◌≤◌, nat_lt, false, List, Result, Ok, Err, length, refl, ap, ◌∙◌, inl, inr, arith}
+use Rattle.std.proofs.Common.{◌≡◌, ◌⊎◌, ℕ, ◌≤◌, nat_lt, false, List, [], Result, Err, length, refl, ap, inl, inr, arith}
 use Rattle.std.proofs.lemmas.Bool.Decides.{nat_tests}
 use Rattle.am_pattern.specs.Cache.{Cache}
 use Rattle.am_match.specs.Checking.{AreRefusedRightly}
@@ -14,16 +14,16 @@ use Rattle.am_config.specs.Configuration as config
 use Rattle.am_config.specs.Refusals as config_refusals
 use Rattle.am_limit.specs.declared.limits.Limits.{Limits}
 use Rattle.am_item.specs.declared.fault.Fault.{Fault}
-use Rattle.am_item.specs.declared.fault.Fault.TheVariants.{CountsExhausted, OutOfMemory, PatternNotBuilt}
 use Rattle.am_item.specs.declared.item.Item.{Item}
 use Rattle.am_alert.specs.declared.maker.Maker.{Maker}
 use Rattle.am_api.specs.declared.decision.Decided.{Decided}
-use Rattle.am_api.specs.Deciding.{Decides, DecidesUnless}
+use Rattle.am_api.specs.Deciding.{Decides, DecidesBy, IsUnbuilt}
 use Rattle.am_query.specs.Patterns.{HasRefused}
 use Rattle.am_query.proofs.Builds.{rightly_or_refused}
 use Rattle.am_api.specs.Decision.{accepted_or_refused, configuration_posted, status_of}
-use Rattle.am_api.specs.Replied.{refused as refused_with}
+use Rattle.am_api.specs.Refusing.{ConfigurationRefuses, refused_document}
 use Rattle.am_api.proofs.Builds.{decides_unless}
+use Rattle.am_api.proofs.Replies.{refuses_decides}
 
 -- a refusal of a matcher
 abbrev pub IsOfMatcher : ConfigRefusal → Type 0
@@ -52,23 +52,29 @@ module _ (drafted : Result Draft DraftRefusal) (old new : Cache) where
 
 -- ---- the reply to it
 
-by_refusal : (refused own stored : List (List ℕ)) (refusal : ConfigRefusal) (held : List Item) (moment : ℕ) (maker : Maker) (outcome : Result config.Configuration ConfigRefusal)
-    (result : Result Decided Fault) → (outcome ≡ Err refusal) ⊎ (IsOfMatcher refusal × HasRefused refused own) →
-    Decides result (refused_with (status_of refusal) (config_refusals.code_of refusal)) → DecidesUnless refused own stored result (accepted_or_refused held moment maker outcome)
-by_refusal refused own stored refusal held moment maker outcome result (inl is) decides = rw is (decides_unless refused own stored result _ decides)
-by_refusal refused own stored refusal held moment maker outcome (Ok d) (inr (inl build, found)) decides = inr (inl (decides.0 ∙ ap (λ r. refused_with (status_of r) (config_refusals.code_of r)) build), found)
-by_refusal refused own stored refusal held moment maker outcome (Ok d) (inr (inr bad, found)) decides = inr (inr (inr (decides.0 ∙ ap (λ r. refused_with (status_of r) (config_refusals.code_of r)) bad)), found)
-by_refusal refused own stored refusal held moment maker outcome (Err CountsExhausted) (inr either) decides = absurd (cc)
-by_refusal refused own stored refusal held moment maker outcome (Err OutOfMemory) (inr either) decides = tt
-by_refusal refused own stored refusal held moment maker outcome (Err PatternNotBuilt) (inr either) decides = absurd decides
+matcher_unbuilt : (refusal : ConfigRefusal) → IsOfMatcher refusal → IsUnbuilt (refused_document refusal)
+matcher_unbuilt refusal (inl build) = inl (ap refused_document build)
+matcher_unbuilt refusal (inr bad) = inr (inr (ap refused_document bad))
+
+by_refusal : (document : List ℕ) (limits : Limits) (old new : Cache) (own stored : List (List ℕ)) (refusal : ConfigRefusal) (held : List Item) (moment : ℕ) (maker : Maker)
+    (outcome : Result config.Configuration ConfigRefusal) (result : Result Decided Fault) → length document ≤ limits.configuration →
+    IsRefusalOf (posted document) old new refusal → (outcome ≡ Err refusal) ⊎ (IsOfMatcher refusal × HasRefused new.refused own) →
+    Decides result (refused_document refusal) →
+    DecidesBy (ConfigurationRefuses document limits old new) new.refused own stored result (accepted_or_refused held moment maker outcome)
+by_refusal document limits old new own stored refusal held moment maker outcome result within found (inl is) decides =
+    rw is (decides_unless (ConfigurationRefuses document limits old new) new.refused own stored result (refused_document refusal) decides)
+by_refusal document limits old new own stored refusal held moment maker outcome result within found (inr unbuilt) decides =
+    refuses_decides (ConfigurationRefuses document limits old new) new.refused own stored (status_of refusal) (config_refusals.code_of refusal)
+    (accepted_or_refused held moment maker outcome) result (within, refusal, refl, found) (matcher_unbuilt refusal unbuilt.0) unbuilt.1 decides
 
 -- a document within the limit that is refused
 pub refusal_decides : (old new : Cache) (refusal : ConfigRefusal) (limits : Limits) (held : List Item) (moment : ℕ) (maker : Maker) (document : List ℕ) →
     length document ≤ limits.configuration → IsRefusalOf (posted document) old new refusal →
     (AreRefusedRightly new.refused (patterns_of_draft (posted document)) → configuration (posted document) ≡ Err refusal) →
-    (result : Result Decided Fault) → Decides result (refused_with (status_of refusal) (config_refusals.code_of refusal)) →
-    (others : List (List ℕ)) → DecidesUnless new.refused (patterns_of_draft (posted document)) others result (configuration_posted limits held moment maker document)
-refusal_decides old new refusal limits held moment maker document within found means result decides others =
+    (result : Result Decided Fault) → Decides result (refused_document refusal) →
+    DecidesBy (ConfigurationRefuses document limits old new) new.refused (patterns_of_draft (posted document)) [] result
+    (configuration_posted limits held moment maker document)
+refusal_decides old new refusal limits held moment maker document within found means result decides =
     let fits : nat_lt limits.configuration (length document) ≡ false = grind (arith, nat_tests) in
-    rw fits (by_refusal new.refused (patterns_of_draft (posted document)) others refusal held moment maker (configuration (posted document)) result
+    rw fits (by_refusal document limits old new (patterns_of_draft (posted document)) [] refusal held moment maker (configuration (posted document)) result within found
     (configuration_refused (posted document) old new refusal found means) decides)

@@ -16,3 +16,5 @@ mod StoredLemmas
 mod StoredSilences
 -- the patterns of the items of a decision
 mod StoredItems
+-- the texts that are refused more
+pub mod Adding

@@ -1,6 +1,7 @@
 -- The replies to requests whose patterns are refused.
-use Rattle.std.proofs.Common.{◌≡◌, ◌⊎◌, ℕ, List, Result, Ok, Err, ap, ◌∙◌, inl, inr}
+use Rattle.std.proofs.Common.{◌≡◌, ◌⊎◌, ℕ, ◌≤◌, true, List, Result, Ok, Err, length, refl, sym, ap, subst, inl, inr}
 use Rattle.std.specs.Prelude.{codes}
+use Rattle.std.specs.List.{list_all}
 use Rattle.am_item.specs.declared.fault.Fault.{Fault}
 use Rattle.am_item.specs.declared.fault.Fault.TheVariants.{CountsExhausted, OutOfMemory, PatternNotBuilt}
 use Rattle.am_item.specs.declared.item.Item.{Item}
@@ -10,68 +11,91 @@ use Rattle.am_pattern.proofs.AskingLemmas.{grows-stays}
 use Rattle.am_api.specs.declared.decision.Decided.{Decided}
 use Rattle.am_match.specs.Matchers.{MatcherText}
 use Rattle.am_query.specs.declared.query.Query.{Query}
+use Rattle.am_match.specs.declared.refusal.MatcherRefusal.TheVariants.{BadPattern, BuildRefused}
 use Rattle.am_query.specs.declared.refusal.QueryRefusal.{QueryRefusal}
+use Rattle.am_query.specs.declared.refusal.QueryRefusal.TheVariants.{BadMatcher}
 use Rattle.am_query.specs.Patterns.{HasRefused}
+use Rattle.am_query.specs.declared.query.Parameter.{Parameter}
 use Rattle.am_query.specs.Queries.{code_of, status_of}
+use Rattle.am_query.specs.Stopping.{StopsAt, is_fine}
 use Rattle.am_query.specs.Unbuilt.{IsUnbuiltRefusal}
-use Rattle.am_silence.specs.Posted.{Posted}
+use Rattle.am_silence.specs.Deciding.{FirstDecides}
+use Rattle.am_silence.specs.Posted.{Posted, patterns_in_body}
+use Rattle.am_silence.specs.Refusals.{code_of as silence_code}
 use Rattle.am_silence.specs.Unbuilt.{IsUnbuilt}
 use Rattle.am_silence.specs.declared.refusal.SilenceRefusal.{SilenceRefusal}
+use Rattle.am_silence.specs.declared.refusal.SilenceRefusal.TheVariants as silence
+use Rattle.am_limit.specs.declared.limits.Limits.{Limits}
 use Rattle.am_alert.specs.declared.maker.Maker.{Maker}
 use Rattle.rand_chacha.specs.ChaCha.{ChaCha}
-use Rattle.am_api.specs.Deciding.{Decides, DecidesUnless}
+use Rattle.am_api.specs.Deciding.{Decides, DecidesBy, IsUnbuilt as IsUnbuiltReply}
 use Rattle.am_api.specs.Decision.{listed_or_refused}
 use Rattle.am_api.specs.Replied.{Decision, refused as refused_with}
-use Rattle.am_api.specs.Silences.{posted_or_refused, refused_for, silences_or_refused}
+use Rattle.am_api.specs.Refusing.{IsNotAnswered, ListRefuses, QueryRefuses, SilenceRefuses, refused_query}
+use Rattle.am_api.specs.Silences.{posted_or_refused, refused_for, silences_or_refused, status_of as silence_status}
 use Rattle.am_api.proofs.Builds.{decides_unless}
 
--- a refusal for a pattern that is not built
-pub unbuilt_decides : (refused own stored : List (List ℕ)) (decision : Decision) (result : Result Decided Fault) → HasRefused refused own →
-    Decides result (refused_with 503 (codes "B2")) → DecidesUnless refused own stored result decision
-unbuilt_decides refused own stored decision (Ok d) found decides = inr (inl decides.0, found)
-unbuilt_decides refused own stored decision (Err CountsExhausted) found decides = absurd (cc)
-unbuilt_decides refused own stored decision (Err OutOfMemory) found decides = tt
-unbuilt_decides refused own stored decision (Err PatternNotBuilt) found decides = absurd decides
+-- a refusal of a pattern that is not built
+pub refuses_decides : (Refuses : Decision → Type 0) (refused own stored : List (List ℕ)) (status : ℕ) (code : List ℕ) (decision : Decision)
+    (result : Result Decided Fault) → Refuses (refused_with status code) → IsUnbuiltReply (refused_with status code) → HasRefused refused own →
+    Decides result (refused_with status code) →
+    DecidesBy Refuses refused own stored result decision
+refuses_decides Refuses refused own stored status code decision (Ok d) refuses unbuilt found decides =
+    inr (subst Refuses (sym decides.0) refuses, (subst IsUnbuiltReply (sym decides.0) unbuilt, found))
+refuses_decides Refuses refused own stored status code decision (Err CountsExhausted) refuses unbuilt found decides = absurd (cc)
+refuses_decides Refuses refused own stored status code decision (Err OutOfMemory) refuses unbuilt found decides = tt
+refuses_decides Refuses refused own stored status code decision (Err PatternNotBuilt) refuses unbuilt found decides = absurd decides
 
-by_reason : (refused own stored : List (List ℕ)) (reason : QueryRefusal) (decision : Decision) (result : Result Decided Fault) →
-    IsUnbuiltRefusal refused own reason → Decides result (refused_with (status_of reason) (code_of reason)) → DecidesUnless refused own stored result decision
-by_reason refused own stored reason decision (Ok d) (inl build, found) decides = inr (inl (decides.0 ∙ ap (λ r. refused_with (status_of r) (code_of r)) build), found)
-by_reason refused own stored reason decision (Ok d) (inr deep, found) decides = inr (inr (inl (decides.0 ∙ ap (λ r. refused_with (status_of r) (code_of r)) deep)), found)
-by_reason refused own stored reason decision (Err CountsExhausted) unbuilt decides = absurd (cc)
-by_reason refused own stored reason decision (Err OutOfMemory) unbuilt decides = tt
-by_reason refused own stored reason decision (Err PatternNotBuilt) unbuilt decides = absurd decides
+-- one that is not built when it is asked
+pub unbuilt_decides : (ps : List Parameter) (refused own stored : List (List ℕ)) (decision : Decision) (result : Result Decided Fault) →
+    list_all is_fine ps ≡ true → HasRefused refused own → Decides result (refused_with 503 (codes "B2")) →
+    DecidesBy (IsNotAnswered ps) refused own stored result decision
+unbuilt_decides ps refused own stored decision result fine found decides =
+    refuses_decides (IsNotAnswered ps) refused own stored 503 (codes "B2") decision result (refl, fine) (inl refl) found decides
+
+query_unbuilt : (reason : QueryRefusal) → (reason ≡ BadMatcher BuildRefused) ⊎ (reason ≡ BadMatcher BadPattern) → IsUnbuiltReply (refused_query reason)
+query_unbuilt reason (inl build) = inl (ap refused_query build)
+query_unbuilt reason (inr deep) = inr (inl (ap refused_query deep))
+
+silence_unbuilt : (reason : SilenceRefusal) → (reason ≡ silence.BadMatcher BuildRefused) ⊎ (reason ≡ silence.BadMatcher BadPattern) →
+    IsUnbuiltReply (refused_for reason)
+silence_unbuilt reason (inl build) = inl (ap refused_for build)
+silence_unbuilt reason (inr deep) = inr (inl (ap refused_for deep))
 
 -- a query that is refused
-pub query_refused : (refused own stored : List (List ℕ)) (reason : QueryRefusal) (text : Query → List ℕ) (outcome : Result Query QueryRefusal)
-    (result : Result Decided Fault) → (outcome ≡ Err reason) ⊎ IsUnbuiltRefusal refused own reason →
-    Decides result (refused_with (status_of reason) (code_of reason)) → DecidesUnless refused own stored result (listed_or_refused text outcome)
-query_refused refused own stored reason text outcome result (inl is) decides = rw is (decides_unless refused own stored result _ decides)
-query_refused refused own stored reason text outcome result (inr unbuilt) decides =
-    by_reason refused own stored reason (listed_or_refused text outcome) result unbuilt decides
+pub query_refused : (ps : List Parameter) (old new : Cache) (own stored : List (List ℕ)) (reason : QueryRefusal) (text : Query → List ℕ)
+    (outcome : Result Query QueryRefusal) (result : Result Decided Fault) → (outcome ≡ Err reason) ⊎ IsUnbuiltRefusal new.refused own reason →
+    StopsAt ps reason old new → Decides result (refused_query reason) →
+    DecidesBy (ListRefuses ps old new) new.refused own stored result (listed_or_refused text outcome)
+query_refused ps old new own stored reason text outcome result (inl is) stops decides =
+    rw is (decides_unless (ListRefuses ps old new) new.refused own stored result (refused_query reason) decides)
+query_refused ps old new own stored reason text outcome result (inr unbuilt) stops decides =
+    refuses_decides (ListRefuses ps old new) new.refused own stored (status_of reason) (code_of reason) (listed_or_refused text outcome) result
+    (inl (reason, refl, stops)) (query_unbuilt reason unbuilt.0) unbuilt.1 decides
 
 -- filters that are refused
-pub filters_refused : (refused own stored : List (List ℕ)) (reason : QueryRefusal) (held : List Item) (moment : ℕ) (outcome : Result (List MatcherText) QueryRefusal)
-    (result : Result Decided Fault) → (outcome ≡ Err reason) ⊎ IsUnbuiltRefusal refused own reason →
-    Decides result (refused_with (status_of reason) (code_of reason)) → DecidesUnless refused own stored result (silences_or_refused held moment outcome)
-filters_refused refused own stored reason held moment outcome result (inl is) decides = rw is (decides_unless refused own stored result _ decides)
-filters_refused refused own stored reason held moment outcome result (inr unbuilt) decides =
-    by_reason refused own stored reason (silences_or_refused held moment outcome) result unbuilt decides
-
-by_silence : (refused own stored : List (List ℕ)) (reason : SilenceRefusal) (decision : Decision) (result : Result Decided Fault) →
-    IsUnbuilt refused own reason → Decides result (refused_for reason) → DecidesUnless refused own stored result decision
-by_silence refused own stored reason decision (Ok d) (inl build, found) decides = inr (inl (decides.0 ∙ ap refused_for build), found)
-by_silence refused own stored reason decision (Ok d) (inr deep, found) decides = inr (inr (inl (decides.0 ∙ ap refused_for deep)), found)
-by_silence refused own stored reason decision (Err CountsExhausted) unbuilt decides = absurd (cc)
-by_silence refused own stored reason decision (Err OutOfMemory) unbuilt decides = tt
-by_silence refused own stored reason decision (Err PatternNotBuilt) unbuilt decides = absurd decides
+pub filters_refused : (ps : List Parameter) (old new : Cache) (own stored : List (List ℕ)) (reason : QueryRefusal) (held : List Item) (moment : ℕ)
+    (outcome : Result (List MatcherText) QueryRefusal) (result : Result Decided Fault) →
+    (outcome ≡ Err reason) ⊎ IsUnbuiltRefusal new.refused own reason → StopsAt ps reason old new → Decides result (refused_query reason) →
+    DecidesBy (QueryRefuses ps old new) new.refused own stored result (silences_or_refused held moment outcome)
+filters_refused ps old new own stored reason held moment outcome result (inl is) stops decides =
+    rw is (decides_unless (QueryRefuses ps old new) new.refused own stored result (refused_query reason) decides)
+filters_refused ps old new own stored reason held moment outcome result (inr unbuilt) stops decides =
+    refuses_decides (QueryRefuses ps old new) new.refused own stored (status_of reason) (code_of reason) (silences_or_refused held moment outcome) result
+    (reason, refl, stops) (query_unbuilt reason unbuilt.0) unbuilt.1 decides
 
 -- a posted silence that is refused
-pub silence_refused : (refused own stored : List (List ℕ)) (reason : SilenceRefusal) (limit : ℕ) (held : List Item) (moment : ℕ) (maker : Maker) (words : ChaCha)
-    (outcome : Result Posted SilenceRefusal) (result : Result Decided Fault) → (outcome ≡ Err reason) ⊎ IsUnbuilt refused own reason →
-    Decides result (refused_for reason) → DecidesUnless refused own stored result (posted_or_refused limit held moment maker words outcome)
-silence_refused refused own stored reason limit held moment maker words outcome result (inl is) decides = rw is (decides_unless refused own stored result _ decides)
-silence_refused refused own stored reason limit held moment maker words outcome result (inr unbuilt) decides =
-    by_silence refused own stored reason (posted_or_refused limit held moment maker words outcome) result unbuilt decides
+pub silence_refused : (body : List ℕ) (limits : Limits) (old new : Cache) (stored : List (List ℕ)) (reason : SilenceRefusal) (limit : ℕ) (held : List Item)
+    (moment : ℕ) (maker : Maker) (words : ChaCha) (outcome : Result Posted SilenceRefusal) (result : Result Decided Fault) →
+    length body ≤ limits.silence → (outcome ≡ Err reason) ⊎ IsUnbuilt new.refused (patterns_in_body body) reason →
+    FirstDecides (patterns_in_body body) old new reason → Decides result (refused_for reason) →
+    DecidesBy (SilenceRefuses body limits old new) new.refused (patterns_in_body body) stored result
+    (posted_or_refused limit held moment maker words outcome)
+silence_refused body limits old new stored reason limit held moment maker words outcome result within (inl is) first decides =
+    rw is (decides_unless (SilenceRefuses body limits old new) new.refused (patterns_in_body body) stored result (refused_for reason) decides)
+silence_refused body limits old new stored reason limit held moment maker words outcome result within (inr unbuilt) first decides =
+    refuses_decides (SilenceRefuses body limits old new) new.refused (patterns_in_body body) stored (silence_status reason) (silence_code reason)
+    (posted_or_refused limit held moment maker words outcome) result (within, reason, refl, unbuilt, first) (silence_unbuilt reason unbuilt.0) unbuilt.1 decides
 
 -- a call that asks leaves a cache in which no refused build is forgotten
 pub asked_grows : {X E : Type 0} (result : Result X E) (old new : Cache) → Asked result old new → Grows old new

@@ -38,6 +38,13 @@ DecidesUnless refused own stored (Err CountsExhausted) decision = counts_fit dec
 DecidesUnless refused own stored (Err OutOfMemory) decision = Unit {0}
 DecidesUnless refused own stored (Err PatternNotBuilt) decision = HasUnanswered refused stored
 
+-- .. where such a pattern refuses the request so alone
+abbrev pub DecidesBy : (Decision → Type 0) → List (List ℕ) → List (List ℕ) → List (List ℕ) → Result Decided Fault → Decision →
+    Type 0
+DecidesBy Refuses refused own stored (Ok d) decision =
+    IsDecision d decision ⊎ (Refuses (decision_of d) × (IsUnbuilt (decision_of d) × HasRefused refused own))
+DecidesBy Refuses refused own stored (Err fault) decision = DecidesUnless refused own stored (Err fault) decision
+
 -- the items are stamped with one count after another, from the one after those that were used
 abbrev pub AreCounted : ℕ → List Item → Type 0
 AreCounted used [] = Unit {0}

@@ -10,3 +10,5 @@ pub mod Fresh
 pub mod Patterns
 -- what is returned, against the decision
 pub mod Deciding
+-- how requests are refused for patterns that aren't built, and which stored ones they ask
+pub mod Refusing

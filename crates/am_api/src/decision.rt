@@ -1,14 +1,16 @@
 //! The decision on a request of a tenant.
 
-ghost use Rattle.std.specs.Prelude.{◌≡◌, ℕ, List, All};
+ghost use Rattle.std.specs.Prelude.{◌≡◌, ◌++◌, [], All};
 ghost use Rattle.am_pattern.specs.Asking.{Grows};
 ghost use Rattle.am_match.specs.Checking.{AreRefusedRightly};
 ghost use Rattle.am_pattern.specs.Taking.{IsPattern};
 ghost use Rattle.am_current.specs.Current.{configuration_in};
+ghost use Rattle.am_muting.specs.Failing.{AddsAmong};
 ghost use Rattle.am_listing.specs.Failing.{patterns_in_use};
-ghost use Rattle.am_api.specs.Deciding.{Decides, DecidesUnless, decision_of};
+ghost use Rattle.am_api.specs.Deciding.{Decides, DecidesBy, DecidesUnless, decision_of};
 ghost use Rattle.am_api.specs.Decision.{alerts_decided, configuration_decided, decided, decided_by, receivers_decided};
 ghost use Rattle.am_api.specs.Patterns.{patterns_by, patterns_of_alerts, patterns_of_document, patterns_of_request};
+ghost use Rattle.am_api.specs.Refusing.{AlertsRefuse, DocumentRefuses, Refuses, RefusesBy, asked_by, asked_by_method, stored_asked};
 ghost use Rattle.am_api.specs.Replied.{refused, replied, stored};
 
 use crate::configuration::{delete_configuration, post_configuration, read_configuration};
@@ -46,7 +48,7 @@ pub struct Decided {
 /// # Errors
 /// A count of `maker` would pass 2^62; a pattern of `config` or of an active silence gave no answer, as its build was
 /// refused; or out of memory. A pattern of the request itself that was refused its build is a decision, the refusal `B2`.
-#[tactic(auto, unfolding(crate::specs::Decision::decided, crate::specs::Patterns::patterns_of_request))]
+#[tactic(auto, unfolding(crate::specs::Decision::decided, crate::specs::Patterns::patterns_of_request, crate::specs::Refusing::Refuses, crate::specs::Refusing::stored_asked))]
 pub fn decide(
     alloc: Global,
     request: &Request,
@@ -61,7 +63,15 @@ pub fn decide(
     requires { config.now ≡ configuration_in held.now }
     ensures decides { DecidesUnless cache.new.refused (patterns_of_request request.now)
         (patterns_in_use config.now moment held.now) result (decided request.now held.now limits moment maker words) }
+
+    // Where a pattern of the request is refused its build, the request's own check that meets it refuses the request, and
+    // none before it did; the fault comes of a stored pattern where the request asks such.
+    ensures refuses { DecidesBy (Refuses request.now limits cache.old cache.new) cache.new.refused (patterns_of_request request.now)
+        (stored_asked request.now (patterns_in_use config.now moment held.now)) result
+        (decided request.now held.now limits moment maker words) }
     ensures asked { Grows cache.old cache.new }
+    ensures adds { AddsAmong (patterns_of_request request.now ++ stored_asked request.now (patterns_in_use config.now moment held.now))
+        cache.old.refused cache.new.refused }
 
     // Where no build of a pattern of the request or of one in use was refused, it is the decision.
     ensures meaning { AreRefusedRightly cache.new.refused (patterns_of_request request.now) →
@@ -86,10 +96,14 @@ fn decide_by(
     words: Words,
     cache: &mut PatternCache,
 ) -> Result<Decided, Fault>
-    ensures decides { DecidesUnless cache.new.refused (patterns_by request.now.endpoint request.now)
-        (patterns_in_use config.now moment held.now) result
+    ensures decides { DecidesBy (RefusesBy request.now.endpoint request.now limits cache.old cache.new) cache.new.refused
+        (patterns_by request.now.endpoint request.now)
+        (asked_by request.now.endpoint request.now.method (patterns_in_use config.now moment held.now)) result
         (decided_by config.now request.now request.now.endpoint held.now limits moment maker words) }
     ensures asked { Grows cache.old cache.new }
+    ensures adds { AddsAmong (patterns_by request.now.endpoint request.now
+        ++ asked_by request.now.endpoint request.now.method (patterns_in_use config.now moment held.now))
+        cache.old.refused cache.new.refused }
 {
     match &request.endpoint {
         Endpoint::Alerts => {
@@ -120,10 +134,14 @@ fn decide_alerts(
     maker: Maker,
     cache: &mut PatternCache,
 ) -> Result<Decided, Fault>
-    ensures decides { DecidesUnless cache.new.refused (patterns_of_alerts request.now.method request.now)
-        (patterns_in_use config.now moment held.now) result
+    ensures decides { DecidesBy (AlertsRefuse request.now.method request.now cache.old cache.new) cache.new.refused
+        (patterns_of_alerts request.now.method request.now)
+        (asked_by_method request.now.method (patterns_in_use config.now moment held.now)) result
         (alerts_decided config.now request.now request.now.method held.now limits moment maker) }
     ensures asked { Grows cache.old cache.new }
+    ensures adds { AddsAmong (patterns_of_alerts request.now.method request.now
+        ++ asked_by_method request.now.method (patterns_in_use config.now moment held.now))
+        cache.old.refused cache.new.refused }
 {
     match request.method {
         Method::Get => decide_list(alloc, request.query.as_str(), held, config, moment, cache),
@@ -153,10 +171,12 @@ fn decide_configuration(
     maker: Maker,
     cache: &mut PatternCache,
 ) -> Result<Decided, Fault>
-    ensures decides { (stored : List (List ℕ)) → DecidesUnless cache.new.refused
-        (patterns_of_document request.now.method request.now) stored result
+    ensures decides { DecidesBy (DocumentRefuses request.now.method request.now limits cache.old cache.new) cache.new.refused
+        (patterns_of_document request.now.method request.now) [] result
         (configuration_decided request.now request.now.method held.now limits moment maker) }
     ensures asked { Grows cache.old cache.new }
+    ensures adds { AddsAmong (patterns_of_document request.now.method request.now)
+        cache.old.refused cache.new.refused }
 {
     match request.method {
         Method::Get => read_configuration(alloc, held),

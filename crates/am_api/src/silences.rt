@@ -1,15 +1,17 @@
 //! Requests to the silences.
 
-ghost use Rattle.std.specs.Prelude.{◌≡◌, ◌∷◌, ℕ, List, []};
+ghost use Rattle.std.specs.Prelude.{◌≡◌, ◌∷◌, []};
 ghost use Rattle.am_pattern.specs.Asking.{Grows};
+ghost use Rattle.am_muting.specs.Failing.{AddsAmong};
 ghost use Rattle.am_silence.specs.Changing.{write_of};
 ghost use Rattle.am_silence.specs.Having.{having};
 ghost use Rattle.am_silence.specs.Posted.{patterns_in_body};
 ghost use Rattle.am_query.specs.Patterns.{patterns_of_filters};
-ghost use Rattle.am_query.specs.Queries.{filters_in};
+ghost use Rattle.am_query.specs.Queries.{filters_among, filters_in, parameters_in};
 ghost use Rattle.am_payload.specs.Silences.{silences_text};
-ghost use Rattle.am_api.specs.Deciding.{Decides, DecidesUnless};
+ghost use Rattle.am_api.specs.Deciding.{Decides, DecidesBy};
 ghost use Rattle.am_api.specs.Patterns.{patterns_of_silences};
+ghost use Rattle.am_api.specs.Refusing.{QueryRefuses, SilenceRefuses, SilencesRefuse};
 ghost use Rattle.am_api.specs.Replied.{replied, stored};
 ghost use Rattle.am_api.specs.Silences.{read_or_unknown, refused_for, silence_decided, silence_items, silence_named, silence_posted, silences_decided, silences_or_refused, status_of};
 
@@ -39,10 +41,12 @@ pub(crate) fn decide_silences(
     words: Words,
     cache: &mut PatternCache,
 ) -> Result<Decided, Fault>
-    ensures decides { (stored : List (List ℕ)) → DecidesUnless cache.new.refused
-        (patterns_of_silences request.now.method request.now) stored result
+    ensures decides { DecidesBy (SilencesRefuse request.now.method request.now limits cache.old cache.new) cache.new.refused
+        (patterns_of_silences request.now.method request.now) [] result
         (silences_decided request.now request.now.method held.now limits moment maker words) }
     ensures asked { Grows cache.old cache.new }
+    ensures adds { AddsAmong (patterns_of_silences request.now.method request.now)
+        cache.old.refused cache.new.refused }
 {
     match request.method {
         Method::Get => list_silences(alloc, request.query.as_str(), held, moment, cache),
@@ -80,9 +84,11 @@ fn list_silences(
     moment: Moment,
     cache: &mut PatternCache,
 ) -> Result<Decided, Fault>
-    ensures decides { (stored : List (List ℕ)) → DecidesUnless cache.new.refused (patterns_of_filters query.now) stored
-        result (silences_or_refused held.now moment (filters_in query.now)) }
+    ensures decides { DecidesBy (QueryRefuses (filters_among (parameters_in query.now)) cache.old cache.new) cache.new.refused
+        (patterns_of_filters query.now) [] result (silences_or_refused held.now moment (filters_in query.now)) }
     ensures asked { Grows cache.old cache.new }
+    ensures adds { AddsAmong (patterns_of_filters query.now)
+        cache.old.refused cache.new.refused }
 {
     match read_filters(alloc, query, cache) {
         Ok(wanted) => list_having(alloc, &wanted, held, moment),
@@ -165,9 +171,11 @@ fn post_silence(
     words: Words,
     cache: &mut PatternCache,
 ) -> Result<Decided, Fault>
-    ensures decides { (stored : List (List ℕ)) → DecidesUnless cache.new.refused (patterns_in_body body.now) stored
-        result (silence_posted limits held.now moment maker words body.now) }
+    ensures decides { DecidesBy (SilenceRefuses body.now limits cache.old cache.new) cache.new.refused
+        (patterns_in_body body.now) [] result (silence_posted limits held.now moment maker words body.now) }
     ensures asked { Grows cache.old cache.new }
+    ensures adds { AddsAmong (patterns_in_body body.now)
+        cache.old.refused cache.new.refused }
 {
     if limits.silence < body.len() as u64 {
         return refuse(alloc, 400, "Li4");

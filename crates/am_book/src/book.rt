@@ -21,11 +21,25 @@ use std::collections::{BTreeMap, BTreeSet};
 use std::marker::Model;
 
 /// The items of all tenants: for each tenant the best of what was put, in the order of keys, but what retired.
-#[derive(Debug, Drop)]
+#[derive(Debug)]
 pub struct Book {
     tenants: BTreeMap<TenantName, Held>,
     rows: BTreeSet<Row>,
     nothing: Held,
+}
+
+// Written out, so that a crate which owns one need not prove anew how its parts are dropped.
+impl Drop for Book {
+    fn drop(self) {
+        let Book {
+            tenants,
+            rows,
+            nothing,
+        } = self;
+        drop(tenants);
+        drop(rows);
+        drop(nothing);
+    }
 }
 
 impl Model for Book {

@@ -13,13 +13,29 @@ use am_text::{Listed, Node, Text};
 use std::marker::Model;
 
 /// A configuration that passed every check, with everything that its text says.
-#[derive(Drop)]
 pub struct Config {
     pub(crate) text: Text,
     pub(crate) resolve_timeout: u64,
     pub(crate) routes: Listed<Node<Route>>,
     pub(crate) receivers: Listed<Receiver>,
     pub(crate) rules: Listed<Rule>,
+}
+
+// Written out, so that a crate which owns one need not prove anew how its parts are dropped.
+impl Drop for Config {
+    fn drop(self) {
+        let Config {
+            text,
+            resolve_timeout: _resolve_timeout,
+            routes,
+            receivers,
+            rules,
+        } = self;
+        drop(text);
+        drop(routes);
+        drop(receivers);
+        drop(rules);
+    }
 }
 
 impl Model for Config {

@@ -20,9 +20,16 @@ use std::alloc::{AllocError, Global};
 use std::marker::Model;
 
 /// What is held of all tenants, and the configurations that were read of it.
-#[derive(Drop)]
 pub struct Holdings {
     parts: Parts,
+}
+
+// Written out, so that a crate which owns one need not prove anew how its parts are dropped.
+impl Drop for Holdings {
+    fn drop(self) {
+        let Holdings { parts } = self;
+        drop(parts);
+    }
 }
 
 // The items, and of some tenants what their configuration was read as.

@@ -1,5 +1,5 @@
 -- What stands under each group.
-use Rattle.std.proofs.Common.{◌≡◌, ◌||◌, Bool, true, false, cond, inl, inr, ℕ, List, [], ◌∷◌, ◌++◌, Option, Some, None, Vec, Global, filter, map, refl, sym, ap, ap₂, ◌∙◌, append-nil, subst}
+use Rattle.std.proofs.Common.{◌≡◌, Bool, true, false, cond, inl, inr, ℕ, List, [], ◌∷◌, ◌++◌, Option, Some, None, Vec, Global, filter, map, refl, sym, ap, ap₂, ◌∙◌, append-nil, subst}
 use Rattle.std.specs.BTreeMap.{insert_entry, is_at}
 use Rattle.std.specs.Cmp.{Equal-is}
 use Rattle.std.specs.List.{list_any}

@@ -1,6 +1,6 @@
 //! The list of groups.
 
-ghost use Rattle.std.specs.Prelude.{◌≡◌, ◌∷◌, ℕ, [], List, All, IfErr, IfOk, OnOk, length, map};
+ghost use Rattle.std.specs.Prelude.{◌≡◌, ◌∷◌, ◌++◌, ℕ, [], List, All, IfErr, IfOk, OnErr, OnOk, length, map};
 ghost use Rattle.std.specs.BTreeMap.{IsOrdered};
 ghost use Rattle.std.specs.List.{range_with_len};
 ghost use Rattle.std.specs.Option.{ForSome, option_to_list};
@@ -9,6 +9,7 @@ ghost use Rattle.am_pattern.specs.Asking.{Asked};
 ghost use Rattle.am_pattern.specs.Taking.{IsPattern};
 ghost use Rattle.am_match.specs.Matchers.{patterns_of};
 ghost use Rattle.am_query.specs.Patterns.{patterns_asked};
+ghost use Rattle.am_muting.specs.Failing.{AddsAmong};
 ghost use Rattle.am_listing.specs.Failing.{IsUnanswered, patterns_in_use};
 ghost use Rattle.am_listing.specs.Receivers.{is_asked};
 ghost use Rattle.am_payload.specs.declared.groups.ReadGroup.{ReadGroup};
@@ -51,6 +52,7 @@ pub fn list_groups(
     requires receiver { ForSome query.now.receiver IsPattern }
     ensures text { IfOk result (λ o. o ≡ groups_text config.now query.now moment held.now) }
     ensures asked { Asked result cache.old cache.new }
+    ensures adds { OnErr result (AddsAmong (patterns_asked query.now ++ patterns_in_use config.now moment held.now) cache.old.refused cache.new.refused) }
     ensures failure { IfErr result (λ failure. ForRefused failure
         (IsUnanswered cache.new.refused (patterns_asked query.now) (patterns_in_use config.now moment held.now))) }
 {
@@ -72,6 +74,7 @@ fn asked_routes(
     ensures flags { IfOk result (λ v. v.items
         ≡ map (λ number. is_asked receiver.now (receiver_name config.now number ∷ [])) (range_with_len 0 (length config.now.routes))) }
     ensures asked { Asked result cache.old cache.new }
+    ensures adds { OnErr result (AddsAmong (option_to_list receiver.now) cache.old.refused cache.new.refused) }
     ensures failure { (stored : List (List ℕ)) → IfErr result (λ failure. ForRefused failure
         (IsUnanswered cache.new.refused (option_to_list receiver.now) stored)) }
 {

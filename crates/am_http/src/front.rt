@@ -12,10 +12,18 @@ use std::marker::Model;
 
 /// The connections that are being read, each with its bytes. A contract sees them as a list of the
 /// connections' numbers with the bytes that came.
-#[derive(Drop)]
 pub struct Front {
     paths: Paths,
     connections: BTreeMap<ConnectionId, Connection>,
+}
+
+// Written out, so that a crate which owns one need not prove anew how its parts are dropped.
+impl Drop for Front {
+    fn drop(self) {
+        let Front { paths, connections } = self;
+        drop(paths);
+        drop(connections);
+    }
 }
 
 impl Model for Front {

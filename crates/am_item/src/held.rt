@@ -36,12 +36,28 @@ pub struct Standing {
 
 /// What is held of one tenant: of each key the item with the greatest stamp, kind by kind, each kind in the
 /// order of its keys.
-#[derive(Debug, Drop)]
+#[derive(Debug)]
 pub struct Held {
     configuration: Option<Stamped<Option<Text>>>,
     silences: BTreeMap<SilenceId, Stamped<SilenceDetails>>,
     alerts: BTreeMap<LabelSet, Stamped<AlertDetails>>,
     sent: BTreeMap<EntryKey, Stamped<EntryDetails>>,
+}
+
+// Written out, so that a crate which owns one need not prove anew how its parts are dropped.
+impl Drop for Held {
+    fn drop(self) {
+        let Held {
+            configuration,
+            silences,
+            alerts,
+            sent,
+        } = self;
+        drop(configuration);
+        drop(silences);
+        drop(alerts);
+        drop(sent);
+    }
 }
 
 impl Model for Held {

@@ -6,9 +6,17 @@ use am_labels::LabelSet;
 use std::marker::Model;
 
 /// Label sets in their order, each once.
-#[derive(Debug, Drop)]
+#[derive(Debug)]
 pub struct LabelSets {
     sets: Vec<LabelSet>,
+}
+
+// Written out, so that a crate which owns one need not prove anew how its parts are dropped.
+impl Drop for LabelSets {
+    fn drop(self) {
+        let LabelSets { sets } = self;
+        drop(sets);
+    }
 }
 
 impl Model for LabelSets {

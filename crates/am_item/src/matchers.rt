@@ -4,9 +4,17 @@ use am_match::Matcher;
 use std::marker::Model;
 
 /// The matchers of a silence, in their order.
-#[derive(Debug, Drop)]
+#[derive(Debug)]
 pub struct Matchers {
     items: Vec<Matcher>,
+}
+
+// Written out, so that a crate which owns one need not prove anew how its parts are dropped.
+impl Drop for Matchers {
+    fn drop(self) {
+        let Matchers { items } = self;
+        drop(items);
+    }
 }
 
 impl Model for Matchers {

@@ -4,3 +4,4 @@ pub mod InOrder
 pub mod Values
 pub mod Refusing
 pub mod Rules
+pub mod Flattening

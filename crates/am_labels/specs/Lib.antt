@@ -1,3 +1,4 @@
 pub mod Labels
 pub mod Sets
 pub mod Hashes
+pub mod Flat

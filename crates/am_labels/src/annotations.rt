@@ -10,9 +10,17 @@ use std::alloc::{AllocError, Global};
 use std::marker::Model;
 
 /// A finite map from label names to texts, which may be empty: its pairs in order of name.
-#[derive(Debug, Drop)]
+#[derive(Debug)]
 pub struct Annotations {
     labels: Vec<Label>,
+}
+
+// Written out, so that a crate which owns one need not prove anew how its parts are dropped.
+impl Drop for Annotations {
+    fn drop(self) {
+        let Annotations { labels } = self;
+        drop(labels);
+    }
 }
 
 impl Model for Annotations {

@@ -3,21 +3,37 @@ ghost use Rattle.std.specs.Cmp.{partial_equiv_from_equiv, eq_by_cmp_equiv, po};
 ghost use Rattle.std.specs.Ordering.{eq_by_cmp};
 ghost use Rattle.am_labels.specs.Labels.{labels_cmp, labels_total};
 
+use crate::flat::flat_text;
 use crate::hash::fingerprint_of;
 use crate::pairs::{read_pairs, value_in};
 use crate::{Label, LabelRefusal};
-use am_text::Failure;
+use am_text::{Failure, Text};
 use std::alloc::{AllocError, Global};
 use std::cmp::Ordering;
 use std::marker::Model;
-use std::rc::RcSlice;
+use std::rc::Rc;
 
 /// A finite map from label names to values that aren't empty: its labels in order of name.
 ///
 /// Label sets are ordered by their lists of labels.
-#[derive(Debug, Drop)]
+#[derive(Debug)]
 pub struct LabelSet {
-    labels: RcSlice<Label>,
+    parts: Rc<Parts>,
+}
+
+// The labels, and the text that stands for them in comparisons: one text compares faster than many.
+#[derive(Debug, Drop)]
+struct Parts {
+    labels: Vec<Label>,
+    flat: Option<Text>,
+}
+
+// Written out, so that a crate which owns one need not prove anew how its parts are dropped.
+impl Drop for LabelSet {
+    fn drop(self) {
+        let LabelSet { parts } = self;
+        drop(parts);
+    }
 }
 
 impl Model for LabelSet {
@@ -26,12 +42,13 @@ impl Model for LabelSet {
 
     ghost Value = { List Label };
 
-    ghost use Rattle.std.specs.Rc.{rc_slice_items};
+    ghost use Rattle.std.specs.Prelude.{◌≡◌};
+    ghost use Rattle.am_labels.specs.Flat.{flat_text};
     ghost use Rattle.am_labels.specs.Sets.{IsLabelSet};
 
-    ghost view = { λ set. rc_slice_items set.labels };
+    ghost view = { λ set. set.parts.value.labels.items };
 
-    ghost invariant = { λ set. IsLabelSet (rc_slice_items set.labels) };
+    ghost invariant = { λ set. IsLabelSet set.parts.value.labels.items × (set.parts.value.flat ≡ flat_text set.parts.value.labels.items) };
 }
 
 impl LabelSet {
@@ -53,8 +70,11 @@ impl LabelSet {
     {
         let mut held = read_pairs(alloc, pairs)?;
         held.retain(|label| !label.value.is_empty());
-        let labels = RcSlice::from_vec(held)?;
-        Ok(LabelSet { labels })
+        let flat = flat_text(alloc, &held)?;
+        let parts = Parts { labels: held, flat };
+        Ok(LabelSet {
+            parts: Rc::new(alloc, parts)?,
+        })
     }
 
     /// The value of the label of this name, empty where there is none.
@@ -76,29 +96,29 @@ impl LabelSet {
         ensures labels { result.now ≡ self.now }
         ensures set { IsLabelSet self.now }
     {
-        self.labels.as_slice()
+        self.parts.as_ref().labels.as_slice()
     }
 
     /// How many labels there are.
     pub fn len(&self) -> usize
         ensures { result ≡ length self.now }
     {
-        self.labels.len()
+        self.labels().len()
     }
 
     /// Whether there is no label.
     pub fn is_empty(&self) -> bool
         ensures { result ≡ (length self.now == 0) }
     {
-        self.labels.is_empty()
+        self.labels().is_empty()
     }
 
     /// A copy of the label set.
     pub fn copy(&self) -> Result<LabelSet, AllocError>
         ensures { IfOk result (λ set. set ≡ self.now) }
     {
-        let labels = self.labels.clone()?;
-        Ok(LabelSet { labels })
+        let parts = self.parts.clone()?;
+        Ok(LabelSet { parts })
     }
 }
 
@@ -139,6 +159,10 @@ impl Ord for LabelSet {
 
     #[tactic(auto, unfolding(crate::specs::Labels::labels_cmp))]
     fn cmp(&self, other: &LabelSet) -> Ordering {
-        self.labels.as_slice().cmp(other.labels.as_slice())
+        let (own, others) = (self.parts.as_ref(), other.parts.as_ref());
+        match (&own.flat, &others.flat) {
+            (Some(text), Some(other)) => text.cmp(other),
+            _ => own.labels.as_slice().cmp(others.labels.as_slice()),
+        }
     }
 }

@@ -2,6 +2,7 @@
 #![tactic(auto)]
 
 mod annotations;
+mod flat;
 mod hash;
 mod label_set;
 mod names;

@@ -12,9 +12,17 @@ use std::marker::Model;
 
 /// How many notices one instance may still send to each tenant in a minute of the clock. What one tenant uses is nothing to
 /// the others.
-#[derive(Debug, Drop)]
+#[derive(Debug)]
 pub struct Allowances {
     own: BTreeMap<TenantName, Allowance>,
+}
+
+// Written out, so that a crate which owns one need not prove anew how its parts are dropped.
+impl Drop for Allowances {
+    fn drop(self) {
+        let Allowances { own } = self;
+        drop(own);
+    }
 }
 
 impl Model for Allowances {

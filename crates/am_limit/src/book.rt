@@ -9,9 +9,17 @@ use std::collections::BTreeMap;
 use std::marker::Model;
 
 /// The limits of all tenants: those that were set last, and the default ones of a tenant for which none were.
-#[derive(Debug, Drop)]
+#[derive(Debug)]
 pub struct LimitBook {
     limits: BTreeMap<TenantName, Limits>,
+}
+
+// Written out, so that a crate which owns one need not prove anew how its parts are dropped.
+impl Drop for LimitBook {
+    fn drop(self) {
+        let LimitBook { limits } = self;
+        drop(limits);
+    }
 }
 
 impl Model for LimitBook {

@@ -1,6 +1,7 @@
 -- Patterns that give no answer.
-use Rattle.std.proofs.Common.{ℕ, List, All}
-use Rattle.std.proofs.lemmas.List.Elements.{All-contains}
+use Rattle.std.proofs.Common.{ℕ, List, All, ◌++◌, inl, inr}
+use Rattle.std.specs.List.{Contains}
+use Rattle.std.proofs.lemmas.List.Elements.{All-contains, Contains-append_cases, Contains-append_left, Contains-append_right}
 use Rattle.am_text.specs.Outcome.{ForRefused}
 use Rattle.am_text.specs.declared.failure.Failure.{Failure}
 use Rattle.am_text.specs.declared.failure.Failure.TheVariants.{Refused, OutOfMemory}
@@ -28,3 +29,26 @@ pub unanswered_among : (refused xs ys stored more : List (List ℕ)) (failure : 
 unanswered_among refused xs ys stored more OutOfMemory own others known = tt
 unanswered_among refused xs ys stored more (Refused Asked) own others known = refused_among refused xs ys own known
 unanswered_among refused xs ys stored more (Refused Stored) own others known = unanswered_later refused stored more others known
+
+-- ---- texts of the query, and of what is stored
+
+-- with more stored ones in front
+pub within_all : (own others stored : List (List ℕ)) (text : List ℕ) → Contains (own ++ stored) text → Contains (own ++ (others ++ stored)) text
+within_all own others stored text there =
+    elim (Contains-append_cases own stored text there) [
+      | inl mine ↦ Contains-append_left own (others ++ stored) text mine
+      | inr theirs ↦ Contains-append_right own (others ++ stored) text (Contains-append_right others stored text theirs)
+    ]
+
+-- with more of the query's behind its own
+pub left_more : (own others stored : List (List ℕ)) (text : List ℕ) → Contains (own ++ stored) text → Contains ((own ++ others) ++ stored) text
+left_more own others stored text there =
+    elim (Contains-append_cases own stored text there) [
+      | inl mine ↦ Contains-append_left (own ++ others) stored text (Contains-append_left own others text mine)
+      | inr theirs ↦ Contains-append_right (own ++ others) stored text theirs
+    ]
+
+-- with more of the query's in front, and stored ones
+pub right_more : (own others stored : List (List ℕ)) (text : List ℕ) → Contains others text → Contains ((own ++ others) ++ stored) text
+right_more own others stored text there =
+    Contains-append_left (own ++ others) stored text (Contains-append_right own others text there)

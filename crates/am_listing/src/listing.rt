@@ -1,6 +1,6 @@
 //! The alerts that a query shows.
 
-ghost use Rattle.std.specs.Prelude.{◌≡◌, ◌<◌, ℕ, List, All, IfErr, IfOk, filter, length, map, zip};
+ghost use Rattle.std.specs.Prelude.{◌≡◌, ◌++◌, ◌<◌, ℕ, List, All, IfErr, IfOk, OnErr, filter, length, map, zip};
 ghost use Rattle.std.specs.Option.{ForSome, option_to_list};
 ghost use Rattle.am_text.specs.Outcome.{ForRefused};
 ghost use Rattle.am_pattern.specs.Asking.{Asked};
@@ -10,7 +10,7 @@ ghost use Rattle.am_match.specs.Meaning.{all_take};
 ghost use Rattle.am_payload.specs.Receivers.{names_at};
 ghost use Rattle.am_listing.specs.declared.receivers.RoutedAlert.{RoutedAlert};
 ghost use Rattle.am_query.specs.Patterns.{patterns_asked};
-ghost use Rattle.am_muting.specs.Failing.{patterns_muting};
+ghost use Rattle.am_muting.specs.Failing.{AddsAmong, patterns_muting};
 ghost use Rattle.am_listing.specs.Failing.{IsUnanswered, patterns_in_use};
 ghost use Rattle.am_listing.specs.Listed.{has_taken, is_taken, muted, routed, with_all, with_muting};
 ghost use Rattle.am_listing.specs.Receivers.{is_asked};
@@ -55,6 +55,7 @@ pub fn list_alerts(
     requires receiver { ForSome query.now.receiver IsPattern }
     ensures text { IfOk result (λ o. o ≡ alerts_text config.now query.now moment held.now) }
     ensures asked { Asked result cache.old cache.new }
+    ensures adds { OnErr result (AddsAmong (patterns_asked query.now ++ patterns_in_use config.now moment held.now) cache.old.refused cache.new.refused) }
     ensures failure { IfErr result (λ failure. ForRefused failure
         (IsUnanswered cache.new.refused (patterns_asked query.now) (patterns_in_use config.now moment held.now))) }
 {
@@ -78,6 +79,7 @@ fn shown_alerts<'a>(
     ensures shown { IfOk result (λ v. map routed v.items
         ≡ map (with_all config.now moment held.now) (shown config.now query.now moment held.now)) }
     ensures asked { Asked result cache.old cache.new }
+    ensures adds { OnErr result (AddsAmong (patterns_asked query.now ++ patterns_in_use config.now moment held.now) cache.old.refused cache.new.refused) }
     ensures failure { IfErr result (λ failure. ForRefused failure
         (IsUnanswered cache.new.refused (patterns_asked query.now) (patterns_in_use config.now moment held.now))) }
 {
@@ -103,6 +105,7 @@ pub fn passed_alerts<'a>(
         ≡ map (with_all config.now moment held.now) (passed config.now query.now moment held.now)) }
     ensures routes { IfOk result (λ v. All (λ (r : RoutedAlert). All (λ id. id < length config.now.routes) r.routes) v.items) }
     ensures asked { Asked result cache.old cache.new }
+    ensures adds { OnErr result (AddsAmong (patterns_of query.now.matchers ++ patterns_in_use config.now moment held.now) cache.old.refused cache.new.refused) }
     ensures failure { IfErr result (λ failure. ForRefused failure
         (IsUnanswered cache.new.refused (patterns_of query.now.matchers) (patterns_in_use config.now moment held.now))) }
 {
@@ -123,6 +126,7 @@ fn muted_alerts<'a>(
     ensures passed { IfOk result (λ v. map muted v.items
         ≡ map (with_muting config.now moment held.now) (passed config.now query.now moment held.now)) }
     ensures asked { Asked result cache.old cache.new }
+    ensures adds { OnErr result (AddsAmong (patterns_of query.now.matchers ++ patterns_muting config.now moment held.now) cache.old.refused cache.new.refused) }
     ensures failure { IfErr result (λ failure. ForRefused failure
         (IsUnanswered cache.new.refused (patterns_of query.now.matchers) (patterns_muting config.now moment held.now))) }
 {
@@ -144,6 +148,7 @@ fn flags_of(
     requires patterns { All IsPattern (patterns_of matchers.now) }
     ensures taken { IfOk result (λ v. v.items ≡ map (λ set. all_take matchers.now set.now) sets.now) }
     ensures asked { Asked result cache.old cache.new }
+    ensures adds { OnErr result (AddsAmong (patterns_of matchers.now) cache.old.refused cache.new.refused) }
     ensures failure { (stored : List (List ℕ)) → IfErr result (λ failure. ForRefused failure
         (IsUnanswered cache.new.refused (patterns_of matchers.now) stored)) }
 {
@@ -178,6 +183,7 @@ fn asked_alerts<'a>(
     ensures shown { IfOk result (λ v. v.items
         ≡ filter (λ (r : RoutedAlert). is_asked receiver.now (names_at config.now r.receivers)) alerts.entry.items) }
     ensures asked { Asked result cache.old cache.new }
+    ensures adds { OnErr result (AddsAmong (option_to_list receiver.now) cache.old.refused cache.new.refused) }
     ensures failure { (stored : List (List ℕ)) → IfErr result (λ failure. ForRefused failure
         (IsUnanswered cache.new.refused (option_to_list receiver.now) stored)) }
 {

@@ -1,11 +1,11 @@
 //! Alerts with what mutes them.
 
-ghost use Rattle.std.specs.Prelude.{◌≡◌, ◌&&◌, ℕ, ◌<◌, List, IfErr, IfOk, get_or, length, map};
+ghost use Rattle.std.specs.Prelude.{◌≡◌, ◌&&◌, ℕ, ◌<◌, List, IfErr, IfOk, OnErr, get_or, length, map};
 ghost use Rattle.std.specs.List.{enumerate_from};
 ghost use Rattle.am_text.specs.Outcome.{ForRefused};
 ghost use Rattle.am_pattern.specs.Asking.{Asked};
 ghost use Rattle.am_alert.specs.HeldAlert.{held_alert};
-ghost use Rattle.am_muting.specs.Failing.{patterns_muting};
+ghost use Rattle.am_muting.specs.Failing.{AddsAmong, patterns_muting};
 ghost use Rattle.am_muting.specs.Muting.{firing_sets, muting_of, nothing};
 ghost use Rattle.am_listing.specs.Failing.{IsUnanswered};
 ghost use Rattle.am_listing.specs.Listed.{chosen_among, is_chosen, muted};
@@ -44,6 +44,7 @@ pub(crate) fn mutes_of<'a>(
     requires { map (λ set. set.now) firing.items ≡ firing_sets moment held.now }
     ensures muting { IfOk result (λ m. m ≡ map (λ set. muting_of config.now moment held.now set.now) firing.entry.items) }
     ensures asked { Asked result cache.old cache.new }
+    ensures adds { OnErr result (AddsAmong (patterns_muting config.now moment held.now) cache.old.refused cache.new.refused) }
     ensures failure { (own : List (List ℕ)) → IfErr result (λ failure. ForRefused failure
         (IsUnanswered cache.new.refused own (patterns_muting config.now moment held.now))) }
 {

@@ -1,12 +1,13 @@
 //! The receivers of alerts.
 
-ghost use Rattle.std.specs.Prelude.{◌≡◌, ◌∷◌, ◌<◌, [], ℕ, List, All, IfErr, IfOk, length, map, zip};
+ghost use Rattle.std.specs.Prelude.{◌≡◌, ◌∷◌, ◌<◌, [], ℕ, List, All, IfErr, IfOk, OnErr, length, map, zip};
 ghost use Rattle.std.specs.Option.{ForSome, option_to_list};
 ghost use Rattle.am_text.specs.Outcome.{ForRefused};
 ghost use Rattle.am_pattern.specs.Asking.{Asked};
 ghost use Rattle.am_pattern.specs.Taking.{IsPattern, takes};
 ghost use Rattle.am_listing.specs.Failing.{IsUnanswered};
 ghost use Rattle.am_match.specs.Matchers.{patterns_of};
+ghost use Rattle.am_muting.specs.Failing.{AddsAmong};
 ghost use Rattle.am_payload.specs.Receivers.{names_of};
 ghost use Rattle.am_route.specs.Asked.{route_matchers};
 ghost use Rattle.am_route.specs.Routes.{routes_at};
@@ -45,6 +46,7 @@ pub(crate) fn routed_alerts<'a>(
     ensures routed { IfOk result (λ v. map routed v.items ≡ map (with_routes config.now) (map muted alerts.entry.items)) }
     ensures routes { IfOk result (λ v. All (λ (r : RoutedAlert). All (λ id. id < length config.now.routes) r.routes) v.items) }
     ensures asked { Asked result cache.old cache.new }
+    ensures adds { OnErr result (AddsAmong (patterns_of (route_matchers config.now.routes)) cache.old.refused cache.new.refused) }
     ensures failure { (own : List (List ℕ)) → IfErr result (λ failure. ForRefused failure
         (IsUnanswered cache.new.refused own (patterns_of (route_matchers config.now.routes)))) }
 {
@@ -76,6 +78,7 @@ fn routes_of_sets(
     ensures routes { IfOk result (λ v. v.items ≡ map (λ set. routes_at set.now config.now.routes) sets.now) }
     ensures places { IfOk result (λ v. All (λ found. All (λ id. id < length config.now.routes) found) v.items) }
     ensures asked { Asked result cache.old cache.new }
+    ensures adds { OnErr result (AddsAmong (patterns_of (route_matchers config.now.routes)) cache.old.refused cache.new.refused) }
     ensures failure { (own : List (List ℕ)) → IfErr result (λ failure. ForRefused failure
         (IsUnanswered cache.new.refused own (patterns_of (route_matchers config.now.routes)))) }
 {
@@ -212,6 +215,7 @@ pub fn is_asked(
     requires pattern { ForSome receiver.now IsPattern }
     ensures asked_for { IfOk result (λ asked. asked ≡ is_asked receiver.now (name.now ∷ [])) }
     ensures asked { Asked result cache.old cache.new }
+    ensures adds { OnErr result (AddsAmong (option_to_list receiver.now) cache.old.refused cache.new.refused) }
     ensures failure { (stored : List (List ℕ)) → IfErr result (λ failure. ForRefused failure
         (IsUnanswered cache.new.refused (option_to_list receiver.now) stored)) }
 {
@@ -231,6 +235,7 @@ pub(crate) fn taken_receivers(
     requires pattern { IsPattern pattern.now }
     ensures taken { IfOk result (λ v. v.items ≡ map (λ name. takes pattern.now name) (names_of config.now)) }
     ensures asked { Asked result cache.old cache.new }
+    ensures adds { OnErr result (AddsAmong (pattern.now ∷ []) cache.old.refused cache.new.refused) }
     ensures failure { (stored : List (List ℕ)) → IfErr result (λ failure. ForRefused failure
         (IsUnanswered cache.new.refused (pattern.now ∷ []) stored)) }
 {
@@ -252,6 +257,7 @@ fn is_taken(
     requires pattern { IsPattern pattern.now }
     ensures taken { IfOk result (λ taken. taken ≡ takes pattern.now name.now) }
     ensures asked { Asked result cache.old cache.new }
+    ensures adds { OnErr result (AddsAmong (pattern.now ∷ []) cache.old.refused cache.new.refused) }
     ensures failure { (stored : List (List ℕ)) → IfErr result (λ failure. ForRefused failure
         (IsUnanswered cache.new.refused (pattern.now ∷ []) stored)) }
 {

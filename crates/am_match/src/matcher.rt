@@ -38,11 +38,24 @@ impl Operator {
 }
 
 /// A condition on one label: its name, an operator and a value.
-#[derive(PartialEq, Eq, Debug, Drop)]
+#[derive(PartialEq, Eq, Debug)]
 pub struct Matcher {
     operator: Operator,
     name: Text,
     value: Text,
+}
+
+// Written out, so that a crate which owns one need not prove anew how its parts are dropped.
+impl Drop for Matcher {
+    fn drop(self) {
+        let Matcher {
+            operator: _operator,
+            name,
+            value,
+        } = self;
+        drop(name);
+        drop(value);
+    }
 }
 
 impl Model for Matcher {

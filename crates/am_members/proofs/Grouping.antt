@@ -156,6 +156,10 @@ grouped_put ys zs old new l v are absent put up changed = record {
   held = λ q. changed q ∙ rw (are.held q) (sym (ap (members q) put ∙ members_put q l v ys are.rising absent));
 }
 
+-- the same alerts
+pub grouped_same : (ys zs : Alerts) (lists : List (Group × List (List Label × ℕ))) → AreGrouped ys lists → zs ≡ ys → AreGrouped zs lists
+grouped_same ys zs lists are same = rw same are
+
 -- an alert that isn't held is in no list of an index
 pub may_join_all : (ys : Alerts) (lists : List (Group × List (List Label × ℕ))) (l : List Label) → AreGrouped ys lists → lookup (is_set l) ys ≡ None → (q : Group) → lookup (is_set l) (held_at q lists) ≡ None
 may_join_all ys lists l are absent q = rw (are.held q) (no_member q l ys absent)

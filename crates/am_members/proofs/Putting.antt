@@ -1,9 +1,9 @@
 -- Puts of different alerts, in any order.
-use Rattle.std.proofs.Common.{◌≡◌, Bool, true, false, not, cond, inl, inr, List, [], ◌∷◌, Option, Some, None, Ordering, refl, sym, ap, ◌∙◌}
+use Rattle.std.proofs.Common.{◌≡◌, ℕ, Bool, true, false, not, cond, inl, inr, List, [], ◌∷◌, Option, Some, None, Ordering, refl, sym, ap, ◌∙◌}
 use Rattle.std.specs.BTreeMap.{insert_entry}
 use Rattle.std.specs.BTreeSet.{insert_key}
 use Rattle.std.specs.Cmp.{IsEquivalence, eq_by_cmp_equiv}
-use Rattle.std.specs.List.{AllByRecursion, IsDistinct, filter}
+use Rattle.std.specs.List.{AllByRecursion, IsDistinct, filter, list_any}
 use Rattle.std.specs.List.Sorted.{IsPermutation, IsStrictlySortedBy}
 use Rattle.std.specs.Map.{keys_of, lookup}
 use Rattle.std.specs.Ordering.{is_eq, match_ordering, ordering_reverse}
@@ -18,12 +18,13 @@ use Rattle.am_labels.specs.declared.Label.{Label}
 use Rattle.am_labels.specs.Labels.{labels_cmp, labels_total}
 use Rattle.am_labels.proofs.InOrder.{labels_exact}
 use Rattle.am_labels.proofs.Ordered.{sorted_inserted}
+use Rattle.am_members.specs.declared.group.Group.{Group}
 use Rattle.am_members.specs.declared.known.Known.{Known}
-use Rattle.am_members.specs.Grouped.{put_all, put_in}
-use Rattle.am_members.specs.Names.{is_set, without}
-use Rattle.am_members.proofs.Grouping.{Alerts, absent_after}
+use Rattle.am_members.specs.Grouped.{AreGrouped, held_at, put_all, put_in}
+use Rattle.am_members.specs.Names.{is_group, is_set, without}
+use Rattle.am_members.proofs.Grouping.{Alerts, absent_after, grouped_left, put_first}
 use Rattle.am_members.proofs.Orders.{set_tells, set-refl, set-sym}
-use Rattle.am_members.proofs.Tables.{below_all, none_found}
+use Rattle.am_members.proofs.Tables.{all_left, below_all, none_found}
 
 some_none : {A X : Type 0} {x : X} → Some x ≡ None → A
 some_none h = absurd (cc)
@@ -95,6 +96,34 @@ rising_put l v ys up =
 rising_put_all : (ps ys : Alerts) → IsStrictlySortedBy labels_cmp (keys_of ys) → IsStrictlySortedBy labels_cmp (keys_of (put_all ps ys))
 rising_put_all [] ys up = up
 rising_put_all (p ∷ ps) ys up = rising_put_all ps (put_in p.0 p.1 ys) (rising_put p.0 p.1 ys up)
+
+-- ---- a put is a write at its place
+
+-- where an alert isn't held
+pub put_new : (l : List Label) (v : Known) (ys : Alerts) → lookup (is_set l) ys ≡ None → insert_entry labels_cmp ys l v ≡ put_in l v ys
+put_new l v ys absent = ap (λ es. insert_entry labels_cmp es l v) (sym (all_left (is_set l) ys absent))
+
+-- and where it may be
+pub put_over : (l : List Label) (v : Known) (ys : Alerts) → IsStrictlySortedBy labels_cmp (keys_of ys) → insert_entry labels_cmp ys l v ≡ put_in l v ys
+unfolding IsStrictlySortedBy
+put_over l v [] up = refl
+put_over l v (y ∷ ys) up = by_order (labels_cmp l y.0) refl (put_over l v ys up.1)
+  where
+    kept : AllByRecursion (λ k. labels_cmp l k ≡ Less) (keys_of ys) → without l ys ≡ ys
+    kept all = all_left (is_set l) ys (none_found labels_cmp labels_total l ys all)
+
+    by_order : (o : Ordering) → labels_cmp l y.0 ≡ o → insert_entry labels_cmp ys l v ≡ put_in l v ys → insert_entry labels_cmp (y ∷ ys) l v ≡ put_in l v (y ∷ ys)
+    by_order Less is more = rw (is, is, kept (below_all labels_cmp labels_total l y.0 ys is up.0)) refl
+    by_order Equal is more =
+        let own : l ≡ y.0 = labels_exact l y.0 is in
+        let below : AllByRecursion (λ k. labels_cmp l k ≡ Less) (keys_of ys) = rw own up.0 in
+        rw (is, kept below) (ap (λ k. (k, v) ∷ ys) (sym own) ∙ sym (put_first l v ys below))
+    by_order Greater is more = rw (is, is) (ap (λ rest. y ∷ rest) more)
+
+-- the index once an alert that is held left its groups
+pub left_behind : (ys : Alerts) (old new : List (Group × List (List Label × ℕ))) (l : List Label) (k : Known) → AreGrouped ys old → lookup (is_set l) ys ≡ Some k
+    → ((q : Group) → held_at q new ≡ cond (list_any (is_group q) k.groups) (without l (held_at q old)) (held_at q old)) → AreGrouped (without l ys) new
+left_behind ys old new l k are there changed = grouped_left ys (without l ys) old new l k are there refl (rising_without l ys are.rising) changed
 
 -- ---- alerts in order are told by what is found
 

@@ -1,13 +1,19 @@
 -- Lists of entries: what is taken out, what is left, what stands where.
-use Rattle.std.proofs.Common.{◌≡◌, Bool, true, not, cond, inl, inr, List, [], ◌∷◌, Ordering, Some, None, refl, sym, ap, ◌∙◌}
+use Rattle.std.proofs.Common.{◌≡◌, Bool, true, false, not, cond, inl, inr, List, [], ◌∷◌, Ordering, Option, Some, None, refl, sym, ap, ◌∙◌}
 use Rattle.std.specs.BTreeMap.{insert_entry}
 use Rattle.std.specs.Cmp.{IsTotalOrder}
 use Rattle.std.specs.List.{AllByRecursion, filter}
 use Rattle.std.specs.List.Sorted.{IsStrictlySortedBy}
 use Rattle.std.specs.Map.{keys_of, lookup, remove_entry}
+use Rattle.std.specs.Option.{is_some}
 use Rattle.std.specs.Ordering.{is_eq, match_ordering}
 use Rattle.std.specs.declared.cmp.Ordering.TheVariants.{Less, Equal, Greater}
-use Rattle.std.proofs.lemmas.Bool.{cases_Bool}
+use Rattle.std.proofs.lemmas.Bool.{cases_Bool, true≢false}
+
+-- what isn't something is nothing
+pub none_if : {X : Type 0} (o : Option X) → is_some o ≡ false → o ≡ None
+none_if None h = refl
+none_if (Some x) h = absurd (true≢false h)
 
 module _ {K X : Type 0} (test : K → Bool) where
   some_none : {A : Type 0} (x : X) → Some x ≡ None → A

@@ -26,11 +26,19 @@ use std::marker::Model;
 /// The alerts of all tenants by label set, the members of their groups, and the last flush of each group.
 ///
 /// A call for one tenant leaves what is grouped of all others.
-#[derive(Drop)]
 pub struct Groups {
     tenants: BTreeMap<TenantName, Index>,
     // those of whom a group may have lost its members otherwise than by `remove`
     unswept: BTreeSet<TenantName>,
+}
+
+// Written out, so that a crate which owns one need not prove anew how its parts are dropped.
+impl Drop for Groups {
+    fn drop(self) {
+        let Groups { tenants, unswept } = self;
+        drop(tenants);
+        drop(unswept);
+    }
 }
 
 impl Model for Groups {

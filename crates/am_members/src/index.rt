@@ -19,6 +19,7 @@ use am_labels::LabelSet;
 use am_text::Moment;
 use std::alloc::{AllocError, Global};
 use std::collections::BTreeMap;
+use std::collections::btree_map::Entry;
 use std::marker::Model;
 use std::mem;
 
@@ -174,9 +175,19 @@ fn replace(
     ensures replaced { IfOk result (λ replaced. replaced ≡ is_some (lookup (is_set labels.now) alerts.old.entries)) }
 {
     let own = labels.copy()?;
-    let replaced = forget(alerts, groups, labels).is_some();
-    hold(alloc, alerts, groups, own, known)?;
-    Ok(replaced)
+    match alerts.entry(own)? {
+        Entry::Vacant(place) => {
+            join_all(alloc, groups, known.groups.as_slice(), labels, known.since)?;
+            place.insert(known);
+            Ok(false)
+        }
+        Entry::Occupied(mut place) => {
+            leave_all(groups, place.get().groups.as_slice(), labels);
+            join_all(alloc, groups, known.groups.as_slice(), labels, known.since)?;
+            place.insert(known);
+            Ok(true)
+        }
+    }
 }
 
 // Takes out an alert, which leaves its groups.

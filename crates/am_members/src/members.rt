@@ -77,9 +77,6 @@ impl Members {
         requires { IfSome (lookup (is_set labels.now) self.old) (λ held. held ≡ since) }
         ensures { OnOk result (self.new ≡ insert_entry labels_cmp self.old labels.now since) }
     {
-        if self.sinces.contains_key(labels) {
-            return Ok(());
-        }
         add_to(&mut self.sinces, &mut self.stays, labels, since)
     }
 
@@ -91,7 +88,7 @@ impl Members {
     }
 }
 
-// Adds a member and its stay, or neither.
+// Adds a member and its stay, or neither. A member since then stays as it is.
 fn add_to(
     sinces: &mut BTreeMap<LabelSet, Moment>,
     stays: &mut BTreeSet<Stay>,
@@ -99,7 +96,7 @@ fn add_to(
     since: Moment,
 ) -> Result<(), AllocError>
     requires tied { IsTied sinces.old.entries stays.old.keys }
-    requires absent { lookup (is_set labels.now) sinces.old.entries ≡ None }
+    requires held { IfSome (lookup (is_set labels.now) sinces.old.entries) (λ held. held ≡ since) }
     ensures tied { IsTied sinces.new.entries stays.new.keys }
     ensures added { OnOk result (sinces.new.entries ≡ insert_entry labels_cmp sinces.old.entries labels.now since) }
 {
@@ -108,7 +105,9 @@ fn add_to(
         since,
         labels: labels.copy()?,
     };
-    sinces.insert(own, since)?;
+    if sinces.insert(own, since)?.is_some() {
+        return Ok(());
+    }
     match stays.insert(stay) {
         Ok(_) => Ok(()),
         Err(_) => {

@@ -1,6 +1,5 @@
 -- What mutes the alert at each place.
-use Rattle.std.proofs.Common.{◌≡◌, ℕ, zero, suc, ◌+◌, ◌<◌, ◌≤◌, All, Fits, Vec, Global, w64, ◌==◌, ◌&&◌, true, false, List, [], ◌∷◌, ◌++◌, Bor, inl, inr, length, map, drop, get_or, refl, sym, ap, ap₂, ◌∙◌, arith, append-nil, length-append, length-drop, true≢false, Bool, filter}
-use Rattle.std.specs.List.{zip}
+use Rattle.std.proofs.Common.{◌≡◌, ℕ, zero, suc, ◌+◌, ◌<◌, ◌≤◌, Fits, Vec, Global, w64, ◌==◌, ◌&&◌, true, false, List, [], ◌∷◌, ◌++◌, Bor, inl, inr, length, map, drop, get_or, refl, sym, ap, ap₂, ◌∙◌, arith, append-nil, length-append, length-drop, true≢false, Bool, filter}
 use Rattle.std.proofs.lemmas.Bool.{and_parts}
 use Rattle.std.proofs.lemmas.Bool.Decides.{eqb_tells}
 use Rattle.std.proofs.lemmas.Simd.{map-map}

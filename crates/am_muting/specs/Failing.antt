@@ -1,5 +1,5 @@
 -- Patterns that give no answer.
-use Rattle.std.specs.Prelude.{◌≡◌, ℕ, true, List, ◌++◌}
+use Rattle.std.specs.Prelude.{◌≡◌, ℕ, true, List, All, ◌++◌}
 use Rattle.std.specs.List.{Contains}
 use Rattle.am_item.specs.declared.item.Item.{Item}
 use Rattle.am_pattern.specs.Refused.{has_text}
@@ -17,3 +17,13 @@ HasUnanswered refused texts =
 -- the patterns that mute alerts: those of a configuration's inhibit rules, and those of the silences that are active
 abbrev pub patterns_muting : Configuration → ℕ → List Item → List (List ℕ)
 patterns_muting c moment held = patterns_of (rule_matchers c.rules) ++ patterns_of (matchers_in (active_among moment held))
+
+-- the later texts are the earlier ones, and behind them only such as these
+pub record AddsOnly (IsSuch : List ℕ → Type 0) (old new : List (List ℕ)) : Type 0 where
+  pub more : List (List ℕ)
+  pub refused : new ≡ old ++ more
+  pub each : All IsSuch more
+
+-- .. only some of these texts
+abbrev pub AddsAmong : List (List ℕ) → List (List ℕ) → List (List ℕ) → Type 0
+AddsAmong texts old new = AddsOnly (λ text. Contains texts text) old new

@@ -1,5 +1,5 @@
 -- What mutes each of many alerts, as lists of silences and of places.
-use Rattle.std.specs.Prelude.{◌≡◌, ℕ, ◌+◌, ◌<◌, ◌≤◌, List, [], All, drop, get_or, length, map}
+use Rattle.std.specs.Prelude.{◌≡◌, ℕ, ◌+◌, ◌<◌, ◌≤◌, List, [], All, get_or, length, map}
 use Rattle.std.specs.List.{zip}
 use Rattle.am_labels.specs.declared.Label.{Label}
 use Rattle.am_muting.specs.Muting.{Muting}

@@ -1,4 +1,4 @@
-ghost use Rattle.std.specs.Prelude.{◌≡◌, ◌&&◌, ◌==◌, [], IfErr, IfOk, length, map, not};
+ghost use Rattle.std.specs.Prelude.{◌≡◌, ◌&&◌, ◌==◌, [], IfErr, IfOk, OnErr, length, map, not};
 ghost use Rattle.std.specs.List.Sorted.{IsStrictlySortedBy};
 ghost use Rattle.am_labels.specs.Labels.{labels_cmp};
 ghost use Rattle.am_text.specs.Outcome.{ForRefused};
@@ -7,7 +7,7 @@ ghost use Rattle.am_alert.specs.declared.held.HeldAlert.{HeldAlert};
 ghost use Rattle.am_silence.specs.Held.{active_among};
 ghost use Rattle.am_silence.specs.Silences.{is_active};
 ghost use Rattle.am_muting.specs.Asked.{active_in, chosen, sources_of};
-ghost use Rattle.am_muting.specs.Failing.{HasUnanswered, patterns_muting};
+ghost use Rattle.am_muting.specs.Failing.{AddsAmong, HasUnanswered, patterns_muting};
 ghost use Rattle.am_muting.specs.Muting.{alert_sets, firing_sets, is_muted, muted_sets, muting_of};
 
 use crate::mutes::Mutes;
@@ -39,6 +39,7 @@ pub fn mutes_of<'a>(
     ensures asked { Asked result cache.old cache.new }
     ensures failure { IfErr result (λ failure. ForRefused failure
         (λ refusal. HasUnanswered cache.new.refused (patterns_muting config.now moment held.now))) }
+    ensures adds { OnErr result (AddsAmong (patterns_muting config.now moment held.now) cache.old.refused cache.new.refused) }
 {
     let silences = SilenceBook::new(held).silencing(alloc, targets, moment, cache)?;
     let firing = sources_of(alloc, held, config, moment)?;
@@ -64,6 +65,7 @@ pub fn mutes_of_firing<'a>(
     ensures asked { Asked result cache.old cache.new }
     ensures failure { IfErr result (λ failure. ForRefused failure
         (λ refusal. HasUnanswered cache.new.refused (patterns_muting config.now moment held.now))) }
+    ensures adds { OnErr result (AddsAmong (patterns_muting config.now moment held.now) cache.old.refused cache.new.refused) }
 {
     let silences = SilenceBook::new(held).silencing(alloc, &firing, moment, cache)?;
     let inhibited = inhibitors_of_each(alloc, config, &firing, &[], cache)?;
@@ -87,6 +89,7 @@ pub fn muted_sets(
     ensures asked { Asked result cache.old cache.new }
     ensures failure { IfErr result (λ failure. ForRefused failure
         (λ refusal. HasUnanswered cache.new.refused (patterns_muting config.now moment held.now))) }
+    ensures adds { OnErr result (AddsAmong (patterns_muting config.now moment held.now) cache.old.refused cache.new.refused) }
 {
     if is_quiet(held, config, moment) {
         return Ok(as_sets(Vec::new(alloc)));

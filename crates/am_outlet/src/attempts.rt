@@ -21,9 +21,17 @@ use std::marker::Model;
 
 /// The open attempts of all tenants on one instance. Each tenant's attempts are numbered from 1 on, whatever the other
 /// tenants' are, and no number is used again.
-#[derive(Debug, Drop)]
+#[derive(Debug)]
 pub struct Attempts {
     desks: BTreeMap<TenantName, Desk>,
+}
+
+// Written out, so that a crate which owns one need not prove anew how its parts are dropped.
+impl Drop for Attempts {
+    fn drop(self) {
+        let Attempts { desks } = self;
+        drop(desks);
+    }
 }
 
 impl Model for Attempts {

@@ -20,7 +20,6 @@ use std::num::NonZeroUsize;
 
 /// Answers whether patterns take texts. It keeps the patterns that were asked last as they were built, and the texts of
 /// those whose build was refused.
-#[derive(Drop)]
 pub struct PatternCache {
     // by the whole text of the pattern
     built: LruCache<String, Built, KeyedHashing>,
@@ -28,6 +27,19 @@ pub struct PatternCache {
     refused: IndexSet<String, KeyedHashing>,
     // questions whose pattern was not kept; it stops at the greatest number
     misses: u64,
+}
+
+// Written out, so that a crate which owns one need not prove anew how its parts are dropped.
+impl Drop for PatternCache {
+    fn drop(self) {
+        let PatternCache {
+            built,
+            refused,
+            misses: _misses,
+        } = self;
+        drop(built);
+        drop(refused);
+    }
 }
 
 impl Model for PatternCache {

@@ -1,5 +1,5 @@
 -- Patterns whose build was refused.
-use Rattle.std.proofs.Common.{◌≡◌, ◌⊎◌, ℕ, suc, List, [], ◌∷◌, true, false, Result, Ok, Err, refl, sym, ◌∙◌, inl, inr, arith, true≢false}
+use Rattle.std.proofs.Common.{◌≡◌, ◌⊎◌, ℕ, suc, List, [], ◌∷◌, true, false, refl, sym, ◌∙◌, inl, inr, arith, true≢false}
 use Rattle.std.specs.List.{Contains}
 use Rattle.std.proofs.lemmas.Bool.{cases_Bool}
 use Rattle.std.proofs.lemmas.List.Elements.{All-nil, All-cons, All-contains}

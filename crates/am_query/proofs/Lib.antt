@@ -2,3 +2,5 @@
 pub mod Builds
 -- what the parameters of a query say together
 mod QueryLemmas
+-- where the judging of parameters stops
+mod StoppingLemmas

@@ -29,7 +29,7 @@ use Rattle.am_query.specs.declared.query.Query.{Query}
 use Rattle.am_query.specs.declared.refusal.QueryRefusal.{QueryRefusal}
 use Rattle.am_query.specs.declared.refusal.QueryRefusal.TheVariants.{BadFlag, BadMatcher}
 use Rattle.am_query.specs.Unbuilt.{FailsUnless, GivesUnless, IsUnbuiltRefusal}
-use Rattle.am_query.specs.Patterns.{Among, IsAsked, patterns_as, patterns_asked, patterns_of_parameters}
+use Rattle.am_query.specs.Patterns.{Among, IsAsked, patterns_as, patterns_of_parameters}
 use Rattle.am_query.specs.Queries.{asks_for, judged, kind_of, last_value, matchers_in, query_of}
 use Rattle.am_query.proofs.Builds.{contains_here, refused_among, rightly_or_refused}
 

@@ -4,3 +4,5 @@ pub mod Queries
 pub mod Patterns
 -- what is returned where a build was refused
 pub mod Unbuilt
+-- where the judging of parameters stops
+pub mod Stopping

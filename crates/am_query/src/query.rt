@@ -1,9 +1,11 @@
 //! What a query asks.
 
-ghost use Rattle.std.specs.Prelude.{◌≡◌, IfOk, find, reverse, bytes_eq};
+ghost use Rattle.std.specs.Prelude.{◌≡◌, IfErr, IfOk, OnOk, find, reverse, bytes_eq, true};
+ghost use Rattle.std.specs.List.{list_all};
 ghost use Rattle.std.specs.Option.{option_copied};
 ghost use Rattle.am_text.specs.Outcome.{Gives};
 ghost use Rattle.am_pattern.specs.Asking.{Asked};
+ghost use Rattle.am_query.specs.Stopping.{IsParameterFailure, IsStopOf, is_fine, passes};
 ghost use Rattle.am_query.specs.Unbuilt.{GivesUnless, IsUnbuiltRefusal};
 ghost use Rattle.am_query.specs.Patterns.{IsAsked, patterns_as, patterns_of_filters, patterns_of_group_query, patterns_of_parameters, patterns_of_query};
 ghost use Rattle.am_query.specs.Queries.{asks_for, filters_among, filters_in, flag_judged, group_query_in, judged, kind_of, last_value, matchers_in, parameters_in, processed_among, query_in, query_of};
@@ -62,6 +64,8 @@ pub fn read_query(
 ) -> Result<Query, Failure<QueryRefusal>>
     ensures read { GivesUnless (IsUnbuiltRefusal cache.new.refused (patterns_of_query query.now)) (λ q. q) result (query_in query.now) }
     ensures asked { Asked result cache.old cache.new }
+    ensures passes { OnOk result (list_all is_fine (parameters_in query.now) ≡ true) }
+    ensures stop { IfErr result (IsStopOf (parameters_in query.now) cache.old cache.new) }
 
     // What alerts are asked by are patterns, and those of the query.
     ensures patterns { IfOk result (λ q. IsAsked q (patterns_of_query query.now)) }
@@ -82,6 +86,8 @@ pub fn read_group_query(
 ) -> Result<Query, Failure<QueryRefusal>>
     ensures read { GivesUnless (IsUnbuiltRefusal cache.new.refused (patterns_of_group_query query.now)) (λ q. q) result (group_query_in query.now) }
     ensures asked { Asked result cache.old cache.new }
+    ensures passes { OnOk result (list_all is_fine (processed_among (parameters_in query.now)) ≡ true) }
+    ensures stop { IfErr result (IsStopOf (processed_among (parameters_in query.now)) cache.old cache.new) }
 
     // What alerts are asked by are patterns, and those of the query.
     ensures patterns { IfOk result (λ q. IsAsked q (patterns_of_group_query query.now)) }
@@ -100,6 +106,8 @@ fn query_of(
     ensures read { GivesUnless (IsUnbuiltRefusal cache.new.refused (patterns_of_parameters parameters.items)) (λ q. q) result
         (query_of parameters.items) }
     ensures asked { Asked result cache.old cache.new }
+    ensures passes { OnOk result (list_all is_fine parameters.items ≡ true) }
+    ensures stop { IfErr result (IsStopOf parameters.items cache.old cache.new) }
 {
     let matchers = matchers_in(alloc, &parameters, cache)?;
     let receiver = last_value(alloc, &parameters, "receiver")?;
@@ -131,6 +139,7 @@ pub fn read_filters(
 ) -> Result<Vec<Matcher>, Failure<QueryRefusal>>
     ensures read { GivesUnless (IsUnbuiltRefusal cache.new.refused (patterns_of_filters query.now)) (λ v. v.items) result (filters_in query.now) }
     ensures asked { Asked result cache.old cache.new }
+    ensures stop { IfErr result (IsStopOf (filters_among (parameters_in query.now)) cache.old cache.new) }
 {
     let mut parameters = parameters_in(alloc, query)?;
     keep_filters(&mut parameters);
@@ -169,6 +178,8 @@ fn matchers_in(
     ensures read { GivesUnless (IsUnbuiltRefusal cache.new.refused (patterns_of_parameters parameters.now)) (λ v. v.items)
         result (matchers_in parameters.now) }
     ensures asked { Asked result cache.old cache.new }
+    ensures passes { OnOk result (list_all is_fine parameters.now ≡ true) }
+    ensures stop { IfErr result (IsStopOf parameters.now cache.old cache.new) }
 {
     let mut matchers = Vec::new(alloc);
     for parameter in parameters {
@@ -188,6 +199,8 @@ fn parameter_judged(
         (IsUnbuiltRefusal cache.new.refused (patterns_as (kind_of parameter.now.name) parameter.now.value)) (λ v. v.items)
         result (judged (kind_of parameter.now.name) parameter.now.value) }
     ensures asked { Asked result cache.old cache.new }
+    ensures passes { OnOk result (is_fine parameter.now ≡ true) }
+    ensures failure { IfErr result (IsParameterFailure (kind_of parameter.now.name) parameter.now.value cache.old cache.new) }
 {
     let kind = kind_of(parameter.name.as_str());
     judged(alloc, kind, parameter.value.as_str(), cache)
@@ -216,6 +229,8 @@ fn judged(
     ensures read { GivesUnless (IsUnbuiltRefusal cache.new.refused (patterns_as kind value.now)) (λ v. v.items)
         result (judged kind value.now) }
     ensures asked { Asked result cache.old cache.new }
+    ensures passes { OnOk result (passes kind value.now ≡ true) }
+    ensures failure { IfErr result (IsParameterFailure kind value.now cache.old cache.new) }
 {
     match kind {
         Kind::Filter => filter_judged(alloc, value, cache),
@@ -234,6 +249,8 @@ fn filter_judged(
     ensures read { GivesUnless (IsUnbuiltRefusal cache.new.refused (patterns_as Kind.Filter value.now)) (λ v. v.items)
         result (judged Kind.Filter value.now) }
     ensures asked { Asked result cache.old cache.new }
+    ensures passes { OnOk result (passes Kind.Filter value.now ≡ true) }
+    ensures failure { IfErr result (IsParameterFailure Kind.Filter value.now cache.old cache.new) }
 {
     match read_matchers(alloc, value, cache) {
         Ok(matchers) => Ok(matchers),
@@ -251,6 +268,8 @@ fn receiver_judged(
     ensures read { GivesUnless (IsUnbuiltRefusal cache.new.refused (patterns_as Kind.Receiver value.now)) (λ v. v.items)
         result (judged Kind.Receiver value.now) }
     ensures asked { Asked result cache.old cache.new }
+    ensures passes { OnOk result (passes Kind.Receiver value.now ≡ true) }
+    ensures failure { IfErr result (IsParameterFailure Kind.Receiver value.now cache.old cache.new) }
 {
     match check_pattern(alloc, value, cache) {
         Ok(()) => Ok(Vec::new(alloc)),

@@ -30,6 +30,9 @@ GET receivers - -→200 [{"name":"default"}]
 POST configuration - 1234567890→400 {"code":"C2"}
 POST configuration - {→400 {"code":"C1"}
 GET configuration - -→404 {"code":"K1"}
+# A pattern that is too large to be built: nothing is stored.
+POST configuration - LARGE→503 {"code":"B2"}
+GET configuration - -→404 {"code":"K1"}
 POST configuration - DOCUMENT→201 -
 GET configuration - -→200 DOCUMENT
 GET receivers - -→200 [{"name":"r0"},{"name":"r1"},{"name":"r2"}]
@@ -57,6 +60,7 @@ GET alerts filter=%7B&active=1 -→400 {"code":"M1"}
 GET alerts active=&filter=%7B -→400 {"code":"P1"}
 GET alerts receiver=(&receiver=r1 -→400 {"code":"M2"}
 GET alerts filter=a%3D~%22(%22 -→400 {"code":"M2"}
+GET alerts filter=a%3D~%22(a%7B1000%7D)%7B1000%7D%22 -→503 {"code":"B2"}
 # Groups: by their own receiver, and one for each route.
 GET groups - -→200 GROUPS
 GET groups receiver=r2&unprocessed=1 -→200 GROUP
@@ -66,6 +70,7 @@ POST groups - -→405 {"code":"H6"}
 GET silences - -→200 []
 POST silences - DOCUMENT→400 {"code":"Li4"}
 POST silences - {→400 {"code":"S6"}
+POST silences - LARGE_SILENCE→503 {"code":"B2"}
 POST silences - AB_SILENCE→200 {"silenceID":"72a852c9-b135-441b-abe4-89369b874535"}
 GET alerts - -→200 AB3
 GET alerts silenced=false -→200 []
@@ -105,6 +110,13 @@ const AB_SILENCE: &str =
 const AC_SILENCE: &str =
     r#"{"id":"72a852c9-b135-441b-abe4-89369b874535","matchers":[{"name":"a","value":"c","isRegex":false}],"startsAt":"2025-06-15T15:00:00Z","endsAt":"2025-06-15T16:00:00Z","createdBy":"x","comment":"y"}"#;
 
+/// A configuration and a silence with a pattern that is too large to be built.
+const LARGE: &str =
+    r#"{"alertmanager_config":"{\"route\":{\"receiver\":\"r\",\"routes\":[{\"matchers\":[\"a=~\\\"(a{1000}){1000}\\\"\"]}]},\"receivers\":[{\"name\":\"r\"}]}"}"#;
+
+const LARGE_SILENCE: &str =
+    r#"{"matchers":[{"name":"a","value":"(a{1000}){1000}","isRegex":true}],"startsAt":"2025-06-15T15:00:00Z","endsAt":"2025-06-15T16:00:00Z","createdBy":"x","comment":"y"}"#;
+
 /// The first silence, once it has expired.
 const EXPIRED: &str =
     r#"{"comment":"y","createdBy":"x","endsAt":"2025-06-15T15:06:40.000Z","id":"72a852c9-b135-441b-abe4-89369b874535","matchers":[{"isEqual":true,"isRegex":false,"name":"a","value":"b"}],"startsAt":"2025-06-15T15:06:40.000Z","status":{"state":"expired"},"updatedAt":"2025-06-15T15:06:40.001Z"}"#;
@@ -121,6 +133,8 @@ fn text_of(word: &str) -> &str {
         "GROUP" => GROUP,
         "AB_SILENCE" => AB_SILENCE,
         "AC_SILENCE" => AC_SILENCE,
+        "LARGE" => LARGE,
+        "LARGE_SILENCE" => LARGE_SILENCE,
         "EXPIRED" => EXPIRED,
         _ => word,
     }

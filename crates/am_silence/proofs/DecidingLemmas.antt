@@ -19,7 +19,7 @@ use Rattle.am_match.specs.Checking.{IsFine, IsPatternRefusal, StopsAt, is_short,
 use Rattle.am_match.specs.Matchers.{MatcherText, is_on_pattern, patterns_of}
 use Rattle.am_match.specs.declared.refusal.MatcherRefusal.{MatcherRefusal}
 use Rattle.am_match.specs.declared.refusal.MatcherRefusal.TheVariants.{NoMatchers, BadPattern, LongPattern, BuildRefused}
-use Rattle.am_silence.specs.Deciding.{FirstDecides, IsOfNoPattern}
+use Rattle.am_silence.specs.Deciding.{FailsFirst, FirstDecides, IsOfNoPattern}
 use Rattle.am_silence.specs.Posted.{patterns_named, some_named}
 use Rattle.am_silence.specs.declared.written.WrittenMatcher.{WrittenMatcher}
 use Rattle.am_silence.specs.declared.refusal.SilenceRefusal.{SilenceRefusal}
@@ -28,28 +28,28 @@ use Rattle.am_silence.specs.declared.refusal.SilenceRefusal.TheVariants.{Without
 -- patterns that are refused
 pub patterns_decide : (ps : List (List ℕ)) (old new : Cache) (refusal : MatcherRefusal) → IsPatternRefusal ps old new refusal →
     FirstDecides ps old new (BadMatcher refusal)
-patterns_decide ps old new NoMatchers found = tt
+patterns_decide ps old new NoMatchers found = absurd found
 patterns_decide ps old new BadPattern found = found
 patterns_decide ps old new LongPattern found = found
 patterns_decide ps old new BuildRefused found = found
 
 -- no pattern is refused
-of_none : (ps : List (List ℕ)) (old new : Cache) (refusal : SilenceRefusal) → IsOfNoPattern refusal → FirstDecides ps old new refusal
-of_none ps old new (BadMatcher NoMatchers) none = tt
-of_none ps old new (BadMatcher BadPattern) none = absurd none
-of_none ps old new (BadMatcher LongPattern) none = absurd none
-of_none ps old new (BadMatcher BuildRefused) none = absurd none
-of_none ps old new WithoutMatchers none = tt
-of_none ps old new TakesEmpty none = tt
-of_none ps old new EndsByStart none = tt
-of_none ps old new Unknown none = tt
-of_none ps old new Ended none = tt
-of_none ps old new BadForm none = tt
+of_none : (ps : List (List ℕ)) (old new : Cache) (refusal : SilenceRefusal) → Stays old new → IsOfNoPattern refusal → FirstDecides ps old new refusal
+of_none ps old new (BadMatcher NoMatchers) stays none = stays
+of_none ps old new (BadMatcher BadPattern) stays none = absurd none
+of_none ps old new (BadMatcher LongPattern) stays none = absurd none
+of_none ps old new (BadMatcher BuildRefused) stays none = absurd none
+of_none ps old new WithoutMatchers stays none = stays
+of_none ps old new TakesEmpty stays none = stays
+of_none ps old new EndsByStart stays none = stays
+of_none ps old new Unknown stays none = stays
+of_none ps old new Ended stays none = stays
+of_none ps old new BadForm stays none = stays
 
-pub none_decides : (ps : List (List ℕ)) (old new : Cache) (failure : Failure SilenceRefusal) → ForRefused failure IsOfNoPattern →
-    ForRefused failure (FirstDecides ps old new)
-none_decides ps old new failures.OutOfMemory none = tt
-none_decides ps old new (failures.Refused refusal) none = of_none ps old new refusal none
+pub none_decides : (ps : List (List ℕ)) (old new : Cache) (failure : Failure SilenceRefusal) → Stays old new → ForRefused failure IsOfNoPattern →
+    FailsFirst ps old new failure
+none_decides ps old new failures.OutOfMemory stays none = stays
+none_decides ps old new (failures.Refused refusal) stays none = of_none ps old new refusal stays none
 
 -- ---- patterns that were checked
 
@@ -160,7 +160,7 @@ asked_again ms old new refusal fine patterns (m, (k, within, at), found) =
 
 -- matchers that are named have the patterns that decide
 pub named_decide : (ws : List WrittenMatcher) (ms : List MatcherText) (old new : Cache) (failure : Failure SilenceRefusal) → some_named ws ≡ Ok ms →
-    ForRefused failure (FirstDecides (patterns_of ms) old new) → ForRefused failure (FirstDecides (patterns_named (some_named ws)) old new)
+    FailsFirst (patterns_of ms) old new failure → FailsFirst (patterns_named (some_named ws)) old new failure
 named_decide ws ms old new failure named' decides = rw named' decides
 
 -- a stop behind a call that refused nothing
@@ -178,18 +178,18 @@ stops_behind ps refusal start old new stays stop = record {
 
 behind_one : (ps : List (List ℕ)) (start old new : Cache) (refusal : SilenceRefusal) → Stays start old → FirstDecides ps old new refusal →
     FirstDecides ps start new refusal
-behind_one ps start old new (BadMatcher NoMatchers) stays first = tt
+behind_one ps start old new (BadMatcher NoMatchers) stays first = stays-trans start old new stays first
 behind_one ps start old new (BadMatcher BadPattern) stays first = stops_behind ps pattern.BadPattern start old new stays first
 behind_one ps start old new (BadMatcher BuildRefused) stays first = stops_behind ps pattern.BuildRefused start old new stays first
 behind_one ps start old new (BadMatcher LongPattern) stays first = (first.0, first.1, stays-trans start old new stays first.2)
-behind_one ps start old new WithoutMatchers stays first = tt
-behind_one ps start old new TakesEmpty stays first = tt
-behind_one ps start old new EndsByStart stays first = tt
-behind_one ps start old new Unknown stays first = tt
-behind_one ps start old new Ended stays first = tt
-behind_one ps start old new BadForm stays first = tt
+behind_one ps start old new WithoutMatchers stays first = stays-trans start old new stays first
+behind_one ps start old new TakesEmpty stays first = stays-trans start old new stays first
+behind_one ps start old new EndsByStart stays first = stays-trans start old new stays first
+behind_one ps start old new Unknown stays first = stays-trans start old new stays first
+behind_one ps start old new Ended stays first = stays-trans start old new stays first
+behind_one ps start old new BadForm stays first = stays-trans start old new stays first
 
-pub behind : (ps : List (List ℕ)) (start old new : Cache) (failure : Failure SilenceRefusal) → Stays start old → ForRefused failure (FirstDecides ps old new) →
-    ForRefused failure (FirstDecides ps start new)
-behind ps start old new failures.OutOfMemory stays first = tt
+pub behind : (ps : List (List ℕ)) (start old new : Cache) (failure : Failure SilenceRefusal) → Stays start old → FailsFirst ps old new failure →
+    FailsFirst ps start new failure
+behind ps start old new failures.OutOfMemory stays first = stays-trans start old new stays first
 behind ps start old new (failures.Refused refusal) stays first = behind_one ps start old new refusal stays first

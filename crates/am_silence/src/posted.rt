@@ -7,7 +7,7 @@ ghost use Rattle.am_pattern.specs.Taking.{IsPattern};
 ghost use Rattle.am_match.specs.Checking.{AreRefusedRightly, IsFine};
 ghost use Rattle.am_match.specs.Matchers.{patterns_of};
 ghost use Rattle.am_match.specs.Meaning.{all_take};
-ghost use Rattle.am_silence.specs.Deciding.{FirstDecides, IsOfNoPattern};
+ghost use Rattle.am_silence.specs.Deciding.{FailsFirst, IsOfNoPattern};
 ghost use Rattle.am_silence.specs.Posted.{each_named, judged, matchers_judged, named, patterns_in_body, patterns_named, posted, posted_of, some_named, times_judged, with_patterns, written_in};
 ghost use Rattle.am_silence.specs.Unbuilt.{GivesUnless, IsUnbuilt};
 
@@ -55,7 +55,7 @@ pub fn read_silence(
     ensures read { GivesUnless (IsUnbuilt cache.new.refused (patterns_in_body body.now)) posted_of result (posted moment body.now) }
     ensures patterns { IfOk result (λ p. All IsPattern (patterns_of p.matchers.items)) }
     ensures asked { Asked result cache.old cache.new }
-    ensures first { IfErr result (λ failure. ForRefused failure (FirstDecides (patterns_in_body body.now) cache.old cache.new)) }
+    ensures first { IfErr result (FailsFirst (patterns_in_body body.now) cache.old cache.new) }
 
     // Where no build of these patterns was refused, the answer is the meaning of the body.
     ensures meaning { AreRefusedRightly cache.new.refused (patterns_in_body body.now) →
@@ -83,7 +83,7 @@ fn judged(
     ensures read { GivesUnless (IsUnbuilt cache.new.refused (patterns_named (some_named written.matchers))) posted_of result (judged moment written) }
     ensures patterns { IfOk result (λ p. All IsPattern (patterns_of p.matchers.items)) }
     ensures asked { Asked result cache.old cache.new }
-    ensures first { IfErr result (λ failure. ForRefused failure (FirstDecides (patterns_named (some_named written.matchers)) cache.old cache.new)) }
+    ensures first { IfErr result (FailsFirst (patterns_named (some_named written.matchers)) cache.old cache.new) }
 {
     let matchers = matchers_judged(alloc, written.matchers.as_slice(), cache)?;
     times_judged(
@@ -108,7 +108,7 @@ fn matchers_judged(
     ensures read { GivesUnless (IsUnbuilt cache.new.refused (patterns_named (some_named written.now))) (λ v. v.items) result (matchers_judged written.now) }
     ensures patterns { IfOk result (λ v. All IsPattern (patterns_of v.items)) }
     ensures asked { Asked result cache.old cache.new }
-    ensures first { IfErr result (λ failure. ForRefused failure (FirstDecides (patterns_named (some_named written.now)) cache.old cache.new)) }
+    ensures first { IfErr result (FailsFirst (patterns_named (some_named written.now)) cache.old cache.new) }
 {
     let matchers = some_named(alloc, written)?;
     check(alloc, &matchers, cache)?;
@@ -170,7 +170,7 @@ fn check(
     ensures patterns { OnOk result (All IsPattern (patterns_of matchers.now)) }
     ensures fine { OnOk result (All IsFine (patterns_of matchers.now)) }
     ensures asked { Asked result cache.old cache.new }
-    ensures first { IfErr result (λ failure. ForRefused failure (FirstDecides (patterns_of matchers.now) cache.old cache.new)) }
+    ensures first { IfErr result (FailsFirst (patterns_of matchers.now) cache.old cache.new) }
 {
     match check_patterns(alloc, matchers, cache) {
         Ok(()) => Ok(()),
@@ -192,7 +192,7 @@ fn takes_empty(
     ensures value { IfOk result (λ all. all ≡ all_take matchers.now []) }
     ensures unbuilt { IfErr result (λ failure. ForRefused failure (IsUnbuilt cache.new.refused (patterns_of matchers.now))) }
     ensures asked { Asked result cache.old cache.new }
-    ensures first { IfErr result (λ failure. ForRefused failure (FirstDecides (patterns_of matchers.now) cache.old cache.new)) }
+    ensures first { IfErr result (FailsFirst (patterns_of matchers.now) cache.old cache.new) }
 {
     let none = no_labels(alloc)?;
     match taken_by_all(alloc, matchers, &[&none], cache) {

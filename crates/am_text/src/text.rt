@@ -8,9 +8,17 @@ use std::cmp::Ordering;
 use std::marker::Model;
 
 /// A text that is owned. A clause sees its UTF-8 bytes.
-#[derive(Debug, Drop)]
+#[derive(Debug)]
 pub struct Text {
     string: String,
+}
+
+// Written out, so that a crate which owns one need not prove anew how its parts are dropped.
+impl Drop for Text {
+    fn drop(self) {
+        let Text { string } = self;
+        drop(string);
+    }
 }
 
 impl Model for Text {

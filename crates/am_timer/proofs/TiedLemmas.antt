@@ -10,7 +10,7 @@ use Rattle.std.proofs.lemmas.List.Kept.{IsStrictlySortedBy-filter}
 use Rattle.std.proofs.lemmas.Map.Views.{any-filter_same}
 use Rattle.am_labels.proofs.Ordered.{eq_from_elements, list_any-insert_key, sorted_inserted}
 use Rattle.am_timer.specs.Timer.{Name, Timer, name_cmp, timer_cmp}
-use Rattle.am_timer.specs.Queue.{is_named, without}
+use Rattle.am_timer.specs.Queue.{is_named, with_timer, without}
 use Rattle.am_timer.specs.Tied.{IsTied, due_in, has_timer, timer_at}
 use Rattle.am_timer.proofs.Orders.{name_ties, names_exact, same_name, same_timer, timer_itself, timers_exact, timers_total}
 
@@ -155,3 +155,29 @@ tied_back xs old dues told after name w is tied came went = record {
 
     as_before : (n : Name) → due_in after n ≡ cond (is_eq (name_cmp name n)) None (due_in dues n)
     as_before n = went n ∙ ap (cond (is_eq (name_cmp name n)) None) (came n) ∙ twice (is_eq (name_cmp name n)) (due_in dues n)
+
+-- a timer that is there is set already
+pub set_already : (xs : List Timer) (dues : List (Name × ℕ)) (x : Timer) → IsTied xs dues → due_in dues x.name ≡ Some x.due → with_timer x xs ≡ xs
+set_already xs dues x tied told =
+    same_timers (with_timer x xs) xs (rising-insert (without x.name xs) x (rising-filter (λ y. not (is_named x.name y)) xs tied.rising)) tied.rising
+    (λ q.
+    has-insert (without x.name xs) x q ∙ ap (λ b. is_eq (timer_cmp q x) || b) (has-filter (λ y. not (is_named x.name y)) xs q)
+    ∙ agree (is_eq (timer_cmp q x)) (is_named x.name q) (has_timer xs q) (here q) (is_it q))
+  where
+    here : (q : Timer) → is_eq (timer_cmp q x) ≡ true → has_timer xs q ≡ true
+    here q same = ap (has_timer xs) (same_timer q x same) ∙ tied.there x.name x.due told
+
+    -- no other has the name
+    is_it : (q : Timer) → has_timer xs q ≡ true → is_named x.name q ≡ true → is_eq (timer_cmp q x) ≡ true
+    is_it q there named =
+        let same : x.name ≡ q.name = same_name x.name q.name named in
+        let at : Some x.due ≡ Some q.due = sym told ∙ ap (due_in dues) same ∙ tied.told q there in
+        let due_is : x.due ≡ q.due = cc in
+        ap (λ (d : ℕ). is_eq (timer_cmp q (timer_at d x.name))) due_is ∙ ap (λ (n : Name). is_eq (timer_cmp q (timer_at q.due n))) same ∙ timer_itself q
+
+    agree : (a n h : Bool) → (a ≡ true → h ≡ true) → (h ≡ true → n ≡ true → a ≡ true) → (a || (not n && h)) ≡ h
+    agree true n true f g = refl
+    agree true n false f g = absurd (false≢true (f refl))
+    agree false true true f g = absurd (false≢true (g refl refl))
+    agree false true false f g = refl
+    agree false false h f g = refl

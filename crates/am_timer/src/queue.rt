@@ -1,11 +1,11 @@
 //! The queue of timers.
-ghost use Rattle.std.specs.Prelude.{◌≡◌, ◌+◌, ◌-◌, ◌⊎◌, ℕ, min, not, List, [], length, filter, IfOk, OnOk, OnErr, if◌then◌else◌, ⊤};
+ghost use Rattle.std.specs.Prelude.{◌≡◌, ◌+◌, ◌-◌, ◌⊎◌, ℕ, Some, true, min, not, List, [], length, filter, IfOk, OnOk, OnErr, if◌then◌else◌, ⊤};
 ghost use Rattle.std.specs.List.Sorted.{IsStrictlySortedBy};
 ghost use Rattle.am_tenant.specs.Names.{same};
 ghost use Rattle.am_share.specs.Pairs.{LeavesOthers};
 ghost use Rattle.am_timer.specs.Timer.{timer_cmp};
 ghost use Rattle.am_timer.specs.Queue.{due_at, pairs_of, timers_of, with_timer, without};
-ghost use Rattle.am_timer.specs.Tied.{IsTied};
+ghost use Rattle.am_timer.specs.Tied.{IsTied, due_in};
 
 use crate::timer::{Timer, TimerName};
 use am_share::{ShareRefusal, Shared};
@@ -16,11 +16,24 @@ use std::collections::{BTreeMap, BTreeSet};
 use std::marker::Model;
 
 /// The timers of all tenants, of which each name has one at most.
-#[derive(Debug, Drop)]
+#[derive(Debug)]
 pub struct TimerQueue {
     by_due: BTreeSet<Timer>,
     dues: BTreeMap<TimerName, Moment>,
     looked: usize,
+}
+
+// Written out, so that a crate which owns one need not prove anew how its parts are dropped.
+impl Drop for TimerQueue {
+    fn drop(self) {
+        let TimerQueue {
+            by_due,
+            dues,
+            looked: _looked,
+        } = self;
+        drop(by_due);
+        drop(dues);
+    }
 }
 
 impl Model for TimerQueue {
@@ -157,7 +170,8 @@ fn forget(by_due: &mut BTreeSet<Timer>, dues: &mut BTreeMap<TimerName, Moment>, 
     }
 }
 
-// Puts the timer into both maps. First the one of its name goes, so that the maps go together after each step.
+// Puts the timer into both maps, unless it is there. First the one of its name goes, so that the maps go together after
+// each step.
 fn set_in(
     alloc: Global,
     by_due: &mut BTreeSet<Timer>,
@@ -169,6 +183,9 @@ fn set_in(
     ensures err { OnErr result ((by_due.new.keys ≡ by_due.old.keys) ⊎ (by_due.new.keys ≡ without timer.name by_due.old.keys)) }
     ensures tied { IsTied by_due.new.keys dues.new.entries }
 {
+    if is_set(dues, &timer) {
+        return Ok(());
+    }
     let name = timer.name.copy(alloc)?;
     forget(by_due, dues, &name);
     dues.insert(name, timer.due)?;
@@ -177,4 +194,14 @@ fn set_in(
         return Err(AllocError);
     }
     Ok(())
+}
+
+// Whether the timer of this name is due at this moment.
+fn is_set(dues: &BTreeMap<TimerName, Moment>, timer: &Timer) -> bool
+    ensures { result ≡ true → due_in dues.now.entries timer.now.name ≡ Some timer.now.due }
+{
+    match dues.get(&timer.name) {
+        Some(due) => *due == timer.due,
+        None => false,
+    }
 }

@@ -11,12 +11,27 @@ use std::marker::Model;
 
 /// The URL of a webhook: `http://`, then `localhost` or four numbers from 0 to 255 with dots between, perhaps `:` and
 /// a port from 1 to 65535 (without one it is 80), then nothing, or `/` and visible ASCII without `#`.
-#[derive(PartialEq, Eq, Debug, Drop)]
+#[derive(PartialEq, Eq, Debug)]
 pub struct WebhookUrl {
     text: Text,
     host: Text,
     port: u16,
     target: Text,
+}
+
+// Written out, so that a crate which owns one need not prove anew how its parts are dropped.
+impl Drop for WebhookUrl {
+    fn drop(self) {
+        let WebhookUrl {
+            text,
+            host,
+            port: _port,
+            target,
+        } = self;
+        drop(text);
+        drop(host);
+        drop(target);
+    }
 }
 
 impl Model for WebhookUrl {

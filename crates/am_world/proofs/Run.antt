@@ -182,7 +182,6 @@ pub first_given : (Q : Type 0) (t : List ℕ) (v : Watch) (p : PrivateCluster) (
 first_given Q t v p w e mid es w' given keep q = record {
   follows = given.follows;
   stands = given.stands q;
-  fresh = given.once.0;
   brought = built_before mid.instances w'.instances (patterns_in (adds t v e)) keep
       (built_parts (refused_by w') (adds t v e) (view t (watch v e) es) (given.brought q)).0;
 }

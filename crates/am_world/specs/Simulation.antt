@@ -21,7 +21,7 @@ use Rattle.am_world.specs.Reaction.{IsCause, in_replica, terms_of}
 use Rattle.am_world.specs.Refusal.{refusal}
 use Rattle.am_world.specs.Roster.{IsSameRoster, roster_after}
 use Rattle.am_world.specs.Setup.{Origin, numbers}
-use Rattle.am_world.specs.View.{Seen, Reading, AskedAs, FrontAnswered, Shut, Watch, first_watch, look, watch, adds, opens_new}
+use Rattle.am_world.specs.View.{Seen, Reading, AskedAs, FrontAnswered, Shut, Watch, first_watch, look, watch, adds}
 
 -- what a world has put out so far, and how many faults came
 abbrev pub put_out : World → List Output
@@ -68,12 +68,11 @@ pub record Opens (origin : Origin) (w : World) : Type 0 where
 
 -- ---- one event
 
--- what an event needs, of a tenant: what is known is so, the cluster has what the world has, a name that is opened is
--- new, and no pattern that the tenant brings was refused a build
+-- what an event needs, of a tenant: what is known is so, the cluster has what the world has, and no pattern that the tenant
+-- brings was refused a build
 pub record Premises (t : List ℕ) (v : Watch) (p : PrivateCluster) (w : World) (e : Event) (w' : World) : Type 0 where
   pub follows : Follows v w
   pub stands : Stands t w p
-  pub fresh : opens_new v e
   pub brought : AreBuilt (refused_by w') (patterns_in (adds t v e))
 
 -- what was decided of connections stays so

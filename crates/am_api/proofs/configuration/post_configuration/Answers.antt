@@ -1,4 +1,5 @@
 use Rattle.am_api.proofs.ConfigurationLemmas.{refusal_decides}
+use Rattle.am_api.proofs.Adding.{configuration_adds, unasked_adds}
 use Rattle.am_api.proofs.configuration.post_configuration.Goals as goal
 
 pub returns-in-Err-Refused-clause-decides : goal.returns-in-Err-Refused-clause-decides
@@ -7,3 +8,15 @@ returns-in-Err-Refused-clause-decides c =
     (rw c.in-Err-Refused.field-0-is at c.in-Err-Refused.ensures.failure)
     (rw c.in-Err-Refused.field-0-is at c.in-Err-Refused.ensures.meaning) c.refuse-in-Err-Refused.result
     (rw (c.status_of.ensures, c.code.ensures, c.in-Err-Refused.refusal-is) at c.refuse-in-Err-Refused.ensures)
+
+pub returns-then-limits-document-clause-adds : goal.returns-then-limits-document-clause-adds
+returns-then-limits-document-clause-adds c =
+    unasked_adds _ _
+
+pub returns-in-Err-Refused-clause-adds : goal.returns-in-Err-Refused-clause-adds
+returns-in-Err-Refused-clause-adds c =
+    configuration_adds _ _ _ _ c.in-Err-Refused.ensures.failure
+
+pub returns-in-Err-OutOfMemory-clause-adds : goal.returns-in-Err-OutOfMemory-clause-adds
+returns-in-Err-OutOfMemory-clause-adds c =
+    configuration_adds _ _ _ _ c.in-Err-OutOfMemory.ensures.failure

@@ -1,5 +1,4 @@
 use Rattle.std.proofs.Common.{sym, map, refl, subst, take}
-use Rattle.am_listing.specs.declared.receivers.RoutedAlert.{RoutedAlert}
 use Rattle.am_group_list.specs.Places.{AreGrouped, groups_flagged, places_by, places_from}
 use Rattle.am_group_list.proofs.Members.{places_more}
 use Rattle.am_group_list.proofs.grouping.grouped.Goals as goal

@@ -1,4 +1,4 @@
-use Rattle.std.proofs.Common.{◌<◌, ◌∙◌, false, All, ap, get_or, length, map, subst, sym}
+use Rattle.std.proofs.Common.{◌<◌, ◌∙◌, false, All, ap, get_or, length, map}
 use Rattle.std.proofs.lemmas.List.Elements.{All-filter}
 use Rattle.std.proofs.lemmas.Result.{IfOk-weaker}
 use Rattle.std.proofs.lemmas.Simd.{map-map}

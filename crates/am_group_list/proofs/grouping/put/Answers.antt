@@ -1,4 +1,4 @@
-use Rattle.std.proofs.Common.{◌≡◌, ◌∙◌, [], ℕ, List, Global, Vec, ap, rules}
+use Rattle.std.proofs.Common.{◌≡◌, ◌∙◌, [], ℕ, Global, Vec, ap, rules}
 use Rattle.std.specs.BTreeMap.{is_at}
 use Rattle.std.specs.BTreeMap.Entry.{map_with_value}
 use Rattle.std.specs.Map.{lookup}

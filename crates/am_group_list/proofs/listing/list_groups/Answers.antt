@@ -1,8 +1,11 @@
-use Rattle.std.proofs.Common.{◌∙◌, ap, length, map}
+use Rattle.std.proofs.Common.{◌∙◌, ap, length}
 use Rattle.std.proofs.lemmas.List.FromFn.{length-map-range_with_len}
 use Rattle.std.proofs.lemmas.List.Elements.{Contains-append_left, Contains-append_right}
 use Rattle.std.proofs.lemmas.Result.{err_from_is_err_and}
-use Rattle.am_listing.proofs.Failures.{unanswered_among}
+use Rattle.std.specs.Option.{option_to_list}
+use Rattle.am_match.specs.Matchers.{patterns_of}
+use Rattle.am_muting.proofs.Failures.{adds_among, adds_behind}
+use Rattle.am_listing.proofs.Failures.{left_more, right_more, unanswered_among}
 use Rattle.am_listing.specs.Failing.{patterns_in_use}
 use Rattle.am_group_list.proofs.Under.{sorted_places}
 use Rattle.am_group_list.proofs.Steps.{text_listed}
@@ -23,6 +26,21 @@ returns-in_err-asked-clause-failure c =
     rw (p.1, p.2)
     (unanswered_among _ _ _ _ _ _ (λ text there. Contains-append_right _ _ text there) (λ text there. there)
     (c.in_err-asked.ensures.failure (patterns_in_use c.args.config.now c.args.moment c.args.held.now)))
+
+pub returns-in_err-alerts-clause-adds : goal.returns-in_err-alerts-clause-adds
+returns-in_err-alerts-clause-adds c =
+    rw (err_from_is_err_and c.from_residual.result c.from_residual.ensures.1).1
+    (adds_among _ _ _ _ (λ text there.
+    left_more (patterns_of c.args.query.now.matchers) (option_to_list c.args.query.now.receiver)
+    (patterns_in_use c.args.config.now c.args.moment c.args.held.now) text there) c.in_err-alerts.ensures.adds)
+
+pub returns-in_err-asked-clause-adds : goal.returns-in_err-asked-clause-adds
+returns-in_err-asked-clause-adds c =
+    rw (err_from_is_err_and c.from_residual-in_err-asked.result c.from_residual-in_err-asked.ensures.1).1
+    (adds_behind _ _ _ _ c.in_ok-alerts.ensures.asked
+    (adds_among _ _ _ _ (λ text there.
+    right_more (patterns_of c.args.query.now.matchers) (option_to_list c.args.query.now.receiver)
+    (patterns_in_use c.args.config.now c.args.moment c.args.held.now) text there) c.in_err-asked.ensures.adds))
 
 pub returns-clause-text : goal.returns-clause-text
 returns-clause-text c =

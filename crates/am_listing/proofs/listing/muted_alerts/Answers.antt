@@ -9,6 +9,8 @@ use Rattle.am_alert.specs.declared.held.HeldAlert.{HeldAlert}
 use Rattle.am_muting.specs.Muting.{muting_of}
 use Rattle.am_listing.proofs.Places.{same_length}
 use Rattle.am_listing.proofs.Steps.{passed_are, sets_are}
+use Rattle.std.proofs.lemmas.List.Elements.{Contains-append_left, Contains-append_right}
+use Rattle.am_muting.proofs.Failures.{adds_among, adds_behind}
 use Rattle.am_listing.proofs.listing.muted_alerts.Goals as goal
 
 pub returns-in_err-taken-clause-failure : goal.returns-in_err-taken-clause-failure
@@ -48,3 +50,14 @@ returns-clause-passed c =
     passed_are c.args.config.now c.args.query.now c.args.moment c.args.held.now c.in_ok-firing.firing.items c.in_ok-sets.sets.items c.in_ok-taken.taken.items c.in_ok-mutes.mutes c.in_ok-chosen.chosen.items
     all (rw c.deref.ensures.value at c.in_ok-sets.ensures) (rw (c.as_slice.ensures, c.deref-2.ensures.value) at c.in_ok-taken.ensures.taken)
     c.in_ok-mutes.ensures.muting (rw (c.deref-3.ensures.value, c.deref-4.ensures.value) at c.in_ok-chosen.ensures)
+
+pub returns-in_err-taken-clause-adds : goal.returns-in_err-taken-clause-adds
+returns-in_err-taken-clause-adds c =
+    rw (err_from_is_err_and c.from_residual-in_err-taken.result c.from_residual-in_err-taken.ensures.1).1
+    (adds_among _ _ _ _ (λ text there. Contains-append_left _ _ text there) (rw c.as_slice.ensures at c.in_err-taken.ensures.adds))
+
+pub returns-in_err-mutes-clause-adds : goal.returns-in_err-mutes-clause-adds
+returns-in_err-mutes-clause-adds c =
+    rw (err_from_is_err_and c.from_residual-in_err-mutes.result c.from_residual-in_err-mutes.ensures.1).1
+    (adds_behind _ _ _ _ c.in_ok-taken.ensures.asked
+    (adds_among _ _ _ _ (λ text there. Contains-append_right _ _ text there) c.in_err-mutes.ensures.adds))

@@ -22,3 +22,8 @@ returns-clause-routes c =
     subst (λ (found : List RoutedAlert). All (λ (r : RoutedAlert). below r.routes) found)
     (sym (c.in_ok-routed.ensures ∙ ap (λ pairs. map made_routed (zip c.args.alerts.items pairs)) c.in_ok-pairs.ensures))
     (routes_all below c.args.config.now c.args.alerts.items c.in_ok-routes.routes.items c.in_ok-routes.ensures.places)
+
+pub returns-in_err-routes-clause-adds : goal.returns-in_err-routes-clause-adds
+returns-in_err-routes-clause-adds c =
+    rw (err_from_is_err_and c.from_residual-in_err-routes.result c.from_residual-in_err-routes.ensures.1).1
+    (c.in_err-routes.ensures.adds)

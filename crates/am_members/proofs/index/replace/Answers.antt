@@ -1,5 +1,72 @@
-use Rattle.am_members.proofs.Grouping.{absent_after}
+use Rattle.std.proofs.Common.{◌≡◌, None, Some, rules, sym, ap, ◌∙◌}
+use Rattle.std.specs.BTreeMap.{insert_entry}
+use Rattle.std.specs.BTreeMap.Entry.{entry_value, map_with_value}
+use Rattle.std.specs.Map.{lookup}
+use Rattle.am_labels.specs.Labels.{labels_cmp}
+use Rattle.am_members.specs.Grouped.{AreGrouped, put_in}
+use Rattle.am_members.specs.Names.{is_set, without}
+use Rattle.am_members.proofs.Grouping.{absent_after, grouped_put, grouped_same, may_join_all}
+use Rattle.am_members.proofs.Putting.{left_behind, put_new, put_over}
 use Rattle.am_members.proofs.index.replace.Goals as goal
 
-pub hold-requires-clause-absent : goal.hold-requires-clause-absent
-hold-requires-clause-absent c = rw (c.in_ok-own.ensures, c.forget.ensures.left) (absent_after c.args.labels.now c.args.alerts.now.entries)
+pub join_all-requires : goal.join_all-requires
+join_all-requires c = λ q listed.
+    let ys = c.args.alerts.now.entries in
+    let vacant : lookup (is_set c.in_ok-own.own) ys ≡ None = rw c.in-Vacant.is at c.in_ok-place.ensures.found in
+    may_join_all ys c.args.groups.now.entries c.args.labels.now c.requires (ap (λ k. lookup (is_set k) ys) (sym c.in_ok-own.ensures) ∙ vacant) q
+
+pub join_all-requires-in-Occupied : goal.join_all-requires-in-Occupied
+join_all-requires-in-Occupied c = λ q listed.
+    let ys = c.args.alerts.now.entries in
+    let l = c.args.labels.now in
+    let there : lookup (is_set l) ys ≡ Some c.get.result.now =
+    ap (λ k. lookup (is_set k) ys) (sym c.in_ok-own.ensures) ∙ sym c.in_ok-place.ensures.value ∙ ap entry_value c.in-Occupied.is ∙ c.get.ensures in
+    may_join_all (without l ys) c.leave_all.new.groups.entries l
+    (left_behind ys c.args.groups.now.entries c.leave_all.new.groups.entries l c.get.result.now c.requires there (λ q. rw c.as_slice-in-Occupied.ensures at (c.leave_all.ensures q)))
+    (absent_after l ys) q
+
+pub returns-in_ok-join_all-in-Vacant-clause-grouped : goal.returns-in_ok-join_all-in-Vacant-clause-grouped
+returns-in_ok-join_all-in-Vacant-clause-grouped c =
+    let ys = c.args.alerts.now.entries in
+    let l = c.args.labels.now in
+    let after = map_with_value c.in_ok-place.field-0 c.args.known in
+    let vacant : lookup (is_set c.in_ok-own.own) ys ≡ None = rw c.in-Vacant.is at c.in_ok-place.ensures.found in
+    let put : after.entries ≡ insert_entry labels_cmp ys l c.args.known = rw c.in_ok-own.ensures at (c.in_ok-place.ensures.update.1 c.args.known) in
+    grouped_same after.entries _ c.join_all.new.groups.entries
+    (grouped_put ys after.entries c.args.groups.now.entries c.join_all.new.groups.entries l c.args.known c.requires
+    (ap (λ k. lookup (is_set k) ys) (sym c.in_ok-own.ensures) ∙ vacant) put (c.in_ok-place.ensures.update.2 c.args.known)
+    (λ q. rw c.as_slice.ensures at (c.in_ok-join_all-in-Vacant.ensures q)))
+    (search rules)
+
+pub returns-in_ok-join_all-in-Vacant-clause-put : goal.returns-in_ok-join_all-in-Vacant-clause-put
+returns-in_ok-join_all-in-Vacant-clause-put c =
+    let ys = c.args.alerts.now.entries in
+    let l = c.args.labels.now in
+    let after = map_with_value c.in_ok-place.field-0 c.args.known in
+    let vacant : lookup (is_set c.in_ok-own.own) ys ≡ None = rw c.in-Vacant.is at c.in_ok-place.ensures.found in
+    let put : after.entries ≡ insert_entry labels_cmp ys l c.args.known = rw c.in_ok-own.ensures at (c.in_ok-place.ensures.update.1 c.args.known) in
+    (let same : _ ≡ after.entries = search rules in same)
+    ∙ put ∙ put_new l c.args.known ys (ap (λ k. lookup (is_set k) ys) (sym c.in_ok-own.ensures) ∙ vacant)
+
+pub returns-in_ok-join_all-in-Occupied-clause-grouped : goal.returns-in_ok-join_all-in-Occupied-clause-grouped
+returns-in_ok-join_all-in-Occupied-clause-grouped c =
+    let ys = c.args.alerts.now.entries in
+    let l = c.args.labels.now in
+    let after = map_with_value c.in_ok-place.field-0 c.args.known in
+    let there : lookup (is_set l) ys ≡ Some c.get.result.now =
+    ap (λ k. lookup (is_set k) ys) (sym c.in_ok-own.ensures) ∙ sym c.in_ok-place.ensures.value ∙ ap entry_value c.in-Occupied.is ∙ c.get.ensures in
+    let put : after.entries ≡ insert_entry labels_cmp ys l c.args.known = rw c.in_ok-own.ensures at (c.in_ok-place.ensures.update.1 c.args.known) in
+    grouped_same after.entries _ c.join_all-in-Occupied.new.groups.entries
+    (grouped_put (without l ys) after.entries c.leave_all.new.groups.entries c.join_all-in-Occupied.new.groups.entries l c.args.known
+    (left_behind ys c.args.groups.now.entries c.leave_all.new.groups.entries l c.get.result.now c.requires there (λ q. rw c.as_slice-in-Occupied.ensures at (c.leave_all.ensures q)))
+    (absent_after l ys) (put ∙ put_over l c.args.known ys c.requires.rising) (c.in_ok-place.ensures.update.2 c.args.known)
+    (λ q. rw c.as_slice-in-Occupied-2.ensures at (c.in_ok-join_all-in-Occupied.ensures q)))
+    (search rules)
+
+pub returns-in_ok-join_all-in-Occupied-clause-put : goal.returns-in_ok-join_all-in-Occupied-clause-put
+returns-in_ok-join_all-in-Occupied-clause-put c =
+    let ys = c.args.alerts.now.entries in
+    let l = c.args.labels.now in
+    let after = map_with_value c.in_ok-place.field-0 c.args.known in
+    let put : after.entries ≡ insert_entry labels_cmp ys l c.args.known = rw c.in_ok-own.ensures at (c.in_ok-place.ensures.update.1 c.args.known) in
+    (let same : _ ≡ after.entries = search rules in same) ∙ put ∙ put_over l c.args.known ys c.requires.rising

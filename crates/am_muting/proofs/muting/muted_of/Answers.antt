@@ -1,4 +1,4 @@
-use Rattle.std.proofs.Common.{◌∷◌, ◌++◌, [], ap, sym, ◌∙◌}
+use Rattle.std.proofs.Common.{sym, ◌∙◌}
 use Rattle.am_muting.proofs.Chosen.{none_muted, one_muted}
 use Rattle.am_muting.proofs.muting.muted_of.Goals as goal
 use Rattle.am_muting.proofs.muting.muted_of.Goals.{then-is_muted+in_ok-copy+in_ok-push, else-is_muted}

@@ -1,4 +1,4 @@
-use Rattle.std.proofs.Common.{◌≡◌, Bool, List, filter, map, Bor, ap, sym, subst, ◌∙◌}
+use Rattle.std.proofs.Common.{Bool, List, filter, map, Bor, ap, sym, subst, ◌∙◌}
 use Rattle.std.specs.List.Sorted.{IsStrictlySortedBy}
 use Rattle.std.proofs.lemmas.List.Kept.{IsStrictlySortedBy-filter}
 use Rattle.am_labels.specs.declared.Label.{Label}

@@ -7,3 +7,7 @@ returns-in-Err-Refused-clause-read c =
     (receiver_refused (tt {0}) c.args.value.now c.args.cache.now c.check_pattern.new.cache c.in-Err-Refused.refusal
     (rw c.in-Err-Refused.field-0-is at c.in-Err-Refused.ensures.failure)
     (rw c.in-Err-Refused.field-0-is at c.in-Err-Refused.ensures.meaning))
+
+pub returns-in-Err-Refused-clause-failure : goal.returns-in-Err-Refused-clause-failure
+returns-in-Err-Refused-clause-failure c =
+    rw c.in-Err-Refused.refusal-is (rw c.in-Err-Refused.field-0-is at c.in-Err-Refused.ensures.failure)

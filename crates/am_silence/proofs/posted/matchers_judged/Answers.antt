@@ -1,4 +1,5 @@
 use Rattle.std.proofs.lemmas.Result.{err_from_is_err_and}
+use Rattle.am_pattern.proofs.AskingLemmas.{stays-refl}
 use Rattle.am_silence.proofs.DecidingLemmas.{behind, named_decide, none_decides}
 use Rattle.am_silence.proofs.PostedLemmas.{asking_failed, patterns_failed}
 use Rattle.am_silence.proofs.posted.matchers_judged.Goals as goal
@@ -20,7 +21,7 @@ returns-in_err-takes_empty-clause-read c =
 pub returns-in_err-matchers-clause-first : goal.returns-in_err-matchers-clause-first
 returns-in_err-matchers-clause-first c =
     let p = err_from_is_err_and c.from_residual.result c.from_residual.ensures.1 in
-    rw (p.1, p.2) (none_decides _ _ _ _ c.in_err-matchers.ensures.other)
+    rw (p.1, p.2) (none_decides _ _ _ _ (stays-refl _) c.in_err-matchers.ensures.other)
 
 pub returns-in_err-check-clause-first : goal.returns-in_err-check-clause-first
 returns-in_err-check-clause-first c =

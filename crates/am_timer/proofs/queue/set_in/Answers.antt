@@ -3,7 +3,7 @@ use Rattle.std.specs.Ordering.{is_eq}
 use Rattle.am_timer.specs.Queue.{without}
 use Rattle.am_timer.specs.Tied.{IsTied, due_in}
 use Rattle.am_timer.specs.Timer.{Name, Timer, name_cmp}
-use Rattle.am_timer.proofs.TiedLemmas.{tied_back, tied_with}
+use Rattle.am_timer.proofs.TiedLemmas.{set_already, tied_back, tied_with}
 use Rattle.am_timer.proofs.queue.set_in.Goals as goal
 
 -- a change at a name is one at its copy
@@ -26,3 +26,6 @@ returns-clause-tied c =
     (tied_with c.forget.new.by_due.keys c.args.by_due.now.keys c.forget.new.dues.entries c.insert.new.self.entries c.args.timer
     (subst (λ (n : Name). c.forget.new.by_due.keys ≡ without n c.args.by_due.now.keys) c.in_ok-name.ensures c.forget.ensures.kept) c.forget.ensures.tied
     (along c.in_ok-name.name name c.forget.new.dues.entries c.insert.new.self.entries (Some c.args.timer.due) c.in_ok-name.ensures c.in_ok-insert.ensures.updates.0))
+
+pub returns-then-is_set-clause-set : goal.returns-then-is_set-clause-set
+returns-then-is_set-clause-set c = sym (set_already c.args.by_due.now.keys c.args.dues.now.entries c.args.timer c.requires.tied (c.is_set.ensures c.if-is_set.true))

@@ -1,4 +1,4 @@
-use Rattle.std.proofs.Common.{◌≡◌, ◌+◌, ◌<◌, ◌∙◌, [], ℕ, All, Bor, List, Global, Vec, ap, get_or, length, map, rules, sym, arith}
+use Rattle.std.proofs.Common.{◌∙◌, [], ℕ, Bor, List, Global, Vec, ap, get_or, map, sym, arith}
 use Rattle.std.proofs.lemmas.List.{length-map}
 use Rattle.std.proofs.lemmas.Result.{IfOk-weaker}
 use Rattle.am_labels.specs.declared.Label.{Label}

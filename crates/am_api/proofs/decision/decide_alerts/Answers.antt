@@ -1,0 +1,28 @@
+use Rattle.am_http.specs.declared.request.Method.TheVariants.{Get}
+use Rattle.am_listing.specs.Failing.{patterns_in_use}
+use Rattle.am_api.specs.Decision.{alerts_decided}
+use Rattle.am_api.specs.Patterns.{patterns_of_alerts}
+use Rattle.am_api.specs.Refusing.{AlertsRefuse, asked_by_method}
+use Rattle.am_api.proofs.Builds.{with_method}
+use Rattle.std.proofs.Common.{◌++◌, subst, sym}
+use Rattle.am_muting.specs.Failing.{AddsAmong}
+use Rattle.am_api.proofs.Adding.{unasked_adds}
+use Rattle.am_api.proofs.decision.decide_alerts.Goals as goal
+
+pub returns-in-Get-clause-decides : goal.returns-in-Get-clause-decides
+returns-in-Get-clause-decides c =
+    with_method _ _ (λ m. AlertsRefuse m c.args.request.now c.args.cache.now c.decide_list.new.cache) (λ m. patterns_of_alerts m c.args.request.now) (λ m. asked_by_method m (patterns_in_use c.args.config.now c.args.moment c.args.held.now))
+    (λ m. alerts_decided c.args.config.now c.args.request.now m c.args.held.now c.args.limits c.args.moment c.args.maker)
+    c.args.request.now.method Get c.in-Get.is (rw c.as_str.ensures at c.decide_list.ensures.decides)
+
+pub returns-in-Get-clause-adds : goal.returns-in-Get-clause-adds
+returns-in-Get-clause-adds c =
+    subst (λ m. AddsAmong (patterns_of_alerts m c.args.request.now ++ asked_by_method m (patterns_in_use c.args.config.now c.args.moment c.args.held.now)) c.args.cache.now.refused c.decide_list.new.cache.refused) (sym c.in-Get.is) (rw c.as_str.ensures at c.decide_list.ensures.adds)
+
+pub returns-in-Post-clause-adds : goal.returns-in-Post-clause-adds
+returns-in-Post-clause-adds c =
+    unasked_adds _ _
+
+pub returns-in-Delete-clause-adds : goal.returns-in-Delete-clause-adds
+returns-in-Delete-clause-adds c =
+    unasked_adds _ _

@@ -1,0 +1,40 @@
+use Rattle.std.proofs.Common.{inr}
+use Rattle.am_group_list.specs.Written.{groups_text}
+use Rattle.am_query.specs.Queries.{parameters_in, processed_among}
+use Rattle.am_listing.specs.Failing.{patterns_in_use}
+use Rattle.am_api.specs.Refusing.{IsNotAnswered, ListRefuses}
+use Rattle.am_api.specs.Replied.{replied}
+use Rattle.am_api.proofs.Builds.{decides_weaker}
+use Rattle.am_api.proofs.Replies.{query_refused}
+use Rattle.am_query.specs.Patterns.{patterns_of_group_query}
+use Rattle.am_muting.proofs.Failures.{adds_behind}
+use Rattle.am_api.proofs.Adding.{own_adds, query_adds}
+use Rattle.am_api.proofs.listing.decide_group_list.Goals as goal
+
+pub returns-in-Err-Refused-clause-decides : goal.returns-in-Err-Refused-clause-decides
+returns-in-Err-Refused-clause-decides c =
+    query_refused _ _ _ _ _ c.in-Err-Refused.reason _ _ c.refuse.result
+    (rw c.in-Err-Refused.field-0-is at c.in-Err-Refused.ensures.read)
+    (rw c.in-Err-Refused.field-0-is at c.in-Err-Refused.ensures.stop)
+    (rw (c.status.ensures, c.code.ensures, c.in-Err-Refused.reason-is) at c.refuse.ensures)
+
+pub returns-in-Ok-clause-decides : goal.returns-in-Ok-clause-decides
+returns-in-Ok-clause-decides c =
+    rw c.in-Ok.ensures.read
+    (decides_weaker (IsNotAnswered (processed_among (parameters_in c.args.query.now))) (ListRefuses (processed_among (parameters_in c.args.query.now)) c.args.cache.now c.list_grouped.new.cache) c.list_grouped.new.cache.refused
+    (patterns_of_group_query c.args.query.now) (patterns_in_use c.args.config.now c.args.moment c.args.held.now) c.list_grouped.result
+    (replied 200 (groups_text c.args.config.now c.in-Ok.asked c.args.moment c.args.held.now)) (λ d not. inr not) c.list_grouped.ensures.decides)
+
+pub returns-in-Err-Refused-clause-adds : goal.returns-in-Err-Refused-clause-adds
+unfolding patterns_of_group_query
+returns-in-Err-Refused-clause-adds c =
+    own_adds _ _ _ _ (query_adds _ _ _ _ c.in-Err-Refused.ensures.stop)
+
+pub returns-in-Err-OutOfMemory-clause-adds : goal.returns-in-Err-OutOfMemory-clause-adds
+unfolding patterns_of_group_query
+returns-in-Err-OutOfMemory-clause-adds c =
+    own_adds _ _ _ _ (query_adds _ _ _ _ c.in-Err-OutOfMemory.ensures.stop)
+
+pub returns-in-Ok-clause-adds : goal.returns-in-Ok-clause-adds
+returns-in-Ok-clause-adds c =
+    adds_behind _ _ _ _ c.in-Ok.ensures.asked c.list_grouped.ensures.adds
