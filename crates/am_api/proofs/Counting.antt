@@ -1,9 +1,12 @@
 -- How posted label sets that aren't held are counted.
-use Rattle.std.proofs.Common.{◌≡◌, ℕ, ◌+◌, ◌-◌, ◌≤◌, nat_lt, List, [], ◌∷◌, ◌++◌, Bool, true, false, not, cond, ◌||◌, if◌then◌else◌, refl, sym, ap, ◌∙◌, arith, append_assoc}
+use Rattle.std.proofs.Common.{◌≡◌, ℕ, ◌+◌, ◌-◌, ◌≤◌, nat_lt, List, [], ◌∷◌, ◌++◌, Bool, true, false, not, cond, ◌||◌, length, map, if◌then◌else◌, refl, sym, ap, ◌∙◌, arith, append_assoc}
 use Rattle.std.specs.Cmp.{eq_by_cmp_equiv}
 use Rattle.std.specs.Ordering.{eq_by_cmp, is_eq}
 use Rattle.std.specs.Set.{distinct_count, is_member}
 use Rattle.std.proofs.lemmas.Bool.Decides.{nat_tests}
+use Rattle.std.proofs.lemmas.List.{length-map}
+use Rattle.std.proofs.lemmas.List.Sums.{count_by-le-length, length-filter}
+use Rattle.std.proofs.lemmas.Map.Made.{distinct_count-le}
 use Rattle.am_labels.specs.declared.Label.{Label}
 use Rattle.am_labels.specs.Labels.{labels_cmp, labels_total}
 use Rattle.am_item.specs.declared.item.Alert.{Alert}
@@ -49,3 +52,13 @@ past_none limit len new whole is past = grind (arith, nat_tests)
 
 pub past_some : (limit len new whole room : ℕ) → whole ≡ len + new → len ≤ limit → room ≡ limit - len → nat_lt room new ≡ nat_lt limit whole
 past_some limit len new whole room is within left = grind (arith, nat_tests)
+
+-- no more label sets are new than alerts are posted
+pub new_few : (held : List Item) (posted : List Alert) → new_count held posted ≤ length posted
+new_few held posted =
+    let sets = map (λ (alert : Alert). alert.labels) posted in
+    let is_new : List Label → Bool = λ labels. not (is_held held labels) in
+    omega (arith, distinct_count-le (eq_by_cmp labels_cmp) (new_sets held posted), length-filter is_new sets, count_by-le-length is_new sets, length-map posted (λ (alert : Alert). alert.labels))
+
+pub past_few : (limit len new whole room count : ℕ) → whole ≡ len + new → len ≤ limit → room ≡ limit - len → new ≤ count → count ≤ room → false ≡ nat_lt limit whole
+past_few limit len new whole room count is within left few fits = grind (arith, nat_tests)

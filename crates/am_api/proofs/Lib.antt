@@ -18,3 +18,5 @@ mod StoredSilences
 mod StoredItems
 -- the texts that are refused more
 pub mod Adding
+-- what is built before a request is accepted
+mod Accepting

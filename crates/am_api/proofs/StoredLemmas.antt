@@ -1,5 +1,5 @@
 -- Which patterns are in use, and which a configuration has that is stored.
-use Rattle.std.proofs.Common.{◌≡◌, ℕ, List, [], ◌∷◌, ◌++◌, Bool, true, false, if◌then◌else◌, Option, None, Some, Result, Ok, Err, chars, map, refl, sym, ap, ap₂, ◌∙◌, inl, inr, arith, subst}
+use Rattle.std.proofs.Common.{◌≡◌, ℕ, List, [], ◌∷◌, ◌++◌, Bool, true, false, if◌then◌else◌, Option, None, Some, Result, Ok, Err, chars, map, refl, sym, ap, ap₂, ◌∙◌, inl, inr, arith, subst, All}
 use Rattle.std.specs.Prelude.{codes}
 use Rattle.std.specs.List.{Contains}
 use Rattle.std.proofs.lemmas.Bool.{cases_Bool}
@@ -8,8 +8,7 @@ use Rattle.std.proofs.lemmas.Grind.{flat_map-append}
 use Rattle.serde_json.specs.Find.{get}
 use Rattle.am_text.specs.declared.tree.Node.{Node}
 use Rattle.am_text.proofs.OutcomeLemmas.{both_done}
-use Rattle.am_pattern.specs.Refused.{IsRefusedRightly}
-use Rattle.am_match.specs.Checking.{AreRefusedRightly, meaning_of, pattern_refusal, patterns_in, unless_refused}
+use Rattle.am_match.specs.Checking.{meaning_of, pattern_refusal, patterns_in, unless_refused}
 use Rattle.am_match.specs.Matchers.{MatcherText, patterns_of, is_on_pattern}
 use Rattle.am_match.specs.Reading.{matchers_of}
 use Rattle.am_match.specs.declared.refusal.MatcherRefusal.{MatcherRefusal}
@@ -51,10 +50,9 @@ use Rattle.am_api.specs.Patterns.{patterns_of_items, patterns_of_thing}
 use Rattle.am_api.specs.Replied.{Decision}
 
 -- what holds of all of these texts, of all of those that are among them
-pub rightly_among : (refused xs ys : List (List ℕ)) → Among xs ys → AreRefusedRightly refused ys → AreRefusedRightly refused xs
-rightly_among refused xs ys among rightly =
-    All-weaker (Contains xs) (λ p. IsRefusedRightly refused p) (λ text there. All-contains (λ p. IsRefusedRightly refused p) ys text rightly (among text there)) xs
-    (All-contains_itself xs)
+pub all_among : (Is : List ℕ → Type 0) (xs ys : List (List ℕ)) → Among xs ys → All Is ys → All Is xs
+all_among Is xs ys among all =
+    All-weaker (Contains xs) Is (λ text there. All-contains Is ys text all (among text there)) xs (All-contains_itself xs)
 
 pub nowhere : (ys : List (List ℕ)) → Among [] ys
 nowhere ys text there = absurd (omega (arith, there.1))

@@ -1,5 +1,6 @@
 -- What was returned for a request, against the decision on it.
-use Rattle.std.specs.Prelude.{◌≡◌, ◌⊎◌, ℕ, ◌+◌, true, false, List, [], ◌∷◌, codes, Result, Ok, Err}
+use Rattle.std.specs.Prelude.{◌≡◌, ◌⊎◌, ℕ, ◌+◌, ◌<◌, true, false, List, [], ◌∷◌, All, codes, length, Result, Ok, Err}
+use Rattle.am_pattern.specs.Kept.{HasRegex}
 use Rattle.am_item.specs.declared.fault.Fault.{Fault}
 use Rattle.am_item.specs.declared.fault.Fault.TheVariants.{CountsExhausted, OutOfMemory, PatternNotBuilt}
 use Rattle.am_item.specs.declared.item.Item.{Item}
@@ -44,6 +45,14 @@ abbrev pub DecidesBy : (Decision → Type 0) → List (List ℕ) → List (List 
 DecidesBy Refuses refused own stored (Ok d) decision =
     IsDecision d decision ⊎ (Refuses (decision_of d) × (IsUnbuilt (decision_of d) × HasRefused refused own))
 DecidesBy Refuses refused own stored (Err fault) decision = DecidesUnless refused own stored (Err fault) decision
+
+-- the request is accepted: something is stored, or the reply is no refusal
+abbrev pub IsAccepted : Decided → Type 0
+IsAccepted d = (0 < length d.items.items) ⊎ (d.status < 400)
+
+-- where the request is accepted, a regex was built of each of these texts
+abbrev pub AcceptsBuilt : List (List ℕ) → Decided → Type 0
+AcceptsBuilt patterns d = IsAccepted d → All HasRegex patterns
 
 -- the items are stamped with one count after another, from the one after those that were used
 abbrev pub AreCounted : ℕ → List Item → Type 0

@@ -1,6 +1,6 @@
 //! The configuration that a tenant has stored.
 
-ghost use Rattle.std.specs.Prelude.{◌≡◌, [], None};
+ghost use Rattle.std.specs.Prelude.{◌≡◌, [], None, IfOk};
 ghost use Rattle.am_pattern.specs.Asking.{Grows};
 ghost use Rattle.am_draft.specs.Drafts.{posted};
 ghost use Rattle.am_config.specs.Matching.{patterns_of_draft};
@@ -8,7 +8,7 @@ ghost use Rattle.am_item.specs.Best.{item_at};
 ghost use Rattle.am_item.specs.Key.{ConfigurationKey};
 ghost use Rattle.am_alert.specs.declared.maker.Maker.{Maker};
 ghost use Rattle.am_muting.specs.Failing.{AddsAmong};
-ghost use Rattle.am_api.specs.Deciding.{Decides, DecidesBy};
+ghost use Rattle.am_api.specs.Deciding.{AcceptsBuilt, Decides, DecidesBy};
 ghost use Rattle.am_api.specs.Decision.{configuration_posted, configuration_stored, read_or_none, seen, status_of, text_at};
 ghost use Rattle.am_api.specs.Refusing.{ConfigurationRefuses};
 
@@ -48,6 +48,7 @@ pub(crate) fn post_configuration(
 ) -> Result<Decided, Fault>
     ensures decides { DecidesBy (ConfigurationRefuses document.now limits cache.old cache.new) cache.new.refused
         (patterns_of_draft (posted document.now)) [] result (configuration_posted limits held.now moment maker document.now) }
+    ensures built { IfOk result (AcceptsBuilt (patterns_of_draft (posted document.now))) }
     ensures asked { Grows cache.old cache.new }
     ensures adds { AddsAmong (patterns_of_draft (posted document.now))
         cache.old.refused cache.new.refused }

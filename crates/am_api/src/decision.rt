@@ -1,13 +1,13 @@
 //! The decision on a request of a tenant.
 
-ghost use Rattle.std.specs.Prelude.{◌≡◌, ◌++◌, [], All};
+ghost use Rattle.std.specs.Prelude.{◌≡◌, ◌++◌, [], All, IfOk};
 ghost use Rattle.am_pattern.specs.Asking.{Grows};
 ghost use Rattle.am_match.specs.Checking.{AreRefusedRightly};
 ghost use Rattle.am_pattern.specs.Taking.{IsPattern};
 ghost use Rattle.am_current.specs.Current.{configuration_in};
 ghost use Rattle.am_muting.specs.Failing.{AddsAmong};
 ghost use Rattle.am_listing.specs.Failing.{patterns_in_use};
-ghost use Rattle.am_api.specs.Deciding.{Decides, DecidesBy, DecidesUnless, decision_of};
+ghost use Rattle.am_api.specs.Deciding.{AcceptsBuilt, Decides, DecidesBy, DecidesUnless, decision_of};
 ghost use Rattle.am_api.specs.Decision.{alerts_decided, configuration_decided, decided, decided_by, receivers_decided};
 ghost use Rattle.am_api.specs.Patterns.{patterns_by, patterns_of_alerts, patterns_of_document, patterns_of_request};
 ghost use Rattle.am_api.specs.Refusing.{AlertsRefuse, DocumentRefuses, Refuses, RefusesBy, asked_by, asked_by_method, stored_asked};
@@ -73,6 +73,9 @@ pub fn decide(
     ensures adds { AddsAmong (patterns_of_request request.now ++ stored_asked request.now (patterns_in_use config.now moment held.now))
         cache.old.refused cache.new.refused }
 
+    // No request is accepted before each pattern that it brings was built, in the size that one may have.
+    ensures built { IfOk result (AcceptsBuilt (patterns_of_request request.now)) }
+
     // Where no build of a pattern of the request or of one in use was refused, it is the decision.
     ensures meaning { AreRefusedRightly cache.new.refused (patterns_of_request request.now) →
         AreRefusedRightly cache.new.refused (patterns_in_use config.now moment held.now) →
@@ -100,6 +103,7 @@ fn decide_by(
         (patterns_by request.now.endpoint request.now)
         (asked_by request.now.endpoint request.now.method (patterns_in_use config.now moment held.now)) result
         (decided_by config.now request.now request.now.endpoint held.now limits moment maker words) }
+    ensures built { IfOk result (AcceptsBuilt (patterns_by request.now.endpoint request.now)) }
     ensures asked { Grows cache.old cache.new }
     ensures adds { AddsAmong (patterns_by request.now.endpoint request.now
         ++ asked_by request.now.endpoint request.now.method (patterns_in_use config.now moment held.now))
@@ -138,6 +142,7 @@ fn decide_alerts(
         (patterns_of_alerts request.now.method request.now)
         (asked_by_method request.now.method (patterns_in_use config.now moment held.now)) result
         (alerts_decided config.now request.now request.now.method held.now limits moment maker) }
+    ensures built { IfOk result (AcceptsBuilt (patterns_of_alerts request.now.method request.now)) }
     ensures asked { Grows cache.old cache.new }
     ensures adds { AddsAmong (patterns_of_alerts request.now.method request.now
         ++ asked_by_method request.now.method (patterns_in_use config.now moment held.now))
@@ -174,6 +179,7 @@ fn decide_configuration(
     ensures decides { DecidesBy (DocumentRefuses request.now.method request.now limits cache.old cache.new) cache.new.refused
         (patterns_of_document request.now.method request.now) [] result
         (configuration_decided request.now request.now.method held.now limits moment maker) }
+    ensures built { IfOk result (AcceptsBuilt (patterns_of_document request.now.method request.now)) }
     ensures asked { Grows cache.old cache.new }
     ensures adds { AddsAmong (patterns_of_document request.now.method request.now)
         cache.old.refused cache.new.refused }

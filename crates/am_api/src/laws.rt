@@ -1,8 +1,9 @@
 //! What decisions are: laws, which no program needs to call.
 
-ghost use Rattle.std.specs.Prelude.{◌≡◌, ◌+◌, ◌<◌, ◌≤◌, ℕ, List, true, length};
+ghost use Rattle.std.specs.Prelude.{◌≡◌, ◌+◌, ◌<◌, ◌≤◌, ℕ, List, All, true, length};
 ghost use Rattle.am_pattern.specs.Asking.{Grows};
 ghost use Rattle.am_pattern.specs.Cache.{Cache};
+ghost use Rattle.am_pattern.specs.Kept.{HasRegex};
 ghost use Rattle.am_match.specs.Checking.{AreRefusedRightly};
 ghost use Rattle.am_http.specs.declared.request.Request.{Request};
 ghost use Rattle.am_limit.specs.declared.limits.Limits.{Limits};
@@ -28,14 +29,20 @@ pub fn items_are_counted()
 {}
 
 /// The patterns of what a decision stores are those of its request or of what is held, and those in use are of what is
-/// held. So where no build of these was refused, none of those was.
+/// held. So where no build of these was refused, none of those was, and where a regex was built of each of these, one was of
+/// each of those.
 pub fn stored_patterns_were_asked()
     ensures stored { (request : Request) (held : List Item) (limits : Limits) (moment : ℕ) (maker : Maker) (words : ChaCha)
         (refused : List (List ℕ)) →
         AreRefusedRightly refused (patterns_of_request request) → AreRefusedRightly refused (patterns_of_items held) →
         AreRefusedRightly refused (patterns_of_items (decided request held limits moment maker words).items) }
+    ensures built { (request : Request) (held : List Item) (limits : Limits) (moment : ℕ) (maker : Maker) (words : ChaCha) →
+        All HasRegex (patterns_of_request request) → All HasRegex (patterns_of_items held) →
+        All HasRegex (patterns_of_items (decided request held limits moment maker words).items) }
     ensures in_use { (held : List Item) (moment : ℕ) (refused : List (List ℕ)) → AreRefusedRightly refused (patterns_of_items held) →
         AreRefusedRightly refused (patterns_in_use (configuration_in held) moment held) }
+    ensures built_in_use { (held : List Item) (moment : ℕ) → All HasRegex (patterns_of_items held) →
+        All HasRegex (patterns_in_use (configuration_in held) moment held) }
 {}
 
 /// A refused build stays one: where no build of these texts was refused at last, none was before.

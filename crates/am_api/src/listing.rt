@@ -12,7 +12,7 @@ ghost use Rattle.am_muting.specs.Failing.{AddsAmong};
 ghost use Rattle.am_listing.specs.Failing.{IsUnanswered, patterns_in_use};
 ghost use Rattle.am_listing.specs.Written.{alerts_text};
 ghost use Rattle.am_group_list.specs.Written.{groups_text};
-ghost use Rattle.am_api.specs.Deciding.{DecidesBy};
+ghost use Rattle.am_api.specs.Deciding.{AcceptsBuilt, DecidesBy};
 ghost use Rattle.am_api.specs.Decision.{groups_decided, listed_or_refused};
 ghost use Rattle.am_api.specs.Patterns.{patterns_of_groups};
 ghost use Rattle.am_api.specs.Refusing.{GroupsRefuse, IsNotAnswered, ListRefuses, asked_by_method};
@@ -41,6 +41,7 @@ pub(crate) fn decide_list(
     ensures decides { DecidesBy (ListRefuses (parameters_in query.now) cache.old cache.new) cache.new.refused
         (patterns_of_query query.now) (patterns_in_use config.now moment held.now) result
         (listed_or_refused (λ asked. alerts_text config.now asked moment held.now) (query_in query.now)) }
+    ensures built { IfOk result (AcceptsBuilt (patterns_of_query query.now)) }
     ensures asked { Grows cache.old cache.new }
     ensures adds { AddsAmong (patterns_of_query query.now ++ patterns_in_use config.now moment held.now)
         cache.old.refused cache.new.refused }
@@ -87,6 +88,7 @@ pub(crate) fn decide_groups(
         (patterns_of_groups request.now.method request.now)
         (asked_by_method request.now.method (patterns_in_use config.now moment held.now)) result
         (groups_decided config.now request.now request.now.method held.now moment) }
+    ensures built { IfOk result (AcceptsBuilt (patterns_of_groups request.now.method request.now)) }
     ensures asked { Grows cache.old cache.new }
     ensures adds { AddsAmong (patterns_of_groups request.now.method request.now
         ++ asked_by_method request.now.method (patterns_in_use config.now moment held.now))
@@ -112,6 +114,7 @@ fn decide_group_list(
     ensures decides { DecidesBy (ListRefuses (processed_among (parameters_in query.now)) cache.old cache.new) cache.new.refused
         (patterns_of_group_query query.now) (patterns_in_use config.now moment held.now) result
         (listed_or_refused (λ asked. groups_text config.now asked moment held.now) (group_query_in query.now)) }
+    ensures built { IfOk result (AcceptsBuilt (patterns_of_group_query query.now)) }
     ensures asked { Grows cache.old cache.new }
     ensures adds { AddsAmong (patterns_of_group_query query.now ++ patterns_in_use config.now moment held.now)
         cache.old.refused cache.new.refused }

@@ -52,15 +52,18 @@ fn store(
 }
 
 // Whether more alerts than the limit would be held once the posted ones have come. Those that are held are not gone
-// over.
+// over, and where there is room for all that are posted, none is looked for.
 fn is_past(alloc: Global, limit: u64, held: &Held, posted: &[Alert]) -> Result<bool, AllocError>
     ensures { IfOk result (λ past. (time : ℕ) (maker : Maker) → past ≡ nat_lt limit (count_with held.now time maker posted.now)) }
 {
-    let new = count_new(alloc, held, posted)?;
-    match limit.checked_sub(held.alerts().len() as u64) {
-        None => Ok(true),
-        Some(room) => Ok(room < new as u64),
+    let Some(room) = limit.checked_sub(held.alerts().len() as u64) else {
+        return Ok(true);
+    };
+    if posted.len() as u64 <= room {
+        return Ok(false);
     }
+    let new = count_new(alloc, held, posted)?;
+    Ok(room < new as u64)
 }
 
 // How many label sets are posted that aren't held.

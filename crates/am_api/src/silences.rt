@@ -1,6 +1,6 @@
 //! Requests to the silences.
 
-ghost use Rattle.std.specs.Prelude.{◌≡◌, ◌∷◌, []};
+ghost use Rattle.std.specs.Prelude.{◌≡◌, ◌∷◌, [], IfOk};
 ghost use Rattle.am_pattern.specs.Asking.{Grows};
 ghost use Rattle.am_muting.specs.Failing.{AddsAmong};
 ghost use Rattle.am_silence.specs.Changing.{write_of};
@@ -9,7 +9,7 @@ ghost use Rattle.am_silence.specs.Posted.{patterns_in_body};
 ghost use Rattle.am_query.specs.Patterns.{patterns_of_filters};
 ghost use Rattle.am_query.specs.Queries.{filters_among, filters_in, parameters_in};
 ghost use Rattle.am_payload.specs.Silences.{silences_text};
-ghost use Rattle.am_api.specs.Deciding.{Decides, DecidesBy};
+ghost use Rattle.am_api.specs.Deciding.{AcceptsBuilt, Decides, DecidesBy};
 ghost use Rattle.am_api.specs.Patterns.{patterns_of_silences};
 ghost use Rattle.am_api.specs.Refusing.{QueryRefuses, SilenceRefuses, SilencesRefuse};
 ghost use Rattle.am_api.specs.Replied.{replied, stored};
@@ -44,6 +44,7 @@ pub(crate) fn decide_silences(
     ensures decides { DecidesBy (SilencesRefuse request.now.method request.now limits cache.old cache.new) cache.new.refused
         (patterns_of_silences request.now.method request.now) [] result
         (silences_decided request.now request.now.method held.now limits moment maker words) }
+    ensures built { IfOk result (AcceptsBuilt (patterns_of_silences request.now.method request.now)) }
     ensures asked { Grows cache.old cache.new }
     ensures adds { AddsAmong (patterns_of_silences request.now.method request.now)
         cache.old.refused cache.new.refused }
@@ -86,6 +87,7 @@ fn list_silences(
 ) -> Result<Decided, Fault>
     ensures decides { DecidesBy (QueryRefuses (filters_among (parameters_in query.now)) cache.old cache.new) cache.new.refused
         (patterns_of_filters query.now) [] result (silences_or_refused held.now moment (filters_in query.now)) }
+    ensures built { IfOk result (AcceptsBuilt (patterns_of_filters query.now)) }
     ensures asked { Grows cache.old cache.new }
     ensures adds { AddsAmong (patterns_of_filters query.now)
         cache.old.refused cache.new.refused }
@@ -173,6 +175,7 @@ fn post_silence(
 ) -> Result<Decided, Fault>
     ensures decides { DecidesBy (SilenceRefuses body.now limits cache.old cache.new) cache.new.refused
         (patterns_in_body body.now) [] result (silence_posted limits held.now moment maker words body.now) }
+    ensures built { IfOk result (AcceptsBuilt (patterns_in_body body.now)) }
     ensures asked { Grows cache.old cache.new }
     ensures adds { AddsAmong (patterns_in_body body.now)
         cache.old.refused cache.new.refused }

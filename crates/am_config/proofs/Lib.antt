@@ -10,3 +10,4 @@ pub mod Patterned
 pub mod Settled
 pub mod Configured
 pub mod DefaultRead
+pub mod Building

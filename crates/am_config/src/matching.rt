@@ -1,11 +1,12 @@
 //! The matchers of a draft, read in their order.
 
-ghost use Rattle.std.specs.Prelude.{◌≡◌, ◌++◌, ◌∷◌, [], false, true, map, IfOk, IfErr, OnOk};
+ghost use Rattle.std.specs.Prelude.{◌≡◌, ◌++◌, ◌∷◌, [], false, true, map, All, IfOk, IfErr, OnOk};
 ghost use Rattle.std.specs.List.{flat_map, list_all};
 ghost use Rattle.am_text.specs.Outcome.{ForRefused};
 ghost use Rattle.am_pattern.specs.Asking.{Asked};
+ghost use Rattle.am_pattern.specs.Kept.{HasRegex};
 ghost use Rattle.am_config.specs.declared.refusal.ConfigRefusal.TheVariants.{BadMatcher};
-ghost use Rattle.am_config.specs.Matching.{given, matcher_lists, matchers_in, meaning, reads_matchers, route_lists, rule_lists};
+ghost use Rattle.am_config.specs.Matching.{given, matcher_lists, matchers_in, meaning, patterns_of_texts, reads_matchers, route_lists, rule_lists};
 ghost use Rattle.am_config.specs.Stopping.{IsStopOf};
 
 use crate::refusal::ConfigRefusal;
@@ -62,6 +63,7 @@ pub(crate) fn read_lists(
 ) -> Result<Vec<Listed<Matcher>>, Failure<ConfigRefusal>>
     ensures matchers { IfOk result (λ v. v.items ≡ map (λ list. matchers_in list.now) lists.now) }
     ensures read { OnOk result (list_all reads_matchers (flat_map (λ list. list.now) lists.now) ≡ true) }
+    ensures built { OnOk result (All HasRegex (patterns_of_texts (flat_map (λ list. list.now) lists.now))) }
     ensures asked { Asked result cache.old cache.new }
     ensures stop { IfErr result (IsStopOf (flat_map (λ list. list.now) lists.now) cache.old cache.new) }
 {
@@ -81,6 +83,7 @@ fn read_list(
 ) -> Result<Listed<Matcher>, Failure<ConfigRefusal>>
     ensures matchers { IfOk result (λ l. l ≡ matchers_in texts.now) }
     ensures read { OnOk result (list_all reads_matchers texts.now ≡ true) }
+    ensures built { OnOk result (All HasRegex (patterns_of_texts texts.now)) }
     ensures asked { Asked result cache.old cache.new }
     ensures stop { IfErr result (IsStopOf texts.now cache.old cache.new) }
 {
@@ -99,6 +102,7 @@ fn read_text(
 ) -> Result<Vec<Matcher>, Failure<ConfigRefusal>>
     ensures matchers { IfOk result (λ v. v.items ≡ given (meaning text.now)) }
     ensures read { OnOk result (reads_matchers text.now ≡ true) }
+    ensures built { OnOk result (All HasRegex (patterns_of_texts (text.now ∷ []))) }
     ensures asked { Asked result cache.old cache.new }
     ensures stop { IfErr result (IsStopOf (text.now ∷ []) cache.old cache.new) }
 {

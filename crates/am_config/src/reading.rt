@@ -1,15 +1,16 @@
 //! A configuration, from a document or a text.
 
-ghost use Rattle.std.specs.Prelude.{◌≡◌, false, true, map, length, Ok, IfOk, IfErr};
+ghost use Rattle.std.specs.Prelude.{◌≡◌, false, true, map, length, All, Ok, IfOk, IfErr, OnOk};
 ghost use Rattle.std.specs.List.{list_all};
 ghost use Rattle.am_text.specs.Outcome.{ForRefused, Gives};
 ghost use Rattle.am_text.specs.Trees.{IsTree};
 ghost use Rattle.am_pattern.specs.Asking.{Asked};
+ghost use Rattle.am_pattern.specs.Kept.{HasRegex};
 ghost use Rattle.am_match.specs.Checking.{AreRefusedRightly};
 ghost use Rattle.am_draft.specs.Drafts.{draft_in, has_left_out, posted};
 ghost use Rattle.am_config.specs.Checks.{is_repeated};
 ghost use Rattle.am_config.specs.Judging.{IsFailureOf, IsLate, after_matchers, before_matchers, configuration, judged_by, reading};
-ghost use Rattle.am_config.specs.Matching.{matcher_lists, matcher_texts, matchers_in, patterns_of_draft, reads_matchers};
+ghost use Rattle.am_config.specs.Matching.{matcher_lists, matcher_texts, matchers_in, patterns_of_draft, patterns_of_texts, reads_matchers};
 
 use crate::checks::{are_listed, counts_fit, is_root_bare};
 use crate::completing::{receivers_of, routes_with, rules_with};
@@ -41,6 +42,7 @@ impl Config {
         ensures ok { IfOk result (λ c. configuration (posted document.now) ≡ Ok c) }
         ensures text { IfOk result (λ c. configuration (draft_in c.text) ≡ Ok c) }
         ensures again { IfOk result (λ c. reading (draft_in c.text) ≡ Ok c) }
+        ensures built { OnOk result (All HasRegex (patterns_of_draft (posted document.now))) }
         ensures asked { Asked result cache.old cache.new }
         ensures failure { IfErr result (IsFailureOf (posted document.now) cache.old cache.new) }
 
@@ -64,6 +66,7 @@ impl Config {
         ensures ok { IfOk result (λ c. configuration (draft_in text.now) ≡ Ok c) }
         ensures text { IfOk result (λ c. c.text ≡ text.now) }
         ensures again { IfOk result (λ c. reading (draft_in text.now) ≡ Ok c) }
+        ensures built { OnOk result (All HasRegex (patterns_of_draft (draft_in text.now))) }
         ensures asked { Asked result cache.old cache.new }
         ensures failure { IfErr result (IsFailureOf (draft_in text.now) cache.old cache.new) }
 
@@ -100,6 +103,7 @@ fn judged(
     requires tree { IsTree draft.now.routes }
     requires again { has_left_out draft.now ≡ false → draft_in draft.now.text ≡ Ok draft.now }
     ensures ok { IfOk result (λ c. judged_by reads_matchers draft.now ≡ Ok c) }
+    ensures built { OnOk result (All HasRegex (patterns_of_texts (matcher_texts draft.now))) }
     ensures asked { Asked result cache.old cache.new }
     ensures failure { IfErr result (IsFailureOf (Ok draft.now) cache.old cache.new) }
 {

@@ -22,7 +22,7 @@ use Rattle.am_pattern.proofs.Decided.{IsPattern-from_test, test-from_IsPattern}
 use Rattle.am_match.specs.declared.refusal.MatcherRefusal.{MatcherRefusal}
 use Rattle.am_match.specs.declared.refusal.MatcherRefusal.TheVariants.{NoMatchers, BadPattern, LongPattern, BuildRefused}
 use Rattle.am_match.specs.Matchers.{MatcherText, patterns_of, is_on_pattern}
-use Rattle.am_match.specs.Checking.{IsFine, is_short, StopsAt, IsPatternRefusal, IsPatternFailure, FailsUnlessBuild, pattern_refusal, unless_refused, AreRefusedRightly}
+use Rattle.am_match.specs.Checking.{WhereShort, IsFine, is_short, StopsAt, IsPatternRefusal, IsPatternFailure, FailsUnlessBuild, pattern_refusal, unless_refused, AreRefusedRightly}
 use Rattle.am_match.specs.Refusals.{refusal_of}
 
 -- ---- the patterns of matchers
@@ -42,12 +42,12 @@ parted ms i m within is =
     let next : suc i ≡ i + 1 = omega arith in
     sym (take-append-drop i ms) ∙ ap (λ rest. take i ms ++ rest) (drop-cons ms i m within ∙ rw (← is, next))
 
--- the patterns up to the next matcher are fine
-pub fine_more : (ms : List MatcherText) (i : ℕ) (m : MatcherText) → i < length ms → m ≡ get_or ms i m →
-    All IsFine (patterns_of (take i ms)) → All IsFine (patterns_of (m ∷ [])) → All IsFine (patterns_of (take (i + 1) ms))
-fine_more ms i m within is before here =
+-- what holds of the patterns before a matcher, and of its own, holds of those up to the next
+pub all_more : (Is : List ℕ → Type 0) (ms : List MatcherText) (i : ℕ) (m : MatcherText) → i < length ms → m ≡ get_or ms i m →
+    All Is (patterns_of (take i ms)) → All Is (patterns_of (m ∷ [])) → All Is (patterns_of (take (i + 1) ms))
+all_more Is ms i m within is before here =
     let more : take (i + 1) ms ≡ take i ms ++ m ∷ [] = take_more ms i m within ∙ rw (← is) in
-    rw (more, patterns_of-append (take i ms) (m ∷ [])) (All-append IsFine _ _ before here)
+    rw (more, patterns_of-append (take i ms) (m ∷ [])) (All-append Is _ _ before here)
 
 -- ---- where the checking stops
 
@@ -123,15 +123,21 @@ none_no_pattern ps fine = list_any_none _ ps (All-weaker IsFine _ (λ p h. is_no
           | inr long ↦ and_left (is_short p) (not (is_pattern p)) long.0
         ]
 
--- fine patterns of which none is too long are patterns
-pub patterns_of_fine : (ps : List (List ℕ)) → All IsFine ps → list_any (λ p. not (is_short p)) ps ≡ false → All IsPattern ps
-patterns_of_fine [] fine none = All-nil IsPattern
-patterns_of_fine (p ∷ ps) fine none =
+-- what holds of the short ones holds of all, where none is too long
+pub all_short : (Is : List ℕ → Type 0) (ps : List (List ℕ)) → All (WhereShort Is) ps → list_any (λ p. not (is_short p)) ps ≡ false → All Is ps
+all_short Is [] each none = All-nil Is
+all_short Is (p ∷ ps) each none =
     elim (leb_tells (length p) 256) [
-      | inl short ↦ All-cons IsPattern p ps (pattern-shallow p (All-head IsFine p ps fine short.1))
-          (patterns_of_fine ps (All-tail IsFine p ps fine) (rw short.0 at none))
+      | inl short ↦ All-cons Is p ps (All-head (WhereShort Is) p ps each short.1)
+          (all_short Is ps (All-tail (WhereShort Is) p ps each) (rw short.0 at none))
       | inr long ↦ absurd (true≢false (rw long.0 at none))
     ]
+
+-- fine patterns of which none is too long are patterns
+pub patterns_of_fine : (ps : List (List ℕ)) → All IsFine ps → list_any (λ p. not (is_short p)) ps ≡ false → All IsPattern ps
+patterns_of_fine ps fine none =
+    All-weaker (λ p. is_shallow p ≡ true) IsPattern (λ p shallow. pattern-shallow p shallow) ps
+    (all_short (λ p. is_shallow p ≡ true) ps fine none)
 
 -- and nothing is refused of them
 pub fine_passes : (ps : List (List ℕ)) → All IsFine ps → list_any (λ p. not (is_short p)) ps ≡ false →
@@ -226,17 +232,18 @@ whole_of ms i m p within is one =
     ∙ ap (λ rest. patterns_of (take i ms) ++ rest)
     (patterns_of-append (m ∷ []) (drop (i + 1) ms) ∙ ap (λ here. here ++ patterns_of (drop (i + 1) ms)) one)
 
--- the patterns of a matcher are fine, where its short one is
-pub fine_here : (m : MatcherText) (p : List ℕ) → patterns_of (m ∷ []) ≡ p ∷ [] → is_shallow p ≡ true → All IsFine (patterns_of (m ∷ []))
-fine_here m p one shallow = rw one (All-cons IsFine p [] (λ _. shallow) (All-nil IsFine))
+-- what holds of a matcher's short pattern holds of all that it has
+pub short_here : (Is : List ℕ → Type 0) (m : MatcherText) (p : List ℕ) → patterns_of (m ∷ []) ≡ p ∷ [] → Is p →
+    All (WhereShort Is) (patterns_of (m ∷ []))
+short_here Is m p one is = rw one (All-cons (WhereShort Is) p [] (λ _. is) (All-nil (WhereShort Is)))
 
--- and where it has no short one
-pub fine_without : (ps : List (List ℕ)) → list_any is_short ps ≡ false → All IsFine ps
-fine_without [] none = All-nil IsFine
-fine_without (p ∷ ps) none =
+-- where there is no short one, anything does
+pub short_without : (Is : List ℕ → Type 0) (ps : List (List ℕ)) → list_any is_short ps ≡ false → All (WhereShort Is) ps
+short_without Is [] none = All-nil (WhereShort Is)
+short_without Is (p ∷ ps) none =
     elim (leb_tells (length p) 256) [
       | inl short ↦ absurd (true≢false (rw short.0 at none))
-      | inr long ↦ All-cons IsFine p ps (λ short. absurd (omega (arith, long.1, short))) (fine_without ps (rw long.0 at none))
+      | inr long ↦ All-cons (WhereShort Is) p ps (λ short. absurd (omega (arith, long.1, short))) (short_without Is ps (rw long.0 at none))
     ]
 
 -- what a failure says of what patterns are read with

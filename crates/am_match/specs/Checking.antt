@@ -56,9 +56,13 @@ abbrev pub GivesUnlessBuild : {X Y : Type 0} → (X → Y) → Result X (Failure
 GivesUnlessBuild view (Ok x) outcome = outcome ≡ Ok (view x)
 GivesUnlessBuild view (Err failure) outcome = FailsUnlessBuild failure outcome
 
+-- it is so of the text, unless that is too long to be built
+abbrev pub WhereShort : (List ℕ → Type 0) → List ℕ → Type 0
+WhereShort Is p = length p ≤ longest_pattern → Is p
+
 -- the text isn't refused as a pattern, unless it is too long to be built
 abbrev pub IsFine : List ℕ → Type 0
-IsFine p = length p ≤ longest_pattern → is_shallow p ≡ true
+IsFine = WhereShort (λ p. is_shallow p ≡ true)
 
 -- The first of the short patterns that was refused, and for what; the cache then has it as refused, and no other.
 pub record StopsAt (patterns : List (List ℕ)) (refusal : PatternRefusal) (old new : Cache) : Type 0 where

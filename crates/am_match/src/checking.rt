@@ -4,8 +4,9 @@ ghost use Rattle.std.specs.Prelude.{◌≡◌, ◌∷◌, [], ◌&&◌, true, fa
 ghost use Rattle.std.specs.List.{list_any};
 ghost use Rattle.am_text.specs.Outcome.{Gives};
 ghost use Rattle.am_pattern.specs.Asking.{Asked};
+ghost use Rattle.am_pattern.specs.Kept.{HasRegex};
 ghost use Rattle.am_pattern.specs.Taking.{IsPattern, is_pattern, is_shallow};
-ghost use Rattle.am_match.specs.Checking.{AreRefusedRightly, GivesUnlessBuild, IsFine, IsPatternFailure, IsTextFailure, is_short, meaning_of, pattern_refusal, patterns_in, reading_of, unless_refused};
+ghost use Rattle.am_match.specs.Checking.{AreRefusedRightly, GivesUnlessBuild, IsFine, IsPatternFailure, IsTextFailure, is_short, meaning_of, pattern_refusal, patterns_in, reading_of, unless_refused, WhereShort};
 ghost use Rattle.am_match.specs.Matchers.{is_on_pattern, patterns_of};
 ghost use Rattle.am_match.specs.Reading.{matchers_of};
 ghost use Rattle.am_match.specs.Refusals.{refusal_of};
@@ -38,6 +39,7 @@ pub fn check_pattern(
 ) -> Result<(), Failure<MatcherRefusal>>
     ensures pattern { OnOk result (IsPattern pattern.now) }
     ensures shallow { OnOk result (is_shallow pattern.now ≡ true) }
+    ensures built { OnOk result (HasRegex pattern.now) }
     ensures read { GivesUnlessBuild (λ done. done) result (unless_refused (pattern_refusal is_shallow (pattern.now ∷ [])) tt) }
     ensures asked { Asked result cache.old cache.new }
     ensures failure { IfErr result (IsPatternFailure (pattern.now ∷ []) cache.old cache.new) }
@@ -84,6 +86,7 @@ fn check_short_patterns(
     cache: &mut PatternCache,
 ) -> Result<(), Failure<MatcherRefusal>>
     ensures fine { OnOk result (All IsFine (patterns_of matchers.now)) }
+    ensures built { OnOk result (All (WhereShort HasRegex) (patterns_of matchers.now)) }
     ensures asked { Asked result cache.old cache.new }
     ensures failure { IfErr result (IsPatternFailure (patterns_of matchers.now) cache.old cache.new) }
 {
@@ -106,6 +109,7 @@ pub fn check_patterns(
     cache: &mut PatternCache,
 ) -> Result<(), Failure<MatcherRefusal>>
     ensures patterns { OnOk result (All IsPattern (patterns_of matchers.now)) }
+    ensures built { OnOk result (All HasRegex (patterns_of matchers.now)) }
     ensures read { GivesUnlessBuild (λ done. done) result
         (unless_refused (pattern_refusal is_shallow (patterns_of matchers.now)) tt) }
     ensures asked { Asked result cache.old cache.new }
@@ -134,6 +138,7 @@ pub fn read_matchers(
 ) -> Result<Vec<Matcher>, Failure<MatcherRefusal>>
     ensures matchers { IfOk result (λ v. matchers_of (chars text.now) ≡ Some v.items) }
     ensures patterns { IfOk result (λ v. All IsPattern (patterns_of v.items)) }
+    ensures built { IfOk result (λ v. All HasRegex (patterns_of v.items)) }
     ensures read { GivesUnlessBuild (λ v. v.items) result (reading_of (matchers_of (chars text.now))) }
     ensures asked { Asked result cache.old cache.new }
     ensures failure { IfErr result (IsTextFailure (matchers_of (chars text.now)) cache.old cache.new) }

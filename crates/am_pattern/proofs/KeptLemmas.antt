@@ -13,7 +13,7 @@ use Rattle.lru.specs.LruCache.{LruCache, promoted, put_entries}
 use Rattle.lru.proofs.CallerLemmas.{Contains-lookup_entry, Contains-promoted}
 use Rattle.am_pattern.specs.Taking.{anchored, is_shallow}
 use Rattle.am_pattern.specs.Refused.{has_text}
-use Rattle.am_pattern.specs.Kept.{Compiled, IsBuiltFor, IsSound, texts_of, size_of, asked_first, largest}
+use Rattle.am_pattern.specs.Kept.{Compiled, IsBuiltFor, IsSound, HasRegex, texts_of, size_of, asked_first, largest}
 
 module _ {K V : Type 0} (test : K → Bool) where
   -- where a value is found, so is its entry
@@ -77,13 +77,13 @@ module _ {K : Type 0} (text : K → List ℕ) (p : List ℕ) where
 
   -- it was built for that text
   pub built-found : (es : List (K × Compiled)) (v : Compiled) → All (IsBuiltFor text) es → lookup is_of es ≡ Some v →
-      (is_shallow p ≡ true) × (v.source ≡ anchored p)
+      (is_shallow p ≡ true) × (v.source ≡ anchored p) × HasRegex p
   built-found es v built h =
       let found = found_entry is_of es v h in
       let at = (Contains-lookup_entry is_of es (found.0, v) found.1).0 in
       let is = All-contains (IsBuiltFor text) es (found.0, v) built at in
       let same = text-found es (found.0, v) found.1 in
-      (rw same at is.shallow, rw same at is.source)
+      (rw same at is.shallow, rw same at is.source, rw same at is.regex)
 
   pub sound-promoted : (es : List (K × Compiled)) (v : Compiled) (n : ℕ) → lookup is_of es ≡ Some v → IsSound text es n →
       IsSound text (promoted is_of es) n

@@ -3,6 +3,9 @@ use Rattle.std.specs.Prelude.{◌≡◌, ℕ, ◌+◌, ◌-◌, ◌^◌, ◌<◌
 use Rattle.std.specs.List.{sum_by}
 use Rattle.std.specs.Set.{remove_key}
 use Rattle.std.specs.Str.{bytes_eq}
+use Rattle.regex.specs.Patterns.{default_config}
+use Rattle.regex.specs.Strings.{regex_source, regex_config, regex_size, IsReadFromSource}
+use Rattle.regex.specs.declared.string.regex.Regex.{Regex}
 use Rattle.am_text.specs.declared.failure.Failure.{Failure}
 use Rattle.am_pattern.specs.declared.refusal.PatternRefusal.{PatternRefusal}
 use Rattle.am_pattern.specs.Taking.{anchored, is_shallow}
@@ -30,6 +33,18 @@ misses_after cache p = if has_text cache.kept p then cache.misses else counted_o
 abbrev pub largest : ℕ
 largest = 2 ^ 20 + 24
 
+-- a regex whose tables take no more was built of the text as it stands
+pub record IsBuilt (text : List ℕ) : Type 0 where
+  pub regex : Regex
+  pub source : regex_source regex ≡ text
+  pub config : regex_config regex ≡ default_config
+  pub read : IsReadFromSource regex
+  pub small : regex_size regex ≤ largest
+
+-- one was built of the pattern, that is of its anchored form
+unfoldable pub HasRegex : List ℕ → Type 0
+HasRegex p = IsBuilt (anchored p)
+
 -- what a regex was built of, and how many bytes its tables take
 pub record Compiled : Type 0 where
   pub source : List ℕ
@@ -45,6 +60,7 @@ module _ {K : Type 0} (text : K → List ℕ) where
     pub shallow : is_shallow (text e.0) ≡ true
     pub source : e.1.source ≡ anchored (text e.0)
     pub small : e.1.size ≤ largest
+    pub regex : HasRegex (text e.0)
 
   -- each was, and there are no more than fit
   pub record IsSound (entries : List (K × Compiled)) (capacity : ℕ) : Type 0 where

@@ -7,7 +7,7 @@ ghost use Rattle.regex.specs.declared.string.regex.Regex.{Regex};
 ghost use Rattle.am_text.specs.Outcome.{ForRefused};
 ghost use Rattle.am_pattern.specs.Taking.{anchored, has_match, is_parsed, is_shallow, IsPattern};
 ghost use Rattle.am_pattern.specs.Refused.{IsBuildingCause, IsPatternCause};
-ghost use Rattle.am_pattern.specs.Kept.{largest};
+ghost use Rattle.am_pattern.specs.Kept.{largest, IsBuilt, HasRegex};
 
 use crate::reading::{Cause, MAX_PATTERN, parse_text};
 use am_text::Failure;
@@ -69,6 +69,7 @@ fn is_found(matcher: &mut Matcher<'_>, value: &str) -> bool
 fn build_text(alloc: Global, text: &str) -> Result<Built, Failure<Cause>>
     ensures source { IfOk result (λ built. built.source ≡ text.now) }
     ensures size { IfOk result (λ built. built.size ≤ largest) }
+    ensures regex { IfOk result (λ _. IsBuilt text.now) }
     ensures parsed { IfOk result (λ _. is_parsed text.now ≡ true) }
     ensures cause { IfErr result (λ failure. ForRefused failure (IsBuildingCause text.now)) }
 {
@@ -90,6 +91,7 @@ fn build_text(alloc: Global, text: &str) -> Result<Built, Failure<Cause>>
 pub(crate) fn build_pattern(alloc: Global, pattern: &str) -> Result<Built, Failure<Cause>>
     ensures source { IfOk result (λ built. built.source ≡ anchored pattern.now) }
     ensures size { IfOk result (λ built. built.size ≤ largest) }
+    ensures regex { IfOk result (λ _. HasRegex pattern.now) }
     ensures is_pattern { IfOk result (λ _. IsPattern pattern.now) }
     ensures shallow { IfOk result (λ _. is_shallow pattern.now ≡ true) }
     ensures cause { IfErr result (λ failure. ForRefused failure (IsPatternCause pattern.now)) }

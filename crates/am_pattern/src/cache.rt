@@ -4,7 +4,7 @@ ghost use Rattle.lru.specs.LruCache.{lru_cache, promoted};
 ghost use Rattle.am_text.specs.Outcome.{ForRefused};
 ghost use Rattle.am_pattern.specs.Taking.{IsPattern, is_shallow, anchored, takes};
 ghost use Rattle.am_pattern.specs.Refused.{IsCauseOf, IsPatternCause, IsReasonOf, has_text, held_after, noted, refused_after, with_text, IsHeldAfter, IsRefusedRightly, IsMeaningOf};
-ghost use Rattle.am_pattern.specs.Kept.{kept_after, largest, asked_first, counted_on, misses_after};
+ghost use Rattle.am_pattern.specs.Kept.{HasRegex, kept_after, largest, asked_first, counted_on, misses_after};
 ghost use Rattle.am_pattern.specs.Asking.{Asked, Grows, IsRefused};
 
 use crate::building::{Built, build_pattern};
@@ -116,6 +116,10 @@ impl PatternCache {
 
         // The same for callers that ask for many: by the grammar alone, and what the cache then has as refused.
         ensures shallow { IfOk result (λ _. is_shallow pattern.now ≡ true) }
+
+        // A regex of it was built, and is no larger than one may be.
+        ensures regex { IfOk result (λ _. HasRegex pattern.now) }
+
         ensures asked { Asked result self.old self.new }
         ensures refusal { IfErr result (λ failure. ForRefused failure (IsRefused self.new pattern.now)) }
 
@@ -152,6 +156,7 @@ impl PatternCache {
             (λ refusal. (refusal ≡ PatternRefusal.BadPattern) × ¬ IsPattern pattern.now)) }
 
         ensures shallow { IfOk result (λ _. is_shallow pattern.now ≡ true) }
+        ensures regex { IfOk result (λ _. HasRegex pattern.now) }
         ensures asked { Asked result self.old self.new }
         ensures refusal { IfErr result (λ failure. ForRefused failure (IsRefused self.new pattern.now)) }
         ensures size { self.new.size ≤ self.new.capacity * largest }
@@ -197,6 +202,7 @@ impl PatternCache {
     ) -> Result<Option<Vec<bool>>, AllocError>
         ensures is_pattern { IfOk result (λ found. IfSome found (λ _. IsPattern pattern.now)) }
         ensures shallow { IfOk result (λ found. IfSome found (λ _. is_shallow pattern.now ≡ true)) }
+        ensures regex { IfOk result (λ found. IfSome found (λ _. HasRegex pattern.now)) }
         ensures values { IfOk result (λ found. IfSome found (λ v.
             v.items ≡ map (λ value. takes pattern.now value.now) values.now)) }
         ensures kept { IfOk result (λ found. IfSome found (λ _.
@@ -232,6 +238,7 @@ impl PatternCache {
         requires shallow { is_shallow pattern.now ≡ true }
         requires source { built.source ≡ anchored pattern.now }
         requires small { built.size ≤ largest }
+        requires regex { HasRegex pattern.now }
         ensures kept { OnOk result (self.new.kept ≡ asked_first self.old.capacity self.old.kept pattern.now) }
         ensures err { OnErr result (self.new ≡ self.old) }
         ensures refused { self.new.refused ≡ self.old.refused }

@@ -2,7 +2,7 @@
 
 ghost use Rattle.std.specs.Prelude.{◌≡◌, true, IfOk, IfErr, OnOk};
 ghost use Rattle.am_text.specs.Outcome.{ForRefused};
-ghost use Rattle.am_pattern.specs.Taking.{is_parsed as is_parsed_text, is_shallow};
+ghost use Rattle.am_pattern.specs.Taking.{IsPattern, is_parsed as is_parsed_text, is_shallow};
 ghost use Rattle.am_pattern.specs.Refused.{IsReadingCause};
 
 use am_text::Failure;
@@ -24,7 +24,8 @@ pub(crate) enum Cause {
 /// Whether the text is a pattern of at most 256 bytes that nests no deeper than is built. Nothing is built: the
 /// grammar alone decides. Each text that a [`PatternCache`](crate::PatternCache) ever answered for is one.
 pub fn is_shallow_pattern(alloc: Global, text: &str) -> Result<bool, AllocError>
-    ensures { IfOk result (λ shallow. shallow ≡ is_shallow text.now) }
+    ensures shallow { IfOk result (λ shallow. shallow ≡ is_shallow text.now) }
+    ensures pattern { IfOk result (λ shallow. shallow ≡ true → IsPattern text.now) }
 {
     if text.len() > MAX_PATTERN {
         return Ok(false);

@@ -1,10 +1,11 @@
 //! What a query asks.
 
-ghost use Rattle.std.specs.Prelude.{◌≡◌, IfErr, IfOk, OnOk, find, reverse, bytes_eq, true};
+ghost use Rattle.std.specs.Prelude.{◌≡◌, All, IfErr, IfOk, OnOk, find, reverse, bytes_eq, true};
 ghost use Rattle.std.specs.List.{list_all};
 ghost use Rattle.std.specs.Option.{option_copied};
 ghost use Rattle.am_text.specs.Outcome.{Gives};
 ghost use Rattle.am_pattern.specs.Asking.{Asked};
+ghost use Rattle.am_pattern.specs.Kept.{HasRegex};
 ghost use Rattle.am_query.specs.Stopping.{IsParameterFailure, IsStopOf, is_fine, passes};
 ghost use Rattle.am_query.specs.Unbuilt.{GivesUnless, IsUnbuiltRefusal};
 ghost use Rattle.am_query.specs.Patterns.{IsAsked, patterns_as, patterns_of_filters, patterns_of_group_query, patterns_of_parameters, patterns_of_query};
@@ -65,6 +66,7 @@ pub fn read_query(
     ensures read { GivesUnless (IsUnbuiltRefusal cache.new.refused (patterns_of_query query.now)) (λ q. q) result (query_in query.now) }
     ensures asked { Asked result cache.old cache.new }
     ensures passes { OnOk result (list_all is_fine (parameters_in query.now) ≡ true) }
+    ensures built { OnOk result (All HasRegex (patterns_of_query query.now)) }
     ensures stop { IfErr result (IsStopOf (parameters_in query.now) cache.old cache.new) }
 
     // What alerts are asked by are patterns, and those of the query.
@@ -87,6 +89,7 @@ pub fn read_group_query(
     ensures read { GivesUnless (IsUnbuiltRefusal cache.new.refused (patterns_of_group_query query.now)) (λ q. q) result (group_query_in query.now) }
     ensures asked { Asked result cache.old cache.new }
     ensures passes { OnOk result (list_all is_fine (processed_among (parameters_in query.now)) ≡ true) }
+    ensures built { OnOk result (All HasRegex (patterns_of_group_query query.now)) }
     ensures stop { IfErr result (IsStopOf (processed_among (parameters_in query.now)) cache.old cache.new) }
 
     // What alerts are asked by are patterns, and those of the query.
@@ -107,6 +110,7 @@ fn query_of(
         (query_of parameters.items) }
     ensures asked { Asked result cache.old cache.new }
     ensures passes { OnOk result (list_all is_fine parameters.items ≡ true) }
+    ensures built { OnOk result (All HasRegex (patterns_of_parameters parameters.items)) }
     ensures stop { IfErr result (IsStopOf parameters.items cache.old cache.new) }
 {
     let matchers = matchers_in(alloc, &parameters, cache)?;
@@ -139,6 +143,7 @@ pub fn read_filters(
 ) -> Result<Vec<Matcher>, Failure<QueryRefusal>>
     ensures read { GivesUnless (IsUnbuiltRefusal cache.new.refused (patterns_of_filters query.now)) (λ v. v.items) result (filters_in query.now) }
     ensures asked { Asked result cache.old cache.new }
+    ensures built { OnOk result (All HasRegex (patterns_of_filters query.now)) }
     ensures stop { IfErr result (IsStopOf (filters_among (parameters_in query.now)) cache.old cache.new) }
 {
     let mut parameters = parameters_in(alloc, query)?;
@@ -179,6 +184,7 @@ fn matchers_in(
         result (matchers_in parameters.now) }
     ensures asked { Asked result cache.old cache.new }
     ensures passes { OnOk result (list_all is_fine parameters.now ≡ true) }
+    ensures built { OnOk result (All HasRegex (patterns_of_parameters parameters.now)) }
     ensures stop { IfErr result (IsStopOf parameters.now cache.old cache.new) }
 {
     let mut matchers = Vec::new(alloc);
@@ -200,6 +206,7 @@ fn parameter_judged(
         result (judged (kind_of parameter.now.name) parameter.now.value) }
     ensures asked { Asked result cache.old cache.new }
     ensures passes { OnOk result (is_fine parameter.now ≡ true) }
+    ensures built { OnOk result (All HasRegex (patterns_as (kind_of parameter.now.name) parameter.now.value)) }
     ensures failure { IfErr result (IsParameterFailure (kind_of parameter.now.name) parameter.now.value cache.old cache.new) }
 {
     let kind = kind_of(parameter.name.as_str());
@@ -230,6 +237,7 @@ fn judged(
         result (judged kind value.now) }
     ensures asked { Asked result cache.old cache.new }
     ensures passes { OnOk result (passes kind value.now ≡ true) }
+    ensures built { OnOk result (All HasRegex (patterns_as kind value.now)) }
     ensures failure { IfErr result (IsParameterFailure kind value.now cache.old cache.new) }
 {
     match kind {
@@ -250,6 +258,7 @@ fn filter_judged(
         result (judged Kind.Filter value.now) }
     ensures asked { Asked result cache.old cache.new }
     ensures passes { OnOk result (passes Kind.Filter value.now ≡ true) }
+    ensures built { OnOk result (All HasRegex (patterns_as Kind.Filter value.now)) }
     ensures failure { IfErr result (IsParameterFailure Kind.Filter value.now cache.old cache.new) }
 {
     match read_matchers(alloc, value, cache) {
@@ -269,6 +278,7 @@ fn receiver_judged(
         result (judged Kind.Receiver value.now) }
     ensures asked { Asked result cache.old cache.new }
     ensures passes { OnOk result (passes Kind.Receiver value.now ≡ true) }
+    ensures built { OnOk result (All HasRegex (patterns_as Kind.Receiver value.now)) }
     ensures failure { IfErr result (IsParameterFailure Kind.Receiver value.now cache.old cache.new) }
 {
     match check_pattern(alloc, value, cache) {

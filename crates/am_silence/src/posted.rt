@@ -3,6 +3,7 @@
 ghost use Rattle.std.specs.Prelude.{◌≡◌, [], All, IfErr, IfOk, OnOk, Ok, true};
 ghost use Rattle.am_text.specs.Outcome.{ForRefused, Gives};
 ghost use Rattle.am_pattern.specs.Asking.{Asked};
+ghost use Rattle.am_pattern.specs.Kept.{HasRegex};
 ghost use Rattle.am_pattern.specs.Taking.{IsPattern};
 ghost use Rattle.am_match.specs.Checking.{AreRefusedRightly, IsFine};
 ghost use Rattle.am_match.specs.Matchers.{patterns_of};
@@ -54,6 +55,7 @@ pub fn read_silence(
 ) -> Result<PostedSilence, Failure<SilenceRefusal>>
     ensures read { GivesUnless (IsUnbuilt cache.new.refused (patterns_in_body body.now)) posted_of result (posted moment body.now) }
     ensures patterns { IfOk result (λ p. All IsPattern (patterns_of p.matchers.items)) }
+    ensures built { OnOk result (All HasRegex (patterns_in_body body.now)) }
     ensures asked { Asked result cache.old cache.new }
     ensures first { IfErr result (FailsFirst (patterns_in_body body.now) cache.old cache.new) }
 
@@ -82,6 +84,7 @@ fn judged(
 ) -> Result<PostedSilence, Failure<SilenceRefusal>>
     ensures read { GivesUnless (IsUnbuilt cache.new.refused (patterns_named (some_named written.matchers))) posted_of result (judged moment written) }
     ensures patterns { IfOk result (λ p. All IsPattern (patterns_of p.matchers.items)) }
+    ensures built { OnOk result (All HasRegex (patterns_named (some_named written.matchers))) }
     ensures asked { Asked result cache.old cache.new }
     ensures first { IfErr result (FailsFirst (patterns_named (some_named written.matchers)) cache.old cache.new) }
 {
@@ -107,6 +110,7 @@ fn matchers_judged(
 ) -> Result<Vec<Matcher>, Failure<SilenceRefusal>>
     ensures read { GivesUnless (IsUnbuilt cache.new.refused (patterns_named (some_named written.now))) (λ v. v.items) result (matchers_judged written.now) }
     ensures patterns { IfOk result (λ v. All IsPattern (patterns_of v.items)) }
+    ensures built { OnOk result (All HasRegex (patterns_named (some_named written.now))) }
     ensures asked { Asked result cache.old cache.new }
     ensures first { IfErr result (FailsFirst (patterns_named (some_named written.now)) cache.old cache.new) }
 {
@@ -168,6 +172,7 @@ fn check(
 ) -> Result<(), Failure<SilenceRefusal>>
     ensures read { GivesUnless (IsUnbuilt cache.new.refused (patterns_of matchers.now)) (λ done. matchers.now) result (with_patterns matchers.now) }
     ensures patterns { OnOk result (All IsPattern (patterns_of matchers.now)) }
+    ensures built { OnOk result (All HasRegex (patterns_of matchers.now)) }
     ensures fine { OnOk result (All IsFine (patterns_of matchers.now)) }
     ensures asked { Asked result cache.old cache.new }
     ensures first { IfErr result (FailsFirst (patterns_of matchers.now) cache.old cache.new) }

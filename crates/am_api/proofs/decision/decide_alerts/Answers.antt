@@ -7,6 +7,7 @@ use Rattle.am_api.proofs.Builds.{with_method}
 use Rattle.std.proofs.Common.{◌++◌, subst, sym}
 use Rattle.am_muting.specs.Failing.{AddsAmong}
 use Rattle.am_api.proofs.Adding.{unasked_adds}
+use Rattle.am_api.proofs.Accepting.{accepts_at}
 use Rattle.am_api.proofs.decision.decide_alerts.Goals as goal
 
 pub returns-in-Get-clause-decides : goal.returns-in-Get-clause-decides
@@ -26,3 +27,7 @@ returns-in-Post-clause-adds c =
 pub returns-in-Delete-clause-adds : goal.returns-in-Delete-clause-adds
 returns-in-Delete-clause-adds c =
     unasked_adds _ _
+
+pub returns-in-Get-clause-built : goal.returns-in-Get-clause-built
+returns-in-Get-clause-built c =
+    accepts_at (λ m. patterns_of_alerts m c.args.request.now) _ Get _ c.in-Get.is (rw c.as_str.ensures at c.decide_list.ensures.built)

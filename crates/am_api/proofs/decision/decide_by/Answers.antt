@@ -6,6 +6,7 @@ use Rattle.am_muting.specs.Failing.{AddsAmong}
 use Rattle.am_api.specs.Patterns.{patterns_by}
 use Rattle.am_api.specs.Refusing.{asked_by}
 use Rattle.am_api.proofs.Adding.{own_adds, unasked_adds}
+use Rattle.am_api.proofs.Accepting.{accepts_at}
 use Rattle.am_api.proofs.decision.decide_by.Goals as goal
 
 pub returns-in-Alerts-clause-decides : goal.returns-in-Alerts-clause-decides
@@ -55,3 +56,19 @@ returns-in-Silence-clause-adds c =
 pub returns-in-Receivers-clause-adds : goal.returns-in-Receivers-clause-adds
 returns-in-Receivers-clause-adds c =
     unasked_adds _ _
+
+pub returns-in-Alerts-clause-built : goal.returns-in-Alerts-clause-built
+returns-in-Alerts-clause-built c =
+    accepts_at (λ e. patterns_by e c.args.request.now) _ Alerts _ c.in-Alerts.is c.decide_alerts.ensures.built
+
+pub returns-in-AlertGroups-clause-built : goal.returns-in-AlertGroups-clause-built
+returns-in-AlertGroups-clause-built c =
+    accepts_at (λ e. patterns_by e c.args.request.now) _ AlertGroups _ c.in-AlertGroups.is c.decide_groups.ensures.built
+
+pub returns-in-Silences-clause-built : goal.returns-in-Silences-clause-built
+returns-in-Silences-clause-built c =
+    accepts_at (λ e. patterns_by e c.args.request.now) _ Silences _ c.in-Silences.is c.decide_silences.ensures.built
+
+pub returns-in-Configuration-clause-built : goal.returns-in-Configuration-clause-built
+returns-in-Configuration-clause-built c =
+    accepts_at (λ e. patterns_by e c.args.request.now) _ Configuration _ c.in-Configuration.is c.decide_configuration.ensures.built

@@ -7,6 +7,7 @@ use Rattle.am_api.proofs.Builds.{with_method}
 use Rattle.std.proofs.Common.{subst, sym}
 use Rattle.am_muting.specs.Failing.{AddsAmong}
 use Rattle.am_api.proofs.Adding.{unasked_adds}
+use Rattle.am_api.proofs.Accepting.{accepts_at}
 use Rattle.am_api.proofs.decision.decide_configuration.Goals as goal
 
 pub returns-in-Post-clause-decides : goal.returns-in-Post-clause-decides
@@ -26,3 +27,8 @@ returns-in-Get-clause-adds c =
 pub returns-in-Delete-clause-adds : goal.returns-in-Delete-clause-adds
 returns-in-Delete-clause-adds c =
     unasked_adds _ _
+
+pub returns-in-Post-clause-built : goal.returns-in-Post-clause-built
+returns-in-Post-clause-built c =
+    accepts_at (λ m. patterns_of_document m c.args.request.now) _ Post _ c.in-Post.is
+    (rw c.as_slice.ensures at c.post_configuration.ensures.built)

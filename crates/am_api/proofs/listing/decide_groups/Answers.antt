@@ -6,6 +6,7 @@ use Rattle.am_api.specs.Refusing.{GroupsRefuse, asked_by_method}
 use Rattle.am_api.proofs.Builds.{with_method}
 use Rattle.std.proofs.Common.{◌++◌, subst, sym}
 use Rattle.am_muting.specs.Failing.{AddsAmong}
+use Rattle.am_api.proofs.Accepting.{accepts_at}
 use Rattle.am_api.proofs.listing.decide_groups.Goals as goal
 
 pub returns-in-Get-clause-decides : goal.returns-in-Get-clause-decides
@@ -17,3 +18,7 @@ returns-in-Get-clause-decides c =
 pub returns-in-Get-clause-adds : goal.returns-in-Get-clause-adds
 returns-in-Get-clause-adds c =
     subst (λ m. AddsAmong (patterns_of_groups m c.args.request.now ++ asked_by_method m (patterns_in_use c.args.config.now c.args.moment c.args.held.now)) c.args.cache.now.refused c.decide_group_list.new.cache.refused) (sym c.in-Get.is) (rw c.as_str.ensures at c.decide_group_list.ensures.adds)
+
+pub returns-in-Get-clause-built : goal.returns-in-Get-clause-built
+returns-in-Get-clause-built c =
+    accepts_at (λ m. patterns_of_groups m c.args.request.now) _ Get _ c.in-Get.is (rw c.as_str.ensures at c.decide_group_list.ensures.built)

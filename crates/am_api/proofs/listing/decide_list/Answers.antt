@@ -9,6 +9,7 @@ use Rattle.am_api.proofs.Replies.{query_refused}
 use Rattle.am_query.specs.Patterns.{patterns_of_query}
 use Rattle.am_muting.proofs.Failures.{adds_behind}
 use Rattle.am_api.proofs.Adding.{own_adds, query_adds}
+use Rattle.am_api.proofs.Accepting.{built_accepts, query_high, refusal_accepts}
 use Rattle.am_api.proofs.listing.decide_list.Goals as goal
 
 pub returns-in-Err-Refused-clause-decides : goal.returns-in-Err-Refused-clause-decides
@@ -38,3 +39,11 @@ returns-in-Err-OutOfMemory-clause-adds c =
 pub returns-in-Ok-clause-adds : goal.returns-in-Ok-clause-adds
 returns-in-Ok-clause-adds c =
     adds_behind _ _ _ _ c.in-Ok.ensures.asked c.list_asked.ensures.adds
+
+pub returns-in-Ok-clause-built : goal.returns-in-Ok-clause-built
+returns-in-Ok-clause-built c = built_accepts _ c.list_asked.result c.in-Ok.ensures.built
+
+pub returns-in-Err-Refused-clause-built : goal.returns-in-Err-Refused-clause-built
+returns-in-Err-Refused-clause-built c =
+    refusal_accepts _ _ _ c.refuse.result (query_high c.in-Err-Refused.reason)
+    (rw (c.status.ensures, c.code.ensures, c.in-Err-Refused.reason-is) at c.refuse.ensures)

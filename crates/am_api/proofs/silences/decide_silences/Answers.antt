@@ -7,6 +7,7 @@ use Rattle.am_api.proofs.Builds.{with_method}
 use Rattle.std.proofs.Common.{subst, sym}
 use Rattle.am_muting.specs.Failing.{AddsAmong}
 use Rattle.am_api.proofs.Adding.{unasked_adds}
+use Rattle.am_api.proofs.Accepting.{accepts_at}
 use Rattle.am_api.proofs.silences.decide_silences.Goals as goal
 
 pub returns-in-Get-clause-decides : goal.returns-in-Get-clause-decides
@@ -32,3 +33,12 @@ returns-in-Post-clause-adds c =
 pub returns-in-Delete-clause-adds : goal.returns-in-Delete-clause-adds
 returns-in-Delete-clause-adds c =
     unasked_adds _ _
+
+pub returns-in-Get-clause-built : goal.returns-in-Get-clause-built
+returns-in-Get-clause-built c =
+    accepts_at (λ m. patterns_of_silences m c.args.request.now) _ Get _ c.in-Get.is (rw c.as_str.ensures at c.list_silences.ensures.built)
+
+pub returns-in-Post-clause-built : goal.returns-in-Post-clause-built
+returns-in-Post-clause-built c =
+    accepts_at (λ m. patterns_of_silences m c.args.request.now) _ Post _ c.in-Post.is
+    (rw c.as_slice-body.ensures at c.post_silence.ensures.built)

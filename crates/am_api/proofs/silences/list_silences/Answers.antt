@@ -3,6 +3,7 @@ use Rattle.am_query.specs.Queries.{filters_among, filters_in, parameters_in}
 use Rattle.am_api.proofs.Replies.{filters_refused}
 use Rattle.am_query.specs.Patterns.{patterns_of_filters}
 use Rattle.am_api.proofs.Adding.{query_adds, stays_adds}
+use Rattle.am_api.proofs.Accepting.{built_accepts, query_high, refusal_accepts}
 use Rattle.am_api.proofs.silences.list_silences.Goals as goal
 
 pub returns-in-Err-Refused-clause-decides : goal.returns-in-Err-Refused-clause-decides
@@ -26,3 +27,11 @@ returns-in-Err-OutOfMemory-clause-adds c =
 pub returns-in-Ok-clause-adds : goal.returns-in-Ok-clause-adds
 returns-in-Ok-clause-adds c =
     stays_adds _ _ _ c.in-Ok.ensures.asked
+
+pub returns-in-Ok-clause-built : goal.returns-in-Ok-clause-built
+returns-in-Ok-clause-built c = built_accepts _ c.list_having.result c.in-Ok.ensures.built
+
+pub returns-in-Err-Refused-clause-built : goal.returns-in-Err-Refused-clause-built
+returns-in-Err-Refused-clause-built c =
+    refusal_accepts _ _ _ c.refuse.result (query_high c.in-Err-Refused.reason)
+    (rw (c.status.ensures, c.code.ensures, c.in-Err-Refused.reason-is) at c.refuse.ensures)

@@ -1,5 +1,5 @@
 use Rattle.std.proofs.Common.{◌∙◌}
-use Rattle.std.proofs.lemmas.Result.{err_from_is_err_and}
+use Rattle.std.proofs.lemmas.Result.{IfOk-weaker, err_from_is_err_and}
 use Rattle.am_pattern.proofs.AskingLemmas.{stays-refl}
 use Rattle.am_config.specs.Matching.{matcher_lists, matchers_in}
 use Rattle.am_config.proofs.Judgements.{after_is, early_failure, given_ok, late_result, stop_failure}
@@ -33,6 +33,11 @@ returns-clause-ok c =
     let texts = texts_of (λ list. list.now) c.deref.result.now c.args.draft.now (rw (← c.deref.ensures.value) at c.in_ok-lists.ensures) in
     rw (after_is c.args.draft.now c.in_ok-terms.terms c.in_ok-terms.ensures (rw texts at c.in_ok-matchers.ensures.read))
     (given_ok c.completed.result _ c.completed.ensures.value)
+
+pub returns-clause-built : goal.returns-clause-built
+returns-clause-built c =
+    let texts = texts_of (λ list. list.now) c.deref.result.now c.args.draft.now (rw (← c.deref.ensures.value) at c.in_ok-lists.ensures) in
+    IfOk-weaker c.completed.result _ _ (λ _ _. rw texts at c.in_ok-matchers.ensures.built) (returns-clause-ok c)
 
 pub returns-clause-failure : goal.returns-clause-failure
 returns-clause-failure c =

@@ -1,10 +1,10 @@
-use Rattle.std.proofs.Common.{◌≡◌, ◌∙◌, ◌∷◌, [], All, sym, ap, false, length, arith}
+use Rattle.std.proofs.Common.{◌≡◌, ◌∙◌, ◌∷◌, [], All, sym, ap, true, false, length, arith}
 use Rattle.std.proofs.Math.Seq.{take-length}
 use Rattle.std.proofs.lemmas.Bool.{not-false, not-true}
 use Rattle.am_pattern.specs.Taking.{is_shallow}
 use Rattle.am_match.specs.Checking.{IsFine, unless_refused}
 use Rattle.am_match.specs.Matchers.{patterns_of}
-use Rattle.am_match.proofs.CheckingLemmas.{bad_at, fine_more, fine_here, fine_without, fine_passes, long_refused, has_long-patterns_of}
+use Rattle.am_match.proofs.CheckingLemmas.{bad_at, all_more, short_here, short_without, fine_passes, long_refused, has_long-patterns_of}
 use Rattle.am_match.proofs.checking.check_grammar.Goals.{in-Some+in_ok-is_shallow_pattern+else-not-branch, in_default}
 use Rattle.am_match.proofs.checking.check_grammar.Goals as goal
 
@@ -16,10 +16,12 @@ returns-then-not-branch c =
 
 pub loop-matcher-preserved : goal.loop-matcher-preserved
 loop-matcher-preserved c =
+    let m = c.matcher-item.result in
     elim c.match-short_pattern.branch [
-      | in-Some+in_ok-is_shallow_pattern+else-not-branch w ↦ fine_more _ _ c.matcher-item.result c.loop-matcher-test.true c.matcher-item.is c.loop-matcher.invariant
-          (fine_here c.matcher-item.result _ w.in-Some.ensures.0 (grind (arith, not-false, not-true)))
-      | in_default w ↦ fine_more _ _ c.matcher-item.result c.loop-matcher-test.true c.matcher-item.is c.loop-matcher.invariant (fine_without (patterns_of (c.matcher-item.result ∷ [])) w.in_default.ensures)
+      | in-Some+in_ok-is_shallow_pattern+else-not-branch w ↦ all_more IsFine _ _ m c.loop-matcher-test.true c.matcher-item.is c.loop-matcher.invariant
+          (short_here (λ p. is_shallow p ≡ true) m _ w.in-Some.ensures.0 (grind (arith, not-false, not-true)))
+      | in_default w ↦ all_more IsFine _ _ m c.loop-matcher-test.true c.matcher-item.is c.loop-matcher.invariant
+          (short_without (λ p. is_shallow p ≡ true) (patterns_of (m ∷ [])) w.in_default.ensures)
     ]
 
 pub returns-then-has_long_pattern : goal.returns-then-has_long_pattern

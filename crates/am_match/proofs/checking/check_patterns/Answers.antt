@@ -1,7 +1,8 @@
 use Rattle.std.proofs.Common.{sym, ap, ◌∙◌}
 use Rattle.std.proofs.lemmas.Result.{err_from_is_err_and}
+use Rattle.am_pattern.specs.Kept.{HasRegex}
 use Rattle.am_match.specs.Checking.{unless_refused}
-use Rattle.am_match.proofs.CheckingLemmas.{failure_read, failure_meant, fine_passes, long_refused, long_meant, patterns_of_fine, patterns_pass, has_long-patterns_of}
+use Rattle.am_match.proofs.CheckingLemmas.{failure_read, failure_meant, fine_passes, all_short, long_refused, long_meant, patterns_of_fine, patterns_pass, has_long-patterns_of}
 use Rattle.am_match.proofs.checking.check_patterns.Goals as goal
 
 pub returns-in_err-check_short_patterns-clause-read : goal.returns-in_err-check_short_patterns-clause-read
@@ -36,6 +37,11 @@ returns-then-has_long_pattern-clause-meaning c =
 pub returns-clause-patterns : goal.returns-clause-patterns
 returns-clause-patterns c =
     patterns_of_fine _ c.in_ok-check_short_patterns.ensures.fine
+    (sym (has_long-patterns_of c.args.matchers.now) ∙ sym c.has_long_pattern.ensures ∙ c.if-has_long_pattern.false)
+
+pub returns-clause-built : goal.returns-clause-built
+returns-clause-built c =
+    all_short HasRegex _ c.in_ok-check_short_patterns.ensures.built
     (sym (has_long-patterns_of c.args.matchers.now) ∙ sym c.has_long_pattern.ensures ∙ c.if-has_long_pattern.false)
 
 pub returns-clause-read : goal.returns-clause-read

@@ -8,6 +8,17 @@ returns-in-Ok-clause-parsed c =
     let source = rw (c.size_limit.ensures, c.new.ensures.source) at c.in-Ok.ensures.source in
     rw source at (parsed-source c.in-Ok.regex config c.in-Ok.ensures.read)
 
+pub returns-in-Ok-clause-regex : goal.returns-in-Ok-clause-regex
+returns-in-Ok-clause-regex c =
+    let built = c.in-Ok.ensures in
+    record {
+      regex = c.in-Ok.regex;
+      source = rw (c.size_limit.ensures, c.new.ensures.source) at built.source;
+      config = rw (c.size_limit.ensures, c.new.ensures.config) at built.config;
+      read = built.read;
+      small = rw c.size_limit.ensures at built.small;
+    }
+
 pub returns-then-eq-clause-cause : goal.returns-then-eq-clause-cause
 returns-then-eq-clause-cause c =
     let refused = c.in-Err-Syntax in

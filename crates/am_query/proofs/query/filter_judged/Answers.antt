@@ -17,6 +17,9 @@ returns-in-Ok-clause-read c =
 pub returns-in-Ok-clause-passes : goal.returns-in-Ok-clause-passes
 returns-in-Ok-clause-passes c = reads_is _ _ c.in-Ok.ensures.read
 
+pub returns-in-Ok-clause-built : goal.returns-in-Ok-clause-built
+returns-in-Ok-clause-built c = rw c.in-Ok.ensures.matchers c.in-Ok.ensures.built
+
 pub returns-in-Err-Refused-clause-failure : goal.returns-in-Err-Refused-clause-failure
 returns-in-Err-Refused-clause-failure c = rw c.in-Err-Refused.field-0-is at c.in-Err-Refused.ensures.failure
 

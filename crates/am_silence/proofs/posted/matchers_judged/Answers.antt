@@ -4,6 +4,9 @@ use Rattle.am_silence.proofs.DecidingLemmas.{behind, named_decide, none_decides}
 use Rattle.am_silence.proofs.PostedLemmas.{asking_failed, patterns_failed}
 use Rattle.am_silence.proofs.posted.matchers_judged.Goals as goal
 
+pub returns-clause-built : goal.returns-clause-built
+returns-clause-built c = rw c.in_ok-matchers.ensures.read (rw c.deref.ensures.value at c.in_ok-check.ensures.built)
+
 pub returns-in_err-check-clause-read : goal.returns-in_err-check-clause-read
 returns-in_err-check-clause-read c =
     let p = err_from_is_err_and c.from_residual-in_err-check.result c.from_residual-in_err-check.ensures.1 in

@@ -11,6 +11,10 @@ returns-clause-again c = search rules
 pub returns-clause-failure : goal.returns-clause-failure
 returns-clause-failure c = search rules
 
+pub returns-clause-built : goal.returns-clause-built
+returns-clause-built c =
+    let read : posted c.args.document.now ≡ Ok c.in_ok-draft.draft = search rules in rw read c.judged.ensures.built
+
 pub returns-clause-ok : goal.returns-clause-ok
 returns-clause-ok c =
     let read : IfOk c.judged.result (λ made. reading (posted c.args.document.now) ≡ Ok made) = search rules in

@@ -10,7 +10,12 @@ invariant_of-self-2 c =
     rw (← c.self.view_is) at c.requires.missing in
     rw c.in_ok-put.ensures.entries
     (sound-put string_bytes c.args.pattern.now c.in_ok-key.key c.args.built c.self.inside.built c.in_ok-key.ensures.ok missing c.self.invariant
-    (record { shallow = rw c.in_ok-key.ensures.ok c.requires.shallow; source = rw c.in_ok-key.ensures.ok c.requires.source; small = c.requires.small }))
+    (record {
+      shallow = rw c.in_ok-key.ensures.ok c.requires.shallow;
+      source = rw c.in_ok-key.ensures.ok c.requires.source;
+      small = c.requires.small;
+      regex = rw c.in_ok-key.ensures.ok c.requires.regex;
+    }))
 
 pub returns-clause-kept : goal.returns-clause-kept
 returns-clause-kept c =

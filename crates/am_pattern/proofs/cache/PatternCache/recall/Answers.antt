@@ -38,6 +38,11 @@ returns-clause-shallow c =
     let found : lookup (is_of string_bytes c.args.pattern.now) c.self.inside.built.entries ≡ Some c.in-Some.built.now = search rules in
     (built-found string_bytes c.args.pattern.now c.self.inside.built.entries c.in-Some.built.now c.self.invariant.built found).0
 
+pub returns-clause-regex : goal.returns-clause-regex
+returns-clause-regex c =
+    let found : lookup (is_of string_bytes c.args.pattern.now) c.self.inside.built.entries ≡ Some c.in-Some.built.now = search rules in
+    (built-found string_bytes c.args.pattern.now c.self.inside.built.entries c.in-Some.built.now c.self.invariant.built found).2
+
 pub returns-clause-is_pattern : goal.returns-clause-is_pattern
 returns-clause-is_pattern c = pattern-shallow c.args.pattern.now (returns-clause-shallow c)
 
