@@ -1,5 +1,5 @@
 -- What one object of a posted list says.
-use Rattle.std.specs.Prelude.{List, [], length, nat_le, None, Result, Ok, Err, if◌then◌else◌, codes}
+use Rattle.std.specs.Prelude.{List, [], length, nat_le, Option, None, Result, Ok, Err, if◌then◌else◌, codes}
 use Rattle.serde_json.specs.Data.{Data}
 use Rattle.serde_json.specs.Find.{get, as_object}
 use Rattle.am_text.specs.Outcome.{◌>>=◌, outcome_as}
@@ -14,26 +14,26 @@ use Rattle.am_alert.specs.declared.written.Written.{Written}
 abbrev pub few : List Label → Result (List Label) JsonRefusal
 few labels = if nat_le (length labels) 64 then Ok labels else Err BadForm
 
--- the object's label set: empty values are left out, each name is a label name
-unfoldable pub labels_at : Data → Result (List Label) JsonRefusal
-labels_at d = do
-  pairs ← optional [] pairs_in (get (codes "labels") d)
+-- the label set of an object that there may be: empty values are left out, each name is a label name
+unfoldable pub labels_in : Option Data → Result (List Label) JsonRefusal
+labels_in found = do
+  pairs ← optional [] pairs_in found
   labels ← outcome_as BadForm (label_set pairs)
   few labels
 
--- the object's annotations, whose names are label names too
-unfoldable pub annotations_at : Data → Result (List Label) JsonRefusal
-annotations_at d = do
-  pairs ← optional [] pairs_in (get (codes "annotations") d)
-  found ← outcome_as BadForm (annotations pairs)
-  few found
+-- the annotations of an object that there may be, whose names are label names too
+unfoldable pub annotations_in : Option Data → Result (List Label) JsonRefusal
+annotations_in found = do
+  pairs ← optional [] pairs_in found
+  made ← outcome_as BadForm (annotations pairs)
+  few made
 
 -- everything that an object says of an alert; keys of other names are passed over
 unfoldable pub written_of : Data → Result Written JsonRefusal
 written_of d = do
   members ← formed (as_object d)
-  labels ← labels_at d
-  found ← annotations_at d
+  labels ← labels_in (get (codes "labels") d)
+  found ← annotations_in (get (codes "annotations") d)
   starts_at ← optional None moment_in (get (codes "startsAt") d)
   ends_at ← optional None moment_in (get (codes "endsAt") d)
   generator_url ← optional [] text_in (get (codes "generatorURL") d)

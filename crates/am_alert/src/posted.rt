@@ -9,7 +9,7 @@ use crate::fields::written_of;
 use crate::refusal::PostedRefusal;
 use crate::written::Written;
 use am_item::Alert;
-use am_json::{list_in, read_json};
+use am_json::{read_json, take_list};
 use am_text::{Failure, Moment, refuse_as};
 use serde_json::Value;
 use std::alloc::Global;
@@ -26,18 +26,18 @@ pub fn read_posted(
     ensures { Gives (λ v. v.items) result (posted moment resolve_timeout body.now) }
 {
     let value = refuse_as(read_json(alloc, body), PostedRefusal::BadForm)?;
-    let values = refuse_as(list_in(&value), PostedRefusal::BadForm)?;
+    let values = refuse_as(take_list(value), PostedRefusal::BadForm)?;
     alerts_of(alloc, values, moment, resolve_timeout)
 }
 
 #[tactic(auto, unfolding(crate::specs::Posted::alerts_of))]
 fn alerts_of(
     alloc: Global,
-    values: &[Value],
+    values: Vec<Value>,
     moment: Moment,
     resolve_timeout: u64,
 ) -> Result<Vec<Alert>, Failure<PostedRefusal>>
-    ensures { Gives (λ v. v.items) result (alerts_of moment resolve_timeout (items_view values.now)) }
+    ensures { Gives (λ v. v.items) result (alerts_of moment resolve_timeout (items_view values.items)) }
 {
     let mut alerts = Vec::with_capacity(alloc, values.len())?;
     for value in values {
@@ -49,11 +49,11 @@ fn alerts_of(
 #[tactic(auto, unfolding(crate::specs::Posted::alert_of))]
 fn alert_of(
     alloc: Global,
-    value: &Value,
+    value: Value,
     moment: Moment,
     resolve_timeout: u64,
 ) -> Result<Alert, Failure<PostedRefusal>>
-    ensures { Gives (λ a. a) result (alert_of moment resolve_timeout (view value.now)) }
+    ensures { Gives (λ a. a) result (alert_of moment resolve_timeout (view value)) }
 {
     let written = refuse_as(written_of(alloc, value), PostedRefusal::BadForm)?;
     judged(completed(written, moment, resolve_timeout))

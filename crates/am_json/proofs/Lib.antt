@@ -1,3 +1,4 @@
 pub mod Chain
 pub mod Json
 pub mod Rising
+pub mod Taken

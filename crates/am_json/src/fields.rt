@@ -4,10 +4,9 @@ ghost use Rattle.std.specs.Prelude.{[], None};
 ghost use Rattle.serde_json.specs.Find.{get, as_array, as_object};
 ghost use Rattle.serde_json.specs.View.{view, items_view, members_view};
 ghost use Rattle.am_text.specs.Outcome.{Gives};
-ghost use Rattle.am_json.specs.Reading.{formed, optional, required, count_in, flag_in, moment_in, pairs_in, pairs_of, some_text_in, text_in, texts_in, texts_of};
+ghost use Rattle.am_json.specs.Reading.{formed, optional, required, count_in, flag_in, moment_in, some_text_in, text_in, texts_in, texts_of};
 
 use crate::refusal::JsonRefusal;
-use am_labels::Label;
 use am_text::{Failure, Listed, Moment, Text, read_moment};
 use serde_json::{Map, Value};
 use std::alloc::Global;
@@ -154,33 +153,4 @@ fn texts_of(alloc: Global, values: &[Value]) -> Result<Vec<Text>, Failure<JsonRe
         texts.push(text_in(alloc, value)?)?;
     }
     Ok(texts)
-}
-
-/// The names and texts of the object at a key, in order of name; none where there is no such key.
-pub fn pairs_at(alloc: Global, value: &Value, key: &str) -> Result<Vec<Label>, Failure<JsonRefusal>>
-    ensures { Gives (λ pairs. pairs.items) result (optional [] pairs_in (get key.now (view value.now))) }
-{
-    match value.get(key) {
-        None => Ok(Vec::new(alloc)),
-        Some(found) => pairs_in(alloc, found),
-    }
-}
-
-fn pairs_in(alloc: Global, value: &Value) -> Result<Vec<Label>, Failure<JsonRefusal>>
-    ensures { Gives (λ pairs. pairs.items) result (pairs_in (view value.now)) }
-{
-    let members = object_in(value)?;
-    pairs_of(alloc, members)
-}
-
-fn pairs_of(alloc: Global, members: &Map<String, Value>) -> Result<Vec<Label>, Failure<JsonRefusal>>
-    ensures { Gives (λ pairs. pairs.items) result (pairs_of (members_view members.now.entries)) }
-{
-    let mut pairs = Vec::with_capacity(alloc, members.len())?;
-    for (name, value) in members.iter() {
-        let value = text_in(alloc, value)?;
-        let name = Text::read(alloc, name.as_str())?;
-        pairs.push(Label { name, value })?;
-    }
-    Ok(pairs)
 }
