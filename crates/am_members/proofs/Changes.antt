@@ -3,8 +3,8 @@ use Rattle.std.proofs.Common.{◌≡◌, ◌<◌, ◌||◌, ◌+◌, ℕ, Bool, 
 use Rattle.std.specs.BTreeMap.{insert_entry}
 use Rattle.std.specs.Cmp.{Equal-is}
 use Rattle.std.specs.List.{list_any}
-use Rattle.std.specs.Ordering.{is_eq}
-use Rattle.std.specs.declared.cmp.Ordering.TheVariants.{Equal}
+use Rattle.std.specs.Ordering.{is_eq, match_ordering}
+use Rattle.std.specs.declared.cmp.Ordering.TheVariants.{Less, Equal, Greater}
 use Rattle.std.specs.List.Sorted.{IsStrictlySortedBy}
 use Rattle.std.specs.Map.{keys_of, lookup}
 use Rattle.std.specs.Option.{IfSome, is_some, unwrap_or}
@@ -13,7 +13,7 @@ use Rattle.std.proofs.lemmas.List.Folds.{list_any_at, list_any_more}
 use Rattle.am_labels.specs.declared.Label.{Label}
 use Rattle.am_labels.specs.Labels.{labels_cmp, labels_total}
 use Rattle.am_members.specs.declared.group.Group.{Group}
-use Rattle.am_members.specs.Grouped.{held_at, listed}
+use Rattle.am_members.specs.Grouped.{AreFull, AreFullBut, held_at, listed}
 use Rattle.am_members.specs.Members.{is_bare}
 use Rattle.am_members.specs.Names.{is_group, is_set, without}
 use Rattle.am_members.proofs.Orders.{group_tells, group-refl, group-sym, set-refl}
@@ -54,6 +54,54 @@ list_dropped old new g look bare q = elim (group_tells q g) [
     none_in : (ms : List (List Label × ℕ)) → is_bare ms ≡ true → ms ≡ []
     none_in [] h = refl
     none_in (m ∷ ms) h = absurd (false≢true h)
+
+-- ---- groups that are listed have members
+
+-- the list of a group was written
+pub full_but : (old new : Lists) (g : Group) (now : List (List Label × ℕ))
+    → ((q : Group) → lookup (is_group q) new ≡ cond (is_group g q) (Some now) (lookup (is_group q) old)) → AreFull old → AreFullBut g new
+full_but old new g now look full q apart = rw (look q, group-sym g q, apart) (full q)
+
+-- .. with members
+pub full_written : (old new : Lists) (g : Group) (now : List (List Label × ℕ))
+    → ((q : Group) → lookup (is_group q) new ≡ cond (is_group g q) (Some now) (lookup (is_group q) old)) → is_bare now ≡ false → AreFull old → AreFull new
+full_written old new g now look some full q = elim (group_tells q g) [
+  | inl y ↦ rw (look q, group-sym g q, y.0) some
+  | inr n ↦ rw (look q, group-sym g q, n.0) (full q)
+]
+
+-- a list went
+pub full_dropped : (old new : Lists) (g : Group) → ((q : Group) → lookup (is_group q) new ≡ cond (is_group g q) None (lookup (is_group q) old))
+    → AreFullBut g old → AreFull new
+full_dropped old new g look full q = elim (group_tells q g) [
+  | inl y ↦ rw (look q, group-sym g q, y.0) tt
+  | inr n ↦ rw (look q, group-sym g q, n.0) (full q n.0)
+]
+
+-- a list stayed that has members
+pub full_there : (lists : Lists) (g : Group) → is_bare (held_at g lists) ≡ false → AreFullBut g lists → AreFull lists
+full_there lists g there full q = elim (group_tells q g) [
+  | inl y ↦ rw y.1 (found (lookup (is_group g) lists) there)
+  | inr n ↦ full q n.0
+]
+  where
+    found : (o : Option (List (List Label × ℕ))) → is_bare (listed o) ≡ false → IfSome o (λ ms. is_bare ms ≡ false)
+    found None h = tt
+    found (Some ms) h = h
+
+-- the same lists
+pub full_same : (n m : Lists) → AreFull m → n ≡ m → AreFull n
+full_same n m full same = rw same full
+
+-- who joined is there
+pub some_joined : (l : List Label) (since : ℕ) (ms : List (List Label × ℕ)) → is_bare (insert_entry labels_cmp ms l since) ≡ false
+some_joined l since [] = refl
+some_joined l since (m ∷ ms) = by_order (labels_cmp l m.0)
+  where
+    by_order : (o : Ordering) → is_bare (match_ordering o ((l, since) ∷ m ∷ ms) ((m.0, since) ∷ ms) (m ∷ insert_entry labels_cmp ms l since)) ≡ false
+    by_order Less = refl
+    by_order Equal = refl
+    by_order Greater = refl
 
 -- what a look-up gives, or else a new list without members
 pub listed_or : (o : Option (List (List Label × ℕ))) (fresh : List (List Label × ℕ)) → fresh ≡ [] → unwrap_or o fresh ≡ listed o

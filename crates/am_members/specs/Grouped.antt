@@ -6,7 +6,7 @@ use Rattle.std.specs.Cmp.Lexicographic.{slice_cmp}
 use Rattle.std.specs.List.{list_any}
 use Rattle.std.specs.List.Sorted.{IsStrictlySortedBy}
 use Rattle.std.specs.Map.{keys_of, lookup}
-use Rattle.std.specs.Option.{unwrap_or}
+use Rattle.std.specs.Option.{IfSome, unwrap_or}
 use Rattle.std.specs.Ordering.{nat_cmp}
 use Rattle.am_tenant.specs.Names.{same}
 use Rattle.am_labels.specs.declared.Label.{Label}
@@ -75,14 +75,23 @@ in_map (Some alerts) = alerts.entries
 abbrev pub held_at : Group → List (Group × List (List Label × ℕ)) → List (List Label × ℕ)
 held_at g groups = listed (lookup (is_group g) groups)
 
+-- each group that is listed has members, but perhaps this one
+abbrev pub AreFullBut : Group → List (Group × List (List Label × ℕ)) → Type 0
+AreFullBut g groups = (q : Group) → is_group q g ≡ false → IfSome (lookup (is_group q) groups) (λ ms. is_bare ms ≡ false)
+
+-- each group that is listed has members
+abbrev pub AreFull : List (Group × List (List Label × ℕ)) → Type 0
+AreFull groups = (q : Group) → IfSome (lookup (is_group q) groups) (λ ms. is_bare ms ≡ false)
+
 -- an index has of each group exactly its members
 pub record AreGrouped (alerts : List (List Label × Known)) (groups : List (Group × List (List Label × ℕ))) : Type 0 where
   pub rising : IsStrictlySortedBy labels_cmp (keys_of alerts)
   pub held : (g : Group) → held_at g groups ≡ members g alerts
 
--- the same, and where nothing is left to sweep, a group without members has no flush
+-- the same, and lists no group without members; where nothing is left to sweep, such a group has no flush
 pub record IsIndex (alerts : List (List Label × Known)) (groups : List (Group × List (List Label × ℕ))) (flushes : List (Group × ℕ)) (unswept : Bool) : Type 0 where
   pub grouped : AreGrouped alerts groups
+  pub full : AreFull groups
   pub swept : unswept ≡ false → (g : Group) → is_bare (members g alerts) ≡ true → flush_of g flushes ≡ None
 
 -- what is grouped of a tenant

@@ -6,7 +6,7 @@ ghost use Rattle.std.specs.List.{list_any};
 ghost use Rattle.std.specs.Map.{lookup};
 ghost use Rattle.am_labels.specs.Labels.{labels_cmp};
 ghost use Rattle.am_members.specs.Names.{is_group, is_set, without};
-ghost use Rattle.am_members.specs.Grouped.{held_at};
+ghost use Rattle.am_members.specs.Grouped.{AreFull, AreFullBut, held_at};
 ghost use Rattle.am_members.specs.Members.{is_bare};
 ghost use Rattle.am_members.specs.declared.group.Group.{Group as Name};
 
@@ -19,7 +19,8 @@ use std::collections::BTreeMap;
 
 /// The alert of these labels leaves all these groups. A group without members is kept no longer.
 pub fn leave_all(groups: &mut BTreeMap<Group, Members>, left: &[Group], labels: &LabelSet)
-    ensures { (q : Name) → held_at q groups.new.entries ≡ (if list_any (is_group q) left.now then without labels.now (held_at q groups.old.entries) else held_at q groups.old.entries) }
+    ensures members { (q : Name) → held_at q groups.new.entries ≡ (if list_any (is_group q) left.now then without labels.now (held_at q groups.old.entries) else held_at q groups.old.entries) }
+    ensures full { AreFull groups.old.entries → AreFull groups.new.entries }
 {
     for group in left {
         leave_one(groups, group, labels);
@@ -36,7 +37,8 @@ pub fn join_all(
     since: Moment,
 ) -> Result<(), AllocError>
     requires { (q : Name) → list_any (is_group q) joined.now ≡ true → lookup (is_set labels.now) (held_at q groups.old.entries) ≡ None }
-    ensures { OnOk result ((q : Name) → held_at q groups.new.entries ≡ (if list_any (is_group q) joined.now then insert_entry labels_cmp (held_at q groups.old.entries) labels.now since else held_at q groups.old.entries)) }
+    ensures members { OnOk result ((q : Name) → held_at q groups.new.entries ≡ (if list_any (is_group q) joined.now then insert_entry labels_cmp (held_at q groups.old.entries) labels.now since else held_at q groups.old.entries)) }
+    ensures full { OnOk result (AreFull groups.old.entries → AreFull groups.new.entries) }
 {
     for group in joined {
         join_one(alloc, groups, group, labels, since)?;
@@ -56,7 +58,8 @@ pub fn is_bare_in(groups: &BTreeMap<Group, Members>, group: &Group) -> bool
 
 // The alert leaves one group.
 fn leave_one(groups: &mut BTreeMap<Group, Members>, group: &Group, labels: &LabelSet)
-    ensures { (q : Name) → held_at q groups.new.entries ≡ (if is_group q group.now then without labels.now (held_at q groups.old.entries) else held_at q groups.old.entries) }
+    ensures members { (q : Name) → held_at q groups.new.entries ≡ (if is_group q group.now then without labels.now (held_at q groups.old.entries) else held_at q groups.old.entries) }
+    ensures full { AreFull groups.old.entries → AreFullBut group.now groups.new.entries }
 {
     if let Some(held) = groups.get_mut(group) {
         held.remove(labels);
@@ -65,7 +68,8 @@ fn leave_one(groups: &mut BTreeMap<Group, Members>, group: &Group, labels: &Labe
 
 // The group goes where it has no members.
 fn tidy(groups: &mut BTreeMap<Group, Members>, group: &Group)
-    ensures { (q : Name) → held_at q groups.new.entries ≡ held_at q groups.old.entries }
+    ensures members { (q : Name) → held_at q groups.new.entries ≡ held_at q groups.old.entries }
+    ensures full { AreFullBut group.now groups.old.entries → AreFull groups.new.entries }
 {
     if is_bare_in(groups, group) {
         groups.remove(group);
@@ -81,7 +85,8 @@ fn join_one(
     since: Moment,
 ) -> Result<(), AllocError>
     requires { IfSome (lookup (is_set labels.now) (held_at group.now groups.old.entries)) (λ held. held ≡ since) }
-    ensures { OnOk result ((q : Name) → held_at q groups.new.entries ≡ (if is_group q group.now then insert_entry labels_cmp (held_at q groups.old.entries) labels.now since else held_at q groups.old.entries)) }
+    ensures members { OnOk result ((q : Name) → held_at q groups.new.entries ≡ (if is_group q group.now then insert_entry labels_cmp (held_at q groups.old.entries) labels.now since else held_at q groups.old.entries)) }
+    ensures full { OnOk result (AreFull groups.old.entries → AreFull groups.new.entries) }
 {
     let own = group.copy()?;
     let held = groups.entry(own)?.or_insert(Members::new(alloc));

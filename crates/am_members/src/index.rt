@@ -7,7 +7,7 @@ ghost use Rattle.std.specs.List.Sorted.{IsStrictlySortedBy};
 ghost use Rattle.std.specs.Map.{keys_of, lookup};
 ghost use Rattle.std.specs.Option.{is_some, option_copied};
 ghost use Rattle.am_labels.specs.Labels.{labels_cmp};
-ghost use Rattle.am_members.specs.Grouped.{AreGrouped, flush_of, flushed_at, held_at, kept_after, listed, living, members, nothing, put_in};
+ghost use Rattle.am_members.specs.Grouped.{AreFull, AreGrouped, flush_of, flushed_at, held_at, kept_after, listed, living, members, nothing, put_in};
 ghost use Rattle.am_members.specs.Members.{is_bare};
 ghost use Rattle.am_members.specs.Names.{is_group, is_set, without};
 
@@ -171,6 +171,7 @@ fn replace(
 ) -> Result<bool, AllocError>
     requires { AreGrouped alerts.old.entries groups.old.entries }
     ensures grouped { OnOk result (AreGrouped alerts.new.entries groups.new.entries) }
+    ensures full { OnOk result (AreFull groups.old.entries → AreFull groups.new.entries) }
     ensures put { OnOk result (alerts.new.entries ≡ put_in labels.now known alerts.old.entries) }
     ensures replaced { IfOk result (λ replaced. replaced ≡ is_some (lookup (is_set labels.now) alerts.old.entries)) }
 {
@@ -198,6 +199,7 @@ fn forget(
 ) -> Option<Known>
     requires { AreGrouped alerts.old.entries groups.old.entries }
     ensures grouped { AreGrouped alerts.new.entries groups.new.entries }
+    ensures full { AreFull groups.old.entries → AreFull groups.new.entries }
     ensures left { alerts.new.entries ≡ without labels.now alerts.old.entries }
     ensures known { result ≡ lookup (is_set labels.now) alerts.old.entries }
 {
@@ -217,6 +219,7 @@ fn hold(
     requires grouped { AreGrouped alerts.old.entries groups.old.entries }
     requires absent { lookup (is_set labels) alerts.old.entries ≡ None }
     ensures grouped { OnOk result (AreGrouped alerts.new.entries groups.new.entries) }
+    ensures full { OnOk result (AreFull groups.old.entries → AreFull groups.new.entries) }
     ensures held { OnOk result (alerts.new.entries ≡ insert_entry labels_cmp alerts.old.entries labels known) }
 {
     join_all(alloc, groups, known.groups.as_slice(), &labels, known.since)?;
@@ -235,6 +238,7 @@ fn hold_all(
     requires none { alerts.old.entries ≡ [] }
     requires rising { IsStrictlySortedBy labels_cmp (keys_of list.items) }
     ensures grouped { OnOk result (AreGrouped alerts.new.entries groups.new.entries) }
+    ensures full { OnOk result (AreFull groups.old.entries → AreFull groups.new.entries) }
     ensures held { OnOk result (alerts.new.entries ≡ list.items) }
 {
     while let Some((labels, known)) = list.pop() {

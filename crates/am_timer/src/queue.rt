@@ -103,8 +103,8 @@ impl TimerQueue {
         ensures looked { IfOk result (λ given. self.new.looked ≡ length given.items + min 1 (length self.old.timers - length given.items)) }
         ensures err_looked { OnErr result (self.new.looked ≡ self.old.looked) }
     {
-        let due = first_due(alloc, &self.by_due, now)?;
-        self.looked = due.len() + self.by_due.len().saturating_sub(due.len()).min(1);
+        let (due, looked) = first_due(alloc, &self.by_due, now)?;
+        self.looked = looked;
         Ok(due)
     }
 
@@ -144,19 +144,26 @@ fn leave(by_due: &mut BTreeSet<Timer>, dues: &mut BTreeMap<TimerName, Moment>, t
     dues.retain(|name, _| name.tenant != *tenant);
 }
 
-// The timers that are due, in their order.
-fn first_due(alloc: Global, by_due: &BTreeSet<Timer>, now: Moment) -> Result<Vec<Timer>, AllocError>
+// The timers that are due, in their order, and how many timers it looked at.
+fn first_due(
+    alloc: Global,
+    by_due: &BTreeSet<Timer>,
+    now: Moment,
+) -> Result<(Vec<Timer>, usize), AllocError>
     requires { IsStrictlySortedBy timer_cmp by_due.now.keys }
-    ensures { IfOk result (λ due. due.items ≡ due_at now by_due.now.keys) }
+    ensures due { IfOk result (λ found. found.0.items ≡ due_at now by_due.now.keys) }
+    ensures looked { IfOk result (λ found. found.1 ≡ length found.0.items + min 1 (length by_due.now.keys - length found.0.items)) }
 {
     let mut due = Vec::new(alloc);
+    let mut looked = 0;
     for timer in by_due {
+        looked += 1;
         if timer.due > now {
             break;
         }
         due.push(timer.copy(alloc)?)?;
     }
-    Ok(due)
+    Ok((due, looked))
 }
 
 // Takes the timer of this name out of both maps.

@@ -6,8 +6,9 @@ use Rattle.std.specs.Map.{lookup}
 use Rattle.std.proofs.lemmas.Result.{on_ok_weaker}
 use Rattle.am_labels.specs.Labels.{labels_cmp}
 use Rattle.am_members.specs.Grouped.{held_at}
+use Rattle.am_members.specs.Members.{is_bare}
 use Rattle.am_members.specs.Names.{is_group}
-use Rattle.am_members.proofs.Changes.{held_same, list_written, listed_or}
+use Rattle.am_members.proofs.Changes.{full_same, full_written, held_same, list_written, listed_or, some_joined}
 use Rattle.am_members.proofs.change.join_one.Goals as goal
 
 pub add-requires : goal.add-requires
@@ -17,8 +18,8 @@ add-requires c =
     c.or_insert-held.ensures.value ∙ ap (λ o. unwrap_or o c.new.result) c.in_ok-groups.ensures.value ∙ listed_or (lookup (is_group c.in_ok-own.own) old) c.new.result c.new.ensures ∙ ap (λ g. held_at g old) c.in_ok-own.ensures in
     rw found c.requires
 
-pub returns : goal.returns
-returns c =
+pub returns-clause-members : goal.returns-clause-members
+returns-clause-members c =
     let old = c.args.groups.now.entries in
     let now = c.add.new.self in
     let after = map_with_value c.in_ok-groups.field-0 now in
@@ -29,5 +30,18 @@ returns c =
     held_same q _ after.entries _
     (list_written old after.entries c.args.group.now c.or_insert-held.result.now now (λ ms. insert_entry labels_cmp ms c.args.labels.now c.args.since)
     (rw c.in_ok-own.ensures at (c.in_ok-groups.ensures.update.0 now).0) found added q)
+    (search rules))
+    c.add.ensures
+
+pub returns-clause-full : goal.returns-clause-full
+returns-clause-full c =
+    let old = c.args.groups.now.entries in
+    let now = c.add.new.self in
+    let after = map_with_value c.in_ok-groups.field-0 now in
+    on_ok_weaker c.add.result
+    (λ added full.
+    full_same _ after.entries
+    (full_written old after.entries c.args.group.now now (rw c.in_ok-own.ensures at (c.in_ok-groups.ensures.update.0 now).0)
+    (ap is_bare added ∙ some_joined c.args.labels.now c.args.since c.or_insert-held.result.now) full)
     (search rules))
     c.add.ensures

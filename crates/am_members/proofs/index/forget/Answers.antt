@@ -10,7 +10,7 @@ returns-in_err-known-clause-left c = removed_all (is_set c.args.labels.now) _ _ 
 pub returns-clause-grouped : goal.returns-clause-grouped
 returns-clause-grouped c =
     grouped_left c.args.alerts.now.entries c.remove.new.self.entries c.args.groups.now.entries c.leave_all.new.groups.entries c.args.labels.now c.in_ok-known.known c.requires
-    (sym c.in_ok-known.ensures.value) (removed_all (is_set c.args.labels.now) _ _ c.in_ok-known.ensures.entries c.in_ok-known.ensures.updates.1) c.in_ok-known.ensures.ordered (λ q. rw c.as_slice.ensures at (c.leave_all.ensures q))
+    (sym c.in_ok-known.ensures.value) (removed_all (is_set c.args.labels.now) _ _ c.in_ok-known.ensures.entries c.in_ok-known.ensures.updates.1) c.in_ok-known.ensures.ordered (λ q. rw c.as_slice.ensures at (c.leave_all.ensures.members q))
 
 pub returns-clause-left : goal.returns-clause-left
 returns-clause-left c = removed_all (is_set c.args.labels.now) _ _ c.in_ok-known.ensures.entries c.in_ok-known.ensures.updates.1

@@ -7,4 +7,4 @@ join_all-requires c = λ q listed. may_join_all c.args.alerts.now.entries c.args
 pub returns-clause-grouped : goal.returns-clause-grouped
 returns-clause-grouped c =
     grouped_put c.args.alerts.now.entries c.insert.new.self.entries c.args.groups.now.entries c.join_all.new.groups.entries c.args.labels c.args.known c.requires.grouped c.requires.absent
-    c.in_ok-insert.ensures.entries c.in_ok-insert.ensures.ordered (λ q. rw c.as_slice.ensures at (c.in_ok-join_all.ensures q))
+    c.in_ok-insert.ensures.entries c.in_ok-insert.ensures.ordered (λ q. rw c.as_slice.ensures at (c.in_ok-join_all.ensures.members q))

@@ -3,7 +3,6 @@ use Rattle.std.specs.BTreeMap.{insert_entry}
 use Rattle.std.specs.BTreeMap.Entry.{entry_value, map_with_value}
 use Rattle.std.specs.Map.{lookup}
 use Rattle.am_labels.specs.Labels.{labels_cmp}
-use Rattle.am_members.specs.Grouped.{AreGrouped, put_in}
 use Rattle.am_members.specs.Names.{is_set, without}
 use Rattle.am_members.proofs.Grouping.{absent_after, grouped_put, grouped_same, may_join_all}
 use Rattle.am_members.proofs.Putting.{left_behind, put_new, put_over}
@@ -22,7 +21,7 @@ join_all-requires-in-Occupied c = λ q listed.
     let there : lookup (is_set l) ys ≡ Some c.get.result.now =
     ap (λ k. lookup (is_set k) ys) (sym c.in_ok-own.ensures) ∙ sym c.in_ok-place.ensures.value ∙ ap entry_value c.in-Occupied.is ∙ c.get.ensures in
     may_join_all (without l ys) c.leave_all.new.groups.entries l
-    (left_behind ys c.args.groups.now.entries c.leave_all.new.groups.entries l c.get.result.now c.requires there (λ q. rw c.as_slice-in-Occupied.ensures at (c.leave_all.ensures q)))
+    (left_behind ys c.args.groups.now.entries c.leave_all.new.groups.entries l c.get.result.now c.requires there (λ q. rw c.as_slice-in-Occupied.ensures at (c.leave_all.ensures.members q)))
     (absent_after l ys) q
 
 pub returns-in_ok-join_all-in-Vacant-clause-grouped : goal.returns-in_ok-join_all-in-Vacant-clause-grouped
@@ -35,7 +34,7 @@ returns-in_ok-join_all-in-Vacant-clause-grouped c =
     grouped_same after.entries _ c.join_all.new.groups.entries
     (grouped_put ys after.entries c.args.groups.now.entries c.join_all.new.groups.entries l c.args.known c.requires
     (ap (λ k. lookup (is_set k) ys) (sym c.in_ok-own.ensures) ∙ vacant) put (c.in_ok-place.ensures.update.2 c.args.known)
-    (λ q. rw c.as_slice.ensures at (c.in_ok-join_all-in-Vacant.ensures q)))
+    (λ q. rw c.as_slice.ensures at (c.in_ok-join_all-in-Vacant.ensures.members q)))
     (search rules)
 
 pub returns-in_ok-join_all-in-Vacant-clause-put : goal.returns-in_ok-join_all-in-Vacant-clause-put
@@ -58,9 +57,9 @@ returns-in_ok-join_all-in-Occupied-clause-grouped c =
     let put : after.entries ≡ insert_entry labels_cmp ys l c.args.known = rw c.in_ok-own.ensures at (c.in_ok-place.ensures.update.1 c.args.known) in
     grouped_same after.entries _ c.join_all-in-Occupied.new.groups.entries
     (grouped_put (without l ys) after.entries c.leave_all.new.groups.entries c.join_all-in-Occupied.new.groups.entries l c.args.known
-    (left_behind ys c.args.groups.now.entries c.leave_all.new.groups.entries l c.get.result.now c.requires there (λ q. rw c.as_slice-in-Occupied.ensures at (c.leave_all.ensures q)))
+    (left_behind ys c.args.groups.now.entries c.leave_all.new.groups.entries l c.get.result.now c.requires there (λ q. rw c.as_slice-in-Occupied.ensures at (c.leave_all.ensures.members q)))
     (absent_after l ys) (put ∙ put_over l c.args.known ys c.requires.rising) (c.in_ok-place.ensures.update.2 c.args.known)
-    (λ q. rw c.as_slice-in-Occupied-2.ensures at (c.in_ok-join_all-in-Occupied.ensures q)))
+    (λ q. rw c.as_slice-in-Occupied-2.ensures at (c.in_ok-join_all-in-Occupied.ensures.members q)))
     (search rules)
 
 pub returns-in_ok-join_all-in-Occupied-clause-put : goal.returns-in_ok-join_all-in-Occupied-clause-put
@@ -70,3 +69,6 @@ returns-in_ok-join_all-in-Occupied-clause-put c =
     let after = map_with_value c.in_ok-place.field-0 c.args.known in
     let put : after.entries ≡ insert_entry labels_cmp ys l c.args.known = rw c.in_ok-own.ensures at (c.in_ok-place.ensures.update.1 c.args.known) in
     (let same : _ ≡ after.entries = search rules in same) ∙ put ∙ put_over l c.args.known ys c.requires.rising
+
+pub returns-in_ok-join_all-in-Occupied-clause-full : goal.returns-in_ok-join_all-in-Occupied-clause-full
+returns-in_ok-join_all-in-Occupied-clause-full c = λ full. c.in_ok-join_all-in-Occupied.ensures.full (c.leave_all.ensures.full full)

@@ -6,6 +6,7 @@ use Rattle.am_members.proofs.index.Index.forget_empty.Goals as goal
 pub invariant_of-self : goal.invariant_of-self
 invariant_of-self c = record {
   grouped = c.self.invariant.grouped;
+  full = c.self.invariant.full;
   swept = λ _.
       let x : Grouped = record { alerts = c.self.inside.alerts.entries; flushes = c.self.inside.flushes.entries } in
       swept_now x c.self.inside.groups.entries c.sweep.new.flushes.entries c.self.invariant.grouped c.sweep.ensures;

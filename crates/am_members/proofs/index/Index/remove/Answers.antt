@@ -8,7 +8,7 @@ use Rattle.am_members.proofs.index.Index.remove.Goals as goal
 pub invariant_of-self : goal.invariant_of-self
 invariant_of-self c =
     let same : c.forget.new.alerts.entries ≡ c.self.inside.alerts.entries = c.in_err-known.ensures.left ∙ all_left (is_set c.args.labels.now) c.self.inside.alerts.entries (sym c.in_err-known.ensures.known) in
-    record { grouped = c.in_err-known.ensures.grouped; swept = λ swept q. rw same (c.self.invariant.swept swept q) }
+    record { grouped = c.in_err-known.ensures.grouped; full = c.in_err-known.ensures.full c.self.invariant.full; swept = λ swept q. rw same (c.self.invariant.swept swept q) }
 
 pub returns-in_err-known-clause-flushes : goal.returns-in_err-known-clause-flushes
 returns-in_err-known-clause-flushes c =
@@ -22,6 +22,7 @@ invariant_of-self-2 c =
     let new = c.forget.new.alerts.entries in
     record {
       grouped = c.in_ok-known.ensures.grouped;
+      full = c.in_ok-known.ensures.full c.self.invariant.full;
       swept = λ swept.
           swept_after x c.args.labels.now new c.forget_lost.new.flushes.entries (c.self.invariant.swept swept) c.in_ok-known.ensures.left
           (all_lost x new c.forget.new.groups.entries c.forget_lost.new.flushes.entries c.args.labels.now c.in_ok-known.known c.as_slice.result.now
