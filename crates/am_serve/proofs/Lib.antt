@@ -1,9 +1,10 @@
+pub mod ActLists
 pub mod Steps
 pub mod Sums
 pub mod Turns
 pub mod Calling
 pub mod CallTurns
-pub mod Misses
+pub mod Answered
 pub mod LaneChanges
 pub mod LaneTurns
 pub mod LaneWrites

@@ -7,6 +7,7 @@ use Rattle.slab.specs.Slab.{Slab, get, with_value}
 use Rattle.am_serve.specs.declared.client.Client.{Client}
 use Rattle.am_serve.specs.declared.client.Turn.{Turn}
 use Rattle.am_serve.specs.declared.host.Verdict.{Verdict}
+use Rattle.am_serve.specs.Acts.{Act}
 use Rattle.am_serve.specs.Clients.{Turned, excess_of, lets_go}
 use Rattle.am_serve.specs.Pools.{excess_in, most_for}
 use Rattle.am_serve.specs.Tables.{LetsGo, TakesTurnAt}
@@ -22,19 +23,19 @@ module _ {T : Type 0} where
   pub get_with : (table : Slab T) (key : ℕ) (old new : T) → Some old ≡ get table key → get (with_value table key new) key ≡ Some new
   get_with table key old new h = get_or-set_same table.slots key (Some new) None (within table.slots key old h)
 
-module _ {S H : Type 0} (remaining contents : S → Option (List ℕ)) (blocked broken : S → Type 0) (takes : H → ℕ → List ℕ → Verdict → H → Type 0) (closes : H → ℕ → H → Type 0) (now : Instant) where
+module _ {S H : Type 0} (does : S → Act → S → Type 0) (takes : H → ℕ → List ℕ → Verdict → H → Type 0) (closes : H → ℕ → H → Type 0) (now : Instant) where
   abbrev At : Slab (Client S) → Slab (Client S) → ℕ → Option (Client S) → H → H → Option Turn → Type 0
-  At old new key slot before after result = TakesTurnAt remaining contents blocked broken takes closes now old new key slot before after result
+  At old new key slot before after result = TakesTurnAt does takes closes now old new key slot before after result
 
   -- the bound of the turn is that of the table
   bounded : (pooled excess : ℕ) (slots : List (Option (Client S))) (client last : Client S) (before middle : H) (turn : Turn) → pooled ≡ excess_in slots → excess ≡ excess_of client
-      → Turned remaining contents blocked broken takes (32768 + (33554432 - (pooled - excess))) now client last before middle turn → Turned remaining contents blocked broken takes (most_for slots client) now client last before middle turn
+      → Turned does takes 16 (32768 + (33554432 - (pooled - excess))) now client last before middle turn → Turned does takes 16 (most_for slots client) now client last before middle turn
   bounded pooled excess slots client last before middle turn p e h =
-      subst (λ (most : ℕ). Turned remaining contents blocked broken takes most now client last before middle turn) (ap (λ n. 32768 + (33554432 - (n - excess))) p ∙ ap (λ n. 32768 + (33554432 - (excess_in slots - n))) e) h
+      subst (λ (most : ℕ). Turned does takes 16 most now client last before middle turn) (ap (λ n. 32768 + (33554432 - (n - excess))) p ∙ ap (λ n. 32768 + (33554432 - (excess_in slots - n))) e) h
 
   -- the client is kept
   pub kept : (old : Slab (Client S)) (key pooled excess : ℕ) (client last : Client S) (before middle : H) (turn : Turn) → Some client ≡ get old key → pooled ≡ excess_in old.slots → excess ≡ excess_of client
-      → Turned remaining contents blocked broken takes (32768 + (33554432 - (pooled - excess))) now client last before middle turn → lets_go turn ≡ false → At old (with_value old key last) key (get old key) before middle (Some turn)
+      → Turned does takes 16 (32768 + (33554432 - (pooled - excess))) now client last before middle turn → lets_go turn ≡ false → At old (with_value old key last) key (get old key) before middle (Some turn)
   kept old key pooled excess client last before middle turn here p e turned stays =
       subst (λ slot. At old (with_value old key last) key slot before middle (Some turn)) here record {
         last = last;
@@ -46,7 +47,7 @@ module _ {S H : Type 0} (remaining contents : S → Option (List ℕ)) (blocked 
 
   -- the client is let go
   pub let_go : (old new : Slab (Client S)) (key pooled excess : ℕ) (client last : Client S) (before middle after : H) (turn : Turn) → Some client ≡ get old key → pooled ≡ excess_in old.slots → excess ≡ excess_of client
-      → Turned remaining contents blocked broken takes (32768 + (33554432 - (pooled - excess))) now client last before middle turn → lets_go turn ≡ true
+      → Turned does takes 16 (32768 + (33554432 - (pooled - excess))) now client last before middle turn → lets_go turn ≡ true
       → IfSome (get (with_value old key last) key) (λ there. LetsGo closes there (get new key) middle after) → At old new key (get old key) before after (Some turn)
   let_go old new key pooled excess client last before middle after turn here p e turned goes left =
       subst (λ slot. At old new key slot before after (Some turn)) here record {

@@ -2,9 +2,11 @@
 use Rattle.std.specs.Prelude.{◌≡◌, ℕ, List, Option, Some, None}
 use Rattle.std.specs.declared.time.Instant.{Instant}
 use Rattle.slab.specs.Slab.{Slab, get}
-use Rattle.am_serve.specs.Calls.{CallEnds, CallMoves, IsFirstCall}
+use Rattle.am_serve.specs.Acts.{Act}
+use Rattle.am_serve.specs.Calls.{CallWorks, IsFirstCall}
 use Rattle.am_serve.specs.Tables.{Others}
 use Rattle.am_serve.specs.declared.call.Call.{Call}
+use Rattle.am_serve.specs.declared.call.Step.{Step}
 use Rattle.am_serve.specs.declared.call.Step.TheVariants.{More as StepMore, Waits as StepWaits, Ended as StepEnded}
 use Rattle.am_serve.specs.declared.calls.Progress.{Progress}
 use Rattle.am_serve.specs.declared.calls.Progress.TheVariants.{More, Waits, Ended}
@@ -19,15 +21,22 @@ module _ {S N : Type 0} where
     pub others : Others old new key
     pub first : IsFirstCall socket request name now call
 
-module _ {S N : Type 0} (remaining contents : S → Option (List ℕ)) (blocked broken : S → Type 0) where
-  -- a call of a table took its turn, which left it so
-  abbrev pub CallTurn : Call S N → Call S N → Option (Call S N) → Progress N → Type 0
-  CallTurn call last slot More = CallEnds blocked broken last StepMore × (slot ≡ Some last)
-  CallTurn call last slot Waits = CallEnds blocked broken last StepWaits × (slot ≡ Some last)
-  CallTurn call last slot (Ended name status) = CallEnds blocked broken last (StepEnded status) × (slot ≡ None) × (name ≡ call.name)
+-- what a call's turn came to, but for its name
+abbrev pub step_of : {N : Type 0} → Progress N → Step
+step_of More = StepMore
+step_of Waits = StepWaits
+step_of (Ended _ status) = StepEnded status
 
+module _ {S N : Type 0} where
+  -- a call of a table is kept as its turn left it, or was let go
+  abbrev pub Leaves : Call S N → Call S N → Option (Call S N) → Progress N → Type 0
+  Leaves call last slot More = slot ≡ Some last
+  Leaves call last slot Waits = slot ≡ Some last
+  Leaves call last slot (Ended name _) = (slot ≡ None) × (name ≡ call.name)
+
+module _ {S N : Type 0} (does : S → Act → S → Type 0) where
   -- what a turn at a key does; it does nothing where no call has the key
   abbrev pub CallTurnAt : Slab (Call S N) → Slab (Call S N) → ℕ → Option (Call S N) → Option (Progress N) → Type 0
   CallTurnAt old new key None result = (result ≡ None) × (new ≡ old)
   CallTurnAt old new key (Some call) None = ⊥
-  CallTurnAt old new key (Some call) (Some progress) = (last : Call S N) × CallMoves remaining contents call last × CallTurn call last (get new key) progress
+  CallTurnAt old new key (Some call) (Some progress) = (last : Call S N) × CallWorks does 16 call last (step_of progress) × Leaves call last (get new key) progress

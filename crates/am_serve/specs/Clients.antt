@@ -1,9 +1,9 @@
 -- What a turn of a client does.
-use Rattle.std.specs.Prelude.{◌≡◌, ◌⊎◌, ℕ, ◌+◌, ◌-◌, ◌/◌, ◌<◌, ◌≤◌, Bool, true, false, ◌||◌, List, [], ◌++◌, ◌∷◌, length, slice_get, Option, Some, ⊤}
+use Rattle.std.specs.Prelude.{◌≡◌, ◌⊎◌, ℕ, ◌+◌, ◌-◌, ◌/◌, ◌<◌, ◌≤◌, Bool, true, false, ◌||◌, if◌then◌else◌, List, [], ◌++◌, ◌∷◌, length, slice_get, Some, ⊤}
 use Rattle.std.specs.List.{FoldsTo}
-use Rattle.std.specs.Io.KnownBytes.{Appends, Consumes}
 use Rattle.std.specs.Time.{instant_nanos}
 use Rattle.std.specs.declared.time.Instant.{Instant}
+use Rattle.am_serve.specs.Acts.{Act, Read, Write, Finish, EndsWith, moves_in, read_in, written_in}
 use Rattle.am_serve.specs.Outgoings.{unsent}
 use Rattle.am_serve.specs.declared.client.Client.{Client}
 use Rattle.am_serve.specs.declared.client.Stage.{Stage}
@@ -12,6 +12,8 @@ use Rattle.am_serve.specs.declared.client.Turn.{Turn}
 use Rattle.am_serve.specs.declared.client.Turn.TheVariants.{More, Waits, Crowded, Answered, Drains, Drained, Lost, Gone as IsGone}
 use Rattle.am_serve.specs.declared.host.Verdict.{Verdict}
 use Rattle.am_serve.specs.declared.host.Verdict.TheVariants.{Undecided, Reply, Gone}
+use Rattle.am_serve.specs.declared.socket.Moved.{Moved}
+use Rattle.am_serve.specs.declared.socket.Moved.TheVariants.{Blocked, Broken}
 
 -- a turn lets its client go
 abbrev pub lets_go : Turn → Bool
@@ -139,21 +141,19 @@ module _ {S H : Type 0} (takes : H → ℕ → List ℕ → Verdict → H → Ty
     pub released : (IsAsking new.stage → ⊥) → new.held ≡ 0
     pub rest : new ≡ record old { stage = new.stage; held = new.held }
 
-module _ {S : Type 0} (remaining contents : S → Option (List ℕ)) where
+module _ {S : Type 0} where
   -- a client read these pieces, which its host took, and perhaps wrote, and threw bytes away
-  pub record Moves (now : Instant) (old new : Client S) (heard : List Heard) : Type 0 where
-    pub wrote : List ℕ
+  pub record Moves (old new : Client S) (heard : List Heard) (acts : List Act) : Type 0 where
     pub thrown : List ℕ
     -- what left the socket is what the host took, in order, and what was thrown away afterwards
-    pub read : Consumes (remaining old.socket) (remaining new.socket) (bytes_of heard ++ thrown)
-    pub written : Appends (contents old.socket) (contents new.socket) wrote
+    pub read : read_in acts ≡ bytes_of heard ++ thrown
     -- what was written is a first part of the host's reply, and what is left to be said is the rest
-    pub said : wrote ++ unsaid new.stage ≡ unsaid old.stage ++ replies_of heard
+    pub said : written_in acts ++ unsaid new.stage ≡ unsaid old.stage ++ replies_of heard
     pub decided : DecidesLast heard
     pub asked : IsAsking old.stage ⊎ (heard ≡ [])
-    pub asks : IsAsking new.stage → IsAsking old.stage × AllUndecided heard × (thrown ≡ [])
-    -- a byte that moved is known by its moment
-    pub timed : (new.moved ≡ now) ⊎ ((new.moved ≡ old.moved) × (heard ≡ []) × (wrote ≡ []) × (thrown ≡ []))
+    pub asks : IsAsking new.stage → IsAsking old.stage × AllUndecided heard
+    -- only of a client to whom nothing is left to be said bytes are thrown away
+    pub threw : IsDraining old.stage ⊎ (thrown ≡ [])
     -- what the host holds is what it took undecided, and nothing once it decided
     pub grows : IsAsking new.stage → new.held ≡ old.held + length (bytes_of heard)
     pub released : IsAsking old.stage → (IsAsking new.stage → ⊥) → new.held ≡ 0
@@ -163,22 +163,65 @@ module _ {S : Type 0} (remaining contents : S → Option (List ℕ)) where
     pub connection : new.connection ≡ old.connection
     pub since : new.opened ≡ old.opened
 
-module _ {S : Type 0} (blocked broken : S → Type 0) (most : ℕ) (now : Instant) where
   -- why a turn ended as it did
-  abbrev pub Ends : Client S → Client S → List Heard → Turn → Type 0
-  Ends old new heard More = ((new.moved ≡ now) ⊎ blocked new.socket) × (says_gone heard ≡ false)
-  Ends old new heard Waits = blocked new.socket × (says_gone heard ≡ false)
-  Ends old new heard Crowded = IsAsking new.stage × (most < new.held + 4096) × (says_gone heard ≡ false)
-  Ends old new heard Answered = IsTold new.stage × IsSuccess (whole_reply old.stage ++ replies_of heard) × (says_gone heard ≡ false)
-  Ends old new heard Drains = (IsDraining old.stage → ⊥) × IsDraining new.stage × (IsSuccess (whole_reply old.stage ++ replies_of heard) → ⊥) × (says_gone heard ≡ false)
-  Ends old new heard Drained = IsDraining new.stage × broken new.socket × (says_gone heard ≡ false)
-  Ends old new heard Lost = (IsAsking new.stage ⊎ IsTelling new.stage) × broken new.socket × (says_gone heard ≡ false)
-  Ends old new heard IsGone = IsDraining new.stage × (says_gone heard ≡ true)
+  abbrev pub Ends : ℕ → Client S → Client S → List Heard → Turn → Type 0
+  Ends most old new heard More = (IsDraining new.stage → IsDraining old.stage) × (says_gone heard ≡ false)
+  Ends most old new heard Waits = (IsDraining new.stage → IsDraining old.stage) × (IsTold new.stage → ⊥) × (says_gone heard ≡ false)
+  Ends most old new heard Crowded = IsAsking new.stage × (most < new.held + 4096) × (says_gone heard ≡ false)
+  Ends most old new heard Answered = IsTold new.stage × IsSuccess (whole_reply old.stage ++ replies_of heard) × (says_gone heard ≡ false)
+  Ends most old new heard Drains = (IsDraining old.stage → ⊥) × IsDraining new.stage × (IsSuccess (whole_reply old.stage ++ replies_of heard) → ⊥) × (says_gone heard ≡ false)
+  Ends most old new heard Drained = IsDraining old.stage × IsDraining new.stage × (says_gone heard ≡ false)
+  Ends most old new heard Lost = (IsDraining new.stage → ⊥) × (IsTold new.stage → ⊥) × (says_gone heard ≡ false)
+  Ends most old new heard IsGone = IsDraining new.stage × (says_gone heard ≡ true)
 
-module _ {S H : Type 0} (remaining contents : S → Option (List ℕ)) (blocked broken : S → Type 0) (takes : H → ℕ → List ℕ → Verdict → H → Type 0) where
+-- what a client at this stage asks of its socket, where that comes to this and moves nothing
+abbrev pub act_at : Stage → Moved → Act
+act_at Asking moved = Read moved []
+act_at (Telling _) moved = Write moved []
+act_at Draining moved = Read moved []
+
+-- for what a turn ended, where the socket was asked for it
+abbrev pub last_of : Turn → Stage → List Act
+last_of More stage = []
+last_of Waits stage = act_at stage Blocked ∷ []
+last_of Crowded stage = []
+last_of Answered stage = []
+last_of Drains stage = Finish ∷ []
+last_of Drained stage = act_at stage Broken ∷ []
+last_of Lost stage = act_at stage Broken ∷ []
+last_of IsGone stage = []
+
+-- a client waited for room
+abbrev pub is_crowded : Turn → Bool
+is_crowded More = false
+is_crowded Waits = false
+is_crowded Crowded = true
+is_crowded Answered = false
+is_crowded Drains = false
+is_crowded Drained = false
+is_crowded Lost = false
+is_crowded IsGone = false
+
+-- since when a client is silent: since now, where a byte was moved or it waited for room
+abbrev pub silent_since : Instant → Instant → Turn → List Act → Instant
+silent_since now before turn acts = if is_crowded turn || moves_in acts then now else before
+
+module _ {S : Type 0} (does : S → Act → S → Type 0) where
+  -- what a client and its socket did in a turn of at most so many steps, each of which asks the socket for one thing; it
+  -- made them all where it may go on at once
+  pub record Works (steps most : ℕ) (now : Instant) (old new : Client S) (heard : List Heard) (turn : Turn) : Type 0 where
+    pub acts : List Act
+    pub done : FoldsTo does old.socket acts new.socket
+    pub last : EndsWith (last_of turn new.stage) acts
+    pub few : length acts ≤ steps
+    pub all : turn ≡ More → length acts ≡ steps
+    pub moves : Moves old new heard acts
+    pub timed : new.moved ≡ silent_since now old.moved turn acts
+    pub ends : Ends most old new heard turn
+
+module _ {S H : Type 0} (does : S → Act → S → Type 0) (takes : H → ℕ → List ℕ → Verdict → H → Type 0) where
   -- the host took what a client read in a turn, piece by piece
-  pub record Turned (most : ℕ) (now : Instant) (old new : Client S) (before after : H) (turn : Turn) : Type 0 where
+  pub record Turned (steps most : ℕ) (now : Instant) (old new : Client S) (before after : H) (turn : Turn) : Type 0 where
     pub heard : List Heard
     pub taken : FoldsTo (λ host e next. takes host old.connection e.0 e.1 next) before heard after
-    pub moves : Moves remaining contents now old new heard
-    pub ends : Ends blocked broken most now old new heard turn
+    pub works : Works does steps most now old new heard turn

@@ -1,4 +1,5 @@
 pub mod Sockets
+pub mod Acts
 pub mod Outgoings
 pub mod Clients
 pub mod Pools

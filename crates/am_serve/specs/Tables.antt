@@ -2,6 +2,7 @@
 use Rattle.std.specs.Prelude.{◌≡◌, ◌≢◌, ◌⊎◌, ℕ, ◌+◌, Bool, true, false, List, Option, Some, None, IsSomeAnd}
 use Rattle.std.specs.declared.time.Instant.{Instant}
 use Rattle.slab.specs.Slab.{Slab, get}
+use Rattle.am_serve.specs.Acts.{Act}
 use Rattle.am_serve.specs.Clients.{IsAsking, Turned, first_client, lets_go}
 use Rattle.am_serve.specs.Pools.{most_for}
 use Rattle.am_serve.specs.declared.client.Client.{Client}
@@ -34,12 +35,12 @@ module _ {S H : Type 0} (closes : H → ℕ → H → Type 0) where
     pub closed : IsAsking client.stage → closes before client.connection after
     pub kept : (IsAsking client.stage → ⊥) → after ≡ before
 
-module _ {S H : Type 0} (remaining contents : S → Option (List ℕ)) (blocked broken : S → Type 0) (takes : H → ℕ → List ℕ → Verdict → H → Type 0) (closes : H → ℕ → H → Type 0) where
+module _ {S H : Type 0} (does : S → Act → S → Type 0) (takes : H → ℕ → List ℕ → Verdict → H → Type 0) (closes : H → ℕ → H → Type 0) where
   -- a client of a table took its turn, and is kept as the turn left it, or let go
   pub record TakesTurn (now : Instant) (old new : Slab (Client S)) (key : ℕ) (client : Client S) (before after : H) (turn : Turn) : Type 0 where
     pub last : Client S
     pub middle : H
-    pub turned : Turned remaining contents blocked broken takes (most_for old.slots client) now client last before middle turn
+    pub turned : Turned does takes 16 (most_for old.slots client) now client last before middle turn
     pub stays : lets_go turn ≡ false → (get new key ≡ Some last) × (after ≡ middle)
     pub goes : lets_go turn ≡ true → LetsGo closes last (get new key) middle after
 

@@ -1,19 +1,16 @@
 //! One call of a webhook.
-ghost use Rattle.std.specs.Prelude.{◌≡◌, ◌++◌, ◌↔◌, IsTrue, take};
+ghost use Rattle.std.specs.Prelude.{◌≡◌, ◌≢◌, ◌++◌, ◌↔◌, [], IsTrue, false, true, take};
 ghost use Rattle.am_serve.specs.Calls.{Gathered};
 
 use crate::dialed::Dialed;
 use crate::outgoing::Outgoing;
-use crate::socket::Moved;
+use crate::socket::{Moved, STEPS};
 use crate::status::{STATUS_BYTES, read_status};
 use arrayvec::ArrayVec;
 use std::time::Instant;
 
 // After how many seconds a call failed.
 const CALL_SECONDS: u64 = 5;
-
-// How many reads and writes a turn has at most.
-const STEPS: u32 = 16;
 
 // What a call's turn came to.
 #[derive(Clone, Copy, Debug, PartialEq, Eq)]
@@ -46,7 +43,7 @@ pub struct Call<S: Dialed, N: Drop> {
 }
 
 impl<S: Dialed, N: Drop> Call<S, N> {
-    ghost use Rattle.am_serve.specs.Calls.{CallEnds, CallMoves, IsAskingCall, IsAwaitingCall, IsFirstCall, IsOver};
+    ghost use Rattle.am_serve.specs.Calls.{CallMoves, CallWorks, IsAskingCall, IsAwaitingCall, IsFirstCall, IsOver, unasked};
 
     // A call that sent nothing yet.
     pub fn new(socket: S, request: Vec<u8>, name: N, now: Instant) -> Call<S, N>
@@ -77,8 +74,7 @@ impl<S: Dialed, N: Drop> Call<S, N> {
 
     // A turn.
     pub fn turn(&mut self, buffer: &mut [u8; 4096]) -> Step
-        ensures moves { CallMoves S.remaining S.contents self.old self.new }
-        ensures ends { CallEnds S.blocked S.broken self.new result }
+        ensures { CallWorks S.does 16 self.old self.new result }
     {
         for _ in 0..STEPS {
             match self.step(buffer) {
@@ -91,22 +87,43 @@ impl<S: Dialed, N: Drop> Call<S, N> {
 
     // One read or one write, or the question whether the connection stands.
     fn step(&mut self, buffer: &mut [u8; 4096]) -> Step
-        ensures moves { CallMoves S.remaining S.contents self.old self.new }
-        ensures ends { CallEnds S.blocked S.broken self.new result }
+        ensures { CallWorks S.does 1 self.old self.new result }
     {
         if !self.is_connected {
             return self.connect();
         }
+        self.settle();
         match self.stage {
             CallStage::Asking(_) => self.ask(),
             CallStage::Awaiting(_) => self.hear(buffer),
         }
     }
 
+    // Once the request was written whole the response is awaited.
+    fn settle(&mut self)
+        ensures moves { CallMoves self.old self.new [] }
+        ensures socket { self.new.socket ≡ self.old.socket }
+        ensures asks { IsAskingCall self.new.stage → unasked self.new.stage ≢ [] }
+    {
+        if self.is_asked() {
+            self.stage = CallStage::Awaiting(ArrayVec::new());
+        }
+    }
+
+    // Whether the whole request was written, and its response isn't awaited yet.
+    fn is_asked(&self) -> bool
+        ensures { IsTrue result ↔ (IsAskingCall self.now.stage × (unasked self.now.stage ≡ [])) }
+    {
+        match &self.stage {
+            CallStage::Asking(request) => request.is_sent(),
+            CallStage::Awaiting(_) => false,
+        }
+    }
+
     // Asks whether the connection stands.
     fn connect(&mut self) -> Step
-        ensures moves { CallMoves S.remaining S.contents self.old self.new }
-        ensures ends { CallEnds S.blocked S.broken self.new result }
+        requires { self.old.is_connected ≡ false }
+        ensures { CallWorks S.does 1 self.old self.new result }
     {
         match self.socket.is_connected() {
             Ok(true) => {
@@ -120,17 +137,14 @@ impl<S: Dialed, N: Drop> Call<S, N> {
 
     // Writes of the request.
     fn ask(&mut self) -> Step
-        requires { IsAskingCall self.old.stage }
-        ensures moves { CallMoves S.remaining S.contents self.old self.new }
-        ensures ends { CallEnds S.blocked S.broken self.new result }
+        requires asking { IsAskingCall self.old.stage }
+        requires left { unasked self.old.stage ≢ [] }
+        requires connected { self.old.is_connected ≡ true }
+        ensures { CallWorks S.does 1 self.old self.new result }
     {
         let CallStage::Asking(request) = &mut self.stage else {
             unreachable!()
         };
-        if request.is_sent() {
-            self.stage = CallStage::Awaiting(ArrayVec::new());
-            return Step::More;
-        }
         match request.write(&mut self.socket) {
             Moved::Bytes(_) => Step::More,
             Moved::Blocked => Step::Waits,
@@ -141,9 +155,9 @@ impl<S: Dialed, N: Drop> Call<S, N> {
 
     // Reads the response until its status is there.
     fn hear(&mut self, buffer: &mut [u8; 4096]) -> Step
-        requires { IsAwaitingCall self.old.stage }
-        ensures moves { CallMoves S.remaining S.contents self.old self.new }
-        ensures ends { CallEnds S.blocked S.broken self.new result }
+        requires awaiting { IsAwaitingCall self.old.stage }
+        requires connected { self.old.is_connected ≡ true }
+        ensures { CallWorks S.does 1 self.old self.new result }
     {
         let CallStage::Awaiting(line) = &mut self.stage else {
             unreachable!()

@@ -14,7 +14,7 @@ use std::time::Instant;
 /// What a call's turn came to.
 #[derive(Debug, Drop)]
 pub enum Progress<N> {
-    /// The call is kept, and may go on at once: it is to be given another turn.
+    /// The call is kept, and may go on at once: all steps of the turn were made. It is to be given another turn.
     More,
     /// The call is kept. Its socket would have to wait.
     Waits,
@@ -99,10 +99,11 @@ impl<S: Dialed, N: Drop> Calls<S, N> {
             .insert_reserved(Call::new(socket, request, name, now))
     }
 
-    /// Gives the call of this key its turn: at most 16 reads and writes. Its request is written whole, and then the
-    /// response is read until its status is there. `None`: there is no such call.
+    /// Gives the call of this key its turn: at most 16 reads, writes and questions whether its connection stands. Once it
+    /// stands the request is written whole, and then the response is read until its status is there. `None`: there is no
+    /// such call.
     pub fn turn(&mut self, key: usize, buffer: &mut [u8; 4096]) -> Option<Progress<N>>
-        ensures turned { CallTurnAt S.remaining S.contents S.blocked S.broken self.old.calls self.new.calls key (get self.old.calls key) result }
+        ensures turned { CallTurnAt S.does self.old.calls self.new.calls key (get self.old.calls key) result }
         ensures others { Others self.old.calls self.new.calls key }
         ensures limit { self.new.limit ≡ self.old.limit }
     {

@@ -4,7 +4,7 @@ ghost use Rattle.std.specs.Time.{instant_nanos};
 
 use crate::host::{Host, Verdict};
 use crate::outgoing::Outgoing;
-use crate::socket::{Moved, PIECE_BYTES, Socket};
+use crate::socket::{Moved, PIECE_BYTES, STEPS, Socket};
 use std::time::Instant;
 
 /// How many bytes each client may hold undecided, whatever the others hold.
@@ -18,13 +18,10 @@ const WHOLE_SECONDS: u64 = 40;
 // Where the first digit of a reply's status stands: after `HTTP/1.1 `.
 const STATUS_INDEX: usize = 9;
 
-// How many reads and writes a turn has at most.
-const STEPS: u32 = 16;
-
 /// What a client's turn came to.
 #[derive(Clone, Copy, Debug, PartialEq, Eq)]
 pub enum Turn {
-    /// The client is kept, and may go on at once: it is to be given another turn.
+    /// The client is kept, and may go on at once: all steps of the turn were made. It is to be given another turn.
     More,
     /// The client is kept. Its socket would have to wait.
     Waits,
@@ -83,7 +80,7 @@ pub struct Client<S: Socket> {
 }
 
 impl<S: Socket> Client<S> {
-    ghost use Rattle.am_serve.specs.Clients.{Ends, HandsOn, IsAsking, IsDraining, IsStale, IsSuccess, IsTelling, IsTold, Moves, Turned, excess_of, first_client, whole_reply};
+    ghost use Rattle.am_serve.specs.Clients.{HandsOn, IsAsking, IsDraining, IsStale, IsSuccess, IsTelling, IsTold, Turned, Works, excess_of, first_client, whole_reply};
 
     // A client that sent nothing yet.
     pub fn new(socket: S, connection: u64, now: Instant) -> Client<S>
@@ -137,7 +134,7 @@ impl<S: Socket> Client<S> {
     ) -> Turn
         requires { self.old.held ≤ most }
         ensures held { self.new.held ≤ most }
-        ensures turned { Turned S.remaining S.contents S.blocked S.broken H.takes most now self.old self.new host.old host.new result }
+        ensures turned { Turned S.does H.takes 16 most now self.old self.new host.old host.new result }
     {
         for _ in 0..STEPS {
             match self.step(host, now, buffer, most) {
@@ -148,7 +145,7 @@ impl<S: Socket> Client<S> {
         Turn::More
     }
 
-    // One read or one write.
+    // One read, one write, or the end of a reply that was written whole.
     fn step<H: Host>(
         &mut self,
         host: &mut H,
@@ -158,7 +155,7 @@ impl<S: Socket> Client<S> {
     ) -> Turn
         requires { self.old.held ≤ most }
         ensures held { self.new.held ≤ most }
-        ensures turned { Turned S.remaining S.contents S.blocked S.broken H.takes most now self.old self.new host.old host.new result }
+        ensures turned { Turned S.does H.takes 1 most now self.old self.new host.old host.new result }
     {
         if self.is_told() {
             return self.end(now);
@@ -181,7 +178,7 @@ impl<S: Socket> Client<S> {
         requires asking { IsAsking self.old.stage }
         requires held { self.old.held ≤ most }
         ensures held { self.new.held ≤ most }
-        ensures turned { Turned S.remaining S.contents S.blocked S.broken H.takes most now self.old self.new host.old host.new result }
+        ensures turned { Turned S.does H.takes 1 most now self.old self.new host.old host.new result }
     {
         if most - self.held < PIECE_BYTES {
             self.moved = now;
@@ -248,8 +245,7 @@ impl<S: Socket> Client<S> {
     fn end(&mut self, now: Instant) -> Turn
         requires { IsTold self.old.stage }
         ensures held { self.new.held ≡ self.old.held }
-        ensures moves { Moves S.remaining S.contents now self.old self.new [] }
-        ensures ends { (most : ℕ) → Ends S.blocked S.broken most now self.old self.new [] result }
+        ensures works { (most : ℕ) → Works S.does 1 most now self.old self.new [] result }
     {
         if self.is_success() {
             return Turn::Answered;
@@ -261,10 +257,10 @@ impl<S: Socket> Client<S> {
 
     // Writes of the reply.
     fn tell(&mut self, now: Instant) -> Turn
-        requires { IsTelling self.old.stage }
+        requires telling { IsTelling self.old.stage }
+        requires untold { IsTold self.old.stage → ⊥ }
         ensures held { self.new.held ≡ self.old.held }
-        ensures moves { Moves S.remaining S.contents now self.old self.new [] }
-        ensures ends { (most : ℕ) → Ends S.blocked S.broken most now self.old self.new [] result }
+        ensures works { (most : ℕ) → Works S.does 1 most now self.old self.new [] result }
     {
         let Stage::Telling(reply) = &mut self.stage else {
             unreachable!()
@@ -284,8 +280,7 @@ impl<S: Socket> Client<S> {
     fn drain(&mut self, now: Instant, buffer: &mut [u8; 4096]) -> Turn
         requires { IsDraining self.old.stage }
         ensures held { self.new.held ≡ self.old.held }
-        ensures moves { Moves S.remaining S.contents now self.old self.new [] }
-        ensures ends { (most : ℕ) → Ends S.blocked S.broken most now self.old self.new [] result }
+        ensures works { (most : ℕ) → Works S.does 1 most now self.old self.new [] result }
     {
         match self.socket.read(buffer) {
             Moved::Broken => Turn::Drained,

@@ -118,11 +118,11 @@ impl<S: Socket> Clients<S> {
         Some(self.clients.insert_reserved(client))
     }
 
-    /// Gives the client of this key its turn: at most 16 reads of 4,096 bytes and writes. Each piece that it reads goes
-    /// to the host under the client's number, until the host gives its reply; that is written. A reply of success closes
-    /// the connection at once; after any other what the client still sends is thrown away until it ends, since the reply
-    /// may be lost on its way where bytes are left unread. A client that is lost while the host is undecided is closed in
-    /// the host. `None`: there is no such client.
+    /// Gives the client of this key its turn: at most 16 reads of 4,096 bytes and writes, until the socket would have to
+    /// wait. Each piece that it reads goes to the host under the client's number, until the host gives its reply; that is
+    /// written. A reply of success closes the connection at once; after any other what the client still sends is thrown
+    /// away until it ends, since the reply may be lost on its way where bytes are left unread. A client that is lost while
+    /// the host is undecided is closed in the host. `None`: there is no such client.
     pub fn turn<H: Host>(
         &mut self,
         key: usize,
@@ -130,7 +130,7 @@ impl<S: Socket> Clients<S> {
         now: Instant,
         buffer: &mut [u8; 4096],
     ) -> Option<Turn>
-        ensures turned { TakesTurnAt S.remaining S.contents S.blocked S.broken H.takes H.closes now self.old.clients self.new.clients key
+        ensures turned { TakesTurnAt S.does H.takes H.closes now self.old.clients self.new.clients key
             (get self.old.clients key) host.old host.new result }
         ensures others { Others self.old.clients self.new.clients key }
         ensures opened { self.new.opened ≡ self.old.opened }

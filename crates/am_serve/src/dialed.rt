@@ -1,6 +1,5 @@
 //! What is asked of a socket of a connection that goes out.
-ghost use Rattle.std.specs.Prelude.{◌≡◌, MatchResult, false};
-ghost use Rattle.std.specs.Io.KnownBytes.{Keeps};
+ghost use Rattle.am_serve.specs.Acts.{Ask, answer_of};
 
 use crate::socket::Socket;
 use std::io;
@@ -12,7 +11,5 @@ pub trait Dialed: Socket {
     /// # Errors
     /// The connection failed.
     fn is_connected(&mut self) -> io::Result<bool>
-        ensures written { Keeps (Self.contents self.old) (Self.contents self.new) }
-        ensures kept { Keeps (Self.remaining self.old) (Self.remaining self.new) }
-        ensures leaves { MatchResult result (λ stands. stands ≡ false → Self.blocked self.new) (λ _. Self.broken self.new) };
+        ensures asks { Self.does self.old (Ask (answer_of result)) self.new };
 }

@@ -1,7 +1,7 @@
 //! Bytes on their way out.
-ghost use Rattle.std.specs.Prelude.{◌≡◌, ◌≢◌, ◌≤◌, ◌<◌, ◌↔◌, [], IsTrue, drop, slice_get, vec_len};
-ghost use Rattle.std.specs.Io.KnownBytes.{Keeps};
-ghost use Rattle.am_serve.specs.Sockets.{Leaves};
+ghost use Rattle.std.specs.Prelude.{◌≡◌, ◌≢◌, ◌≤◌, ◌<◌, ◌↔◌, [], IsTrue, drop, take, slice_get, vec_len};
+ghost use Rattle.am_serve.specs.Acts.{Write};
+ghost use Rattle.am_serve.specs.Sockets.{count_of};
 
 use crate::socket::{Moved, Socket};
 
@@ -48,10 +48,9 @@ impl Outgoing {
     // Writes a first part of what wasn't sent yet.
     pub fn write<S: Socket>(&mut self, socket: &mut S) -> Moved
         ensures bytes { self.new.bytes.items ≡ self.old.bytes.items }
-        ensures sends { Sends (S.contents socket.old) (S.contents socket.new) result (unsent self.old) (unsent self.new) }
-        ensures kept { Keeps (S.remaining socket.old) (S.remaining socket.new) }
+        ensures sends { Sends result (unsent self.old) (unsent self.new) }
+        ensures writes { S.does socket.old (Write result (take (count_of result) (unsent self.old))) socket.new }
         ensures some { result ≢ Moved.Bytes 0 }
-        ensures leaves { Leaves (S.blocked socket.new) (S.broken socket.new) result }
     {
         let moved = socket.write(self.rest());
         if let Moved::Bytes(count) = moved {

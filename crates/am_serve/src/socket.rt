@@ -1,13 +1,15 @@
 //! What is asked of a socket.
-ghost use Rattle.std.specs.Prelude.{◌≡◌, ◌≢◌, ℕ, List, Option, None, ⊤};
-ghost use Rattle.std.specs.IoError.{error_kind};
-ghost use Rattle.std.specs.Io.KnownBytes.{Keeps};
-ghost use Rattle.am_serve.specs.Sockets.{Leaves, Reads, Writes, count_of};
+ghost use Rattle.std.specs.Prelude.{◌≡◌, ◌≢◌, ◌≤◌, length, take, ⊤};
+ghost use Rattle.am_serve.specs.Acts.{Act, Read, Write, Finish};
+ghost use Rattle.am_serve.specs.Sockets.{ComesTo, Misses, Reads, Writes, count_of};
 
 use std::io::{self, ErrorKind, Read, Write};
 
 /// How many bytes are read at once, at most.
 pub const PIECE_BYTES: usize = 4_096;
+
+/// How many steps a turn has at most: reads, writes, and questions whether a connection stands.
+pub const STEPS: u32 = 16;
 
 /// What came of a read or a write that never waits.
 #[derive(Clone, Copy, Debug, PartialEq, Eq)]
@@ -27,11 +29,7 @@ pub fn read_from<R: Read>(reader: &mut R, buffer: &mut [u8; 4096]) -> Moved
     ensures bytes { Reads (R.remaining reader.old) (R.remaining reader.new) result buffer.new }
     ensures some { result ≢ Moved.Bytes 0 }
 {
-    match reader.read(buffer) {
-        Ok(0) => Moved::Broken,
-        Ok(count) => Moved::Bytes(count),
-        Err(error) => missed(&error),
-    }
+    came_of(reader.read(buffer))
 }
 
 /// Writes a first part of the bytes. It is for a writer that answers `WouldBlock` where it would have to wait.
@@ -39,7 +37,14 @@ pub fn write_to<W: Write>(writer: &mut W, bytes: &[u8]) -> Moved
     ensures bytes { Writes (W.contents writer.old) (W.contents writer.new) result bytes.now }
     ensures some { result ≢ Moved.Bytes 0 }
 {
-    match writer.write(bytes) {
+    came_of(writer.write(bytes))
+}
+
+// What came of a read or a write, by its answer.
+fn came_of(answer: io::Result<usize>) -> Moved
+    ensures { ComesTo answer result }
+{
+    match answer {
         Ok(0) => Moved::Broken,
         Ok(count) => Moved::Bytes(count),
         Err(error) => missed(&error),
@@ -48,10 +53,7 @@ pub fn write_to<W: Write>(writer: &mut W, bytes: &[u8]) -> Moved
 
 // What an error says of a call that moved nothing.
 fn missed(error: &io::Error) -> Moved
-    ensures blocked { error_kind error.now ≡ ErrorKind.WouldBlock → result ≡ Moved.Blocked }
-    ensures interrupted { error_kind error.now ≡ ErrorKind.Interrupted → result ≡ Moved.Interrupted }
-    ensures broken { error_kind error.now ≢ ErrorKind.WouldBlock → error_kind error.now ≢ ErrorKind.Interrupted → result ≡ Moved.Broken }
-    ensures none { count_of result ≡ 0 }
+    ensures { Misses error.now result }
 {
     match error.kind() {
         ErrorKind::WouldBlock => Moved::Blocked,
@@ -62,34 +64,22 @@ fn missed(error: &io::Error) -> Moved
 
 /// A connection that never waits.
 pub trait Socket: Drop {
-    // The bytes that reads will give from here on, where they are known.
-    ghost remaining: { Self → Option (List ℕ) } = { λ _. None };
-
-    // The bytes that were written, where they are known.
-    ghost contents: { Self → Option (List ℕ) } = { λ _. None };
-
-    // The last call moved nothing, and may be made again.
-    ghost blocked: { Self → Type 0 } = { λ _. ⊤ };
-
-    // The last call failed, or met the end.
-    ghost broken: { Self → Type 0 } = { λ _. ⊤ };
+    // The socket was this, this was asked of it and came to this, and it is that.
+    ghost does: { Self → Act → Self → Type 0 } = { λ _ _ _. ⊤ };
 
     /// Reads into the front of the buffer.
     fn read(&mut self, buffer: &mut [u8; 4096]) -> Moved
-        ensures bytes { Reads (remaining self.old) (remaining self.new) result buffer.new }
-        ensures kept { Keeps (contents self.old) (contents self.new) }
-        ensures some { result ≢ Moved.Bytes 0 }
-        ensures leaves { Leaves (blocked self.new) (broken self.new) result };
+        ensures reads { does self.old (Read result (take (count_of result) buffer.new)) self.new }
+        ensures fits { count_of result ≤ length buffer.new }
+        ensures some { result ≢ Moved.Bytes 0 };
 
     /// Writes a first part of the bytes.
     fn write(&mut self, bytes: &[u8]) -> Moved
-        ensures bytes { Writes (contents self.old) (contents self.new) result bytes.now }
-        ensures kept { Keeps (remaining self.old) (remaining self.new) }
-        ensures some { result ≢ Moved.Bytes 0 }
-        ensures leaves { Leaves (blocked self.new) (broken self.new) result };
+        ensures writes { does self.old (Write result (take (count_of result) bytes.now)) self.new }
+        ensures fits { count_of result ≤ length bytes.now }
+        ensures some { result ≢ Moved.Bytes 0 };
 
     /// Says that nothing more is written.
     fn finish(&mut self) -> io::Result<()>
-        ensures written { Keeps (contents self.old) (contents self.new) }
-        ensures kept { Keeps (remaining self.old) (remaining self.new) };
+        ensures finishes { does self.old Finish self.new };
 }

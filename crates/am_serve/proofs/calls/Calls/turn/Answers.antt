@@ -4,18 +4,17 @@ use Rattle.am_serve.proofs.calls.Calls.turn.Goals as goal
 
 pub returns-in-More-clause-turned : goal.returns-in-More-clause-turned
 returns-in-More-clause-turned g c =
-    call_turned g.S.Socket.remaining g.S.Socket.contents g.S.Socket.blocked g.S.Socket.broken c.args.self.now.calls _ c.args.key _ c.turn.new.self _ c.in_ok-call.ensures.value c.in-More.ensures.moves
-    (c.in-More.ensures.ends, get_with c.args.self.now.calls c.args.key _ c.turn.new.self c.in_ok-call.ensures.value)
+    call_turned g.S.Socket.does c.args.self.now.calls _ c.args.key _ c.turn.new.self _ c.in_ok-call.ensures.value c.in-More.ensures
+    (get_with c.args.self.now.calls c.args.key _ c.turn.new.self c.in_ok-call.ensures.value)
 
 pub returns-in-Waits-clause-turned : goal.returns-in-Waits-clause-turned
 returns-in-Waits-clause-turned g c =
-    call_turned g.S.Socket.remaining g.S.Socket.contents g.S.Socket.blocked g.S.Socket.broken c.args.self.now.calls _ c.args.key _ c.turn.new.self _ c.in_ok-call.ensures.value c.in-Waits.ensures.moves
-    (c.in-Waits.ensures.ends, get_with c.args.self.now.calls c.args.key _ c.turn.new.self c.in_ok-call.ensures.value)
+    call_turned g.S.Socket.does c.args.self.now.calls _ c.args.key _ c.turn.new.self _ c.in_ok-call.ensures.value c.in-Waits.ensures
+    (get_with c.args.self.now.calls c.args.key _ c.turn.new.self c.in_ok-call.ensures.value)
 
 pub returns-in_ok-ended-in-Ended-clause-turned : goal.returns-in_ok-ended-in-Ended-clause-turned
 returns-in_ok-ended-in-Ended-clause-turned g c =
-    call_turned g.S.Socket.remaining g.S.Socket.contents g.S.Socket.blocked g.S.Socket.broken c.args.self.now.calls c.try_remove.new.self c.args.key _ c.turn.new.self _ c.in_ok-call.ensures.value c.in-Ended.ensures.moves (
-      c.in-Ended.ensures.ends,
+    call_turned g.S.Socket.does c.args.self.now.calls c.try_remove.new.self c.args.key _ c.turn.new.self _ c.in_ok-call.ensures.value c.in-Ended.ensures (
       c.in_ok-ended-in-Ended.ensures.updates.changed,
-      name_kept g.S.Socket.remaining g.S.Socket.contents g.S.Socket.blocked g.S.Socket.broken c.args.self.now.calls c.args.key _ c.turn.new.self c.in_ok-ended-in-Ended.ended _ c.in_ok-call.ensures.value c.in-Ended.ensures.moves c.in_ok-ended-in-Ended.ensures.value c.into_name-name.ensures,
+      name_kept g.S.Socket.does c.args.self.now.calls c.args.key _ c.turn.new.self c.in_ok-ended-in-Ended.ended _ _ c.in_ok-call.ensures.value c.in-Ended.ensures c.in_ok-ended-in-Ended.ensures.value c.into_name-name.ensures,
     )

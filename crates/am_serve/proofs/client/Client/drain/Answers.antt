@@ -1,15 +1,24 @@
-use Rattle.std.proofs.Common.{refl, inr}
-use Rattle.am_serve.proofs.Steps.{draining_asks, none_written, stood, threw}
+use Rattle.std.proofs.Common.{[], refl, ap}
+use Rattle.am_serve.specs.declared.socket.Moved.TheVariants.{Bytes}
+use Rattle.am_serve.proofs.ActLists.{goes, some_byte}
+use Rattle.am_serve.proofs.Steps.{draining_tells, draining_told, one, one_moved, read_last, stood, threw}
 use Rattle.am_serve.proofs.client.Client.drain.Goals as goal
 
-pub returns-in-Bytes-clause-moves : goal.returns-in-Bytes-clause-moves
-returns-in-Bytes-clause-moves g c = threw g.S.Socket.remaining g.S.Socket.contents c.args.now _ _ _ c.in-Bytes.ensures.bytes.2 (none_written _ _ c.in-Bytes.ensures.kept) refl (draining_asks c.args.self.now.stage c.requires) refl refl (draining_asks c.args.self.now.stage c.requires) (λ h. h) (λ _. refl) refl refl
+pub returns-in-Bytes-clause-works : goal.returns-in-Bytes-clause-works
+returns-in-Bytes-clause-works g c most =
+    one_moved g.S.Socket.does most c.args.now _ _ [] _ _ c.in-Bytes.ensures.reads (some_byte _ _ (λ none. c.in-Bytes.ensures.some (ap Bytes none)) c.in-Bytes.ensures.fits) (goes _ refl)
+    (threw _ _ _ refl c.requires refl refl refl refl) refl (λ h. h, refl)
 
-pub returns-in-Blocked-clause-moves : goal.returns-in-Blocked-clause-moves
-returns-in-Blocked-clause-moves g c = stood g.S.Socket.remaining g.S.Socket.contents c.args.now _ _ c.in-Blocked.ensures.bytes.2 (none_written _ _ c.in-Blocked.ensures.kept) refl (λ h. h) (inr refl) refl (λ h. h) (λ h. h) (λ _. refl) refl refl
+pub returns-in-Blocked-clause-works : goal.returns-in-Blocked-clause-works
+returns-in-Blocked-clause-works g c most =
+    one g.S.Socket.does most c.args.now _ _ [] _ _ c.in-Blocked.ensures.reads (read_last _ _ (draining_tells c.args.self.now.stage c.requires))
+    (stood _ _ _ refl refl refl (λ h. h) refl (λ h. h) (λ h. h) (λ _. refl) refl refl) refl (λ h. h, draining_told c.args.self.now.stage c.requires, refl)
 
-pub returns-in-Interrupted-clause-moves : goal.returns-in-Interrupted-clause-moves
-returns-in-Interrupted-clause-moves g c = stood g.S.Socket.remaining g.S.Socket.contents c.args.now _ _ c.in-Interrupted.ensures.bytes.2 (none_written _ _ c.in-Interrupted.ensures.kept) refl (λ h. h) (inr refl) refl (λ h. h) (λ h. h) (λ _. refl) refl refl
+pub returns-in-Interrupted-clause-works : goal.returns-in-Interrupted-clause-works
+returns-in-Interrupted-clause-works g c most =
+    one g.S.Socket.does most c.args.now _ _ [] _ _ c.in-Interrupted.ensures.reads (goes _ refl) (stood _ _ _ refl refl refl (λ h. h) refl (λ h. h) (λ h. h) (λ _. refl) refl refl) refl (λ h. h, refl)
 
-pub returns-in-Broken-clause-moves : goal.returns-in-Broken-clause-moves
-returns-in-Broken-clause-moves g c = stood g.S.Socket.remaining g.S.Socket.contents c.args.now _ _ c.in-Broken.ensures.bytes.2 (none_written _ _ c.in-Broken.ensures.kept) refl (λ h. h) (inr refl) refl (λ h. h) (λ h. h) (λ _. refl) refl refl
+pub returns-in-Broken-clause-works : goal.returns-in-Broken-clause-works
+returns-in-Broken-clause-works g c most =
+    one g.S.Socket.does most c.args.now _ _ [] _ _ c.in-Broken.ensures.reads (read_last _ _ (draining_tells c.args.self.now.stage c.requires))
+    (stood _ _ _ refl refl refl (λ h. h) refl (λ h. h) (λ h. h) (λ _. refl) refl refl) refl (c.requires, c.requires, refl)

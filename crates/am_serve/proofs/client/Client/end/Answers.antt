@@ -1,10 +1,16 @@
-use Rattle.std.proofs.Common.{refl, sym, inr}
-use Rattle.am_serve.proofs.Steps.{none_read, none_written, nothing_left, stood, told_asks, unmoved}
+use Rattle.std.proofs.Common.{[], append-nil, refl, subst, sym}
+use Rattle.std.proofs.lemmas.Bool.{false≢true}
+use Rattle.am_serve.specs.Clients.{IsSuccess}
+use Rattle.am_serve.proofs.ActLists.{stops}
+use Rattle.am_serve.proofs.Steps.{none, nothing_left, one, stood, told_asks, told_drains}
 use Rattle.am_serve.proofs.client.Client.end.Goals as goal
 
-pub returns-then-is_success-clause-moves : goal.returns-then-is_success-clause-moves
-returns-then-is_success-clause-moves g c = unmoved g.S.Socket.remaining g.S.Socket.contents c.args.now _ _ refl refl (λ h. h) (inr refl) refl (λ h. h) (λ h. h) (λ _. refl) refl refl
+pub returns-then-is_success-clause-works : goal.returns-then-is_success-clause-works
+returns-then-is_success-clause-works g c most =
+    none g.S.Socket.does most c.args.now _ _ _ refl refl (λ h. absurd (cc)) (stood _ _ _ refl refl refl (λ h. h) refl (λ h. h) (λ h. h) (λ _. refl) refl refl) refl (c.requires, subst IsSuccess (sym (append-nil _)) (c.is_success.ensures.0 c.if-is_success.true), refl)
 
-pub returns-clause-moves : goal.returns-clause-moves
-returns-clause-moves g c =
-    stood g.S.Socket.remaining g.S.Socket.contents c.args.now _ _ (none_read _ _ c.finish.ensures.kept) (none_written _ _ c.finish.ensures.written) (sym (nothing_left c.args.self.now.stage c.requires)) (λ h. absurd h) (inr refl) refl (λ h. tt) (λ h. absurd (told_asks c.args.self.now.stage c.requires h)) (λ not. absurd (not tt)) refl refl
+pub returns-clause-works : goal.returns-clause-works
+returns-clause-works g c most =
+    one g.S.Socket.does most c.args.now _ _ [] _ _ c.finish.ensures.finishes (stops _ _ refl)
+    (stood _ _ _ refl refl (sym (nothing_left c.args.self.now.stage c.requires)) (λ h. absurd h) refl (λ h. tt) (λ h. absurd (told_asks c.args.self.now.stage c.requires h)) (λ not. absurd (not tt)) refl refl) refl
+    (told_drains c.args.self.now.stage c.requires, tt, λ h. false≢true (c.if-is_success.ensures.1 (subst IsSuccess (append-nil _) h)), refl)
