@@ -56,7 +56,7 @@ impl<'a> Mutes<'a> {
         requires { place < length self.now }
         ensures { result ≡ is_silenced (get_or self.now place nothing) }
     {
-        !self.silences[place].is_empty()
+        !self.silenced_by(place).is_empty()
     }
 
     /// Whether an alert inhibits the one at this place.

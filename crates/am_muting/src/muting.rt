@@ -1,10 +1,11 @@
-ghost use Rattle.std.specs.Prelude.{◌≡◌, ◌&&◌, ◌==◌, [], IfErr, IfOk, OnErr, length, map, not};
+ghost use Rattle.std.specs.Prelude.{◌≡◌, ◌&&◌, ◌++◌, ◌<◌, ◌==◌, [], All, IfErr, IfOk, OnErr, length, map, not};
 ghost use Rattle.std.specs.List.Sorted.{IsStrictlySortedBy};
 ghost use Rattle.am_labels.specs.Labels.{labels_cmp};
 ghost use Rattle.am_text.specs.Outcome.{ForRefused};
 ghost use Rattle.am_pattern.specs.Asking.{Asked};
 ghost use Rattle.am_alert.specs.declared.held.HeldAlert.{HeldAlert};
-ghost use Rattle.am_silence.specs.Held.{active_among};
+ghost use Rattle.am_inhibit.specs.Inhibits.{inhibitor_places};
+ghost use Rattle.am_silence.specs.Held.{active_among, silencing};
 ghost use Rattle.am_silence.specs.Silences.{is_active};
 ghost use Rattle.am_muting.specs.Asked.{active_in, chosen, sources_of};
 ghost use Rattle.am_muting.specs.Failing.{AddsAmong, HasUnanswered, patterns_muting};
@@ -13,7 +14,7 @@ ghost use Rattle.am_muting.specs.Muting.{alert_sets, firing_sets, is_muted, mute
 use crate::mutes::Mutes;
 use am_alert::{AlertBook, HeldAlert};
 use am_config::Config;
-use am_inhibit::inhibitors_of_each;
+use am_inhibit::{Inhibited, inhibitors_of_each};
 use am_item::{Held, LabelSets, SilenceDetails, SilenceId, Stamped};
 use am_labels::LabelSet;
 use am_pattern::{PatternCache, PatternRefusal};
@@ -41,9 +42,10 @@ pub fn mutes_of<'a>(
         (λ refusal. HasUnanswered cache.new.refused (patterns_muting config.now moment held.now))) }
     ensures adds { OnErr result (AddsAmong (patterns_muting config.now moment held.now) cache.old.refused cache.new.refused) }
 {
-    let silences = SilenceBook::new(held).silencing(alloc, targets, moment, cache)?;
     let firing = sources_of(alloc, held, config, moment)?;
-    let inhibited = inhibitors_of_each(alloc, config, &firing, targets, cache)?;
+    let (silences, inhibited) = ask(
+        alloc, held, config, moment, targets, &firing, targets, cache,
+    )?;
     let first = firing.len();
     Ok(Mutes::new(firing, silences, inhibited, first))
 }
@@ -67,9 +69,34 @@ pub fn mutes_of_firing<'a>(
         (λ refusal. HasUnanswered cache.new.refused (patterns_muting config.now moment held.now))) }
     ensures adds { OnErr result (AddsAmong (patterns_muting config.now moment held.now) cache.old.refused cache.new.refused) }
 {
-    let silences = SilenceBook::new(held).silencing(alloc, &firing, moment, cache)?;
-    let inhibited = inhibitors_of_each(alloc, config, &firing, &[], cache)?;
+    let (silences, inhibited) = ask(alloc, held, config, moment, &firing, &firing, &[], cache)?;
     Ok(Mutes::new(firing, silences, inhibited, 0))
+}
+
+// The silences that silence each of the targets, and which firing alerts inhibit each of those and of others.
+fn ask<'a>(
+    alloc: Global,
+    held: &Held,
+    config: &Config,
+    moment: Moment,
+    targets: &[&'a LabelSet],
+    firing: &[&'a LabelSet],
+    others: &[&'a LabelSet],
+    cache: &mut PatternCache,
+) -> Result<(Vec<Vec<SilenceId>>, Inhibited), Failure<PatternRefusal>>
+    ensures silencing { IfOk result (λ found. map (λ ids. ids.items) found.0.items
+        ≡ map (λ set. silencing moment held.now set.now) targets.now) }
+    ensures inhibitors { IfOk result (λ found. found.1
+        ≡ map (λ target. inhibitor_places config.now.rules (map (λ set. set.now) firing.now) target.now) (firing.now ++ others.now)) }
+    ensures places { IfOk result (λ found. All (λ places. All (λ place. place < length firing.now) places) found.1) }
+    ensures asked { Asked result cache.old cache.new }
+    ensures failure { IfErr result (λ failure. ForRefused failure
+        (λ refusal. HasUnanswered cache.new.refused (patterns_muting config.now moment held.now))) }
+    ensures adds { OnErr result (AddsAmong (patterns_muting config.now moment held.now) cache.old.refused cache.new.refused) }
+{
+    let silences = SilenceBook::new(held).silencing(alloc, targets, moment, cache)?;
+    let inhibited = inhibitors_of_each(alloc, config, firing, others, cache)?;
+    Ok((silences, inhibited))
 }
 
 /// The label sets of the alerts that are held and that something mutes at a moment, in their order. Where no silence is active

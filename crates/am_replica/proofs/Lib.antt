@@ -12,6 +12,7 @@ mod Handling
 mod Kept
 mod Leaving
 mod Locals
+mod Meeting
 mod Muteds
 mod Outcomes
 mod Planned

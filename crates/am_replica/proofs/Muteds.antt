@@ -1,13 +1,15 @@
 -- What is known to be muted, timer by timer.
-use Rattle.std.proofs.Common.{◌≡◌, ◌∙◌, ℕ, Bool, true, false, not, ◌&&◌, ◌||◌, List, [], ◌∷◌, ◌++◌, Option, Some, None, IfSome, is_some, unwrap_or, refl, sym, ap, inl, inr, if◌then◌else◌}
+use Rattle.std.proofs.Common.{◌≡◌, ◌∙◌, ℕ, Bool, true, false, not, ◌&&◌, ◌||◌, List, [], ◌∷◌, ◌++◌, Option, Some, None, IfSome, get_or, is_some, length, suc, unwrap_or, zero, ◌<◌, arith, refl, sym, ap, inl, inr, if◌then◌else◌}
 use Rattle.std.specs.List.{list_any}
 use Rattle.std.specs.Map.{lookup}
+use Rattle.am_item.specs.declared.fault.Fault.{Fault}
+use Rattle.am_item.specs.declared.fault.Fault.TheVariants.{OutOfMemory, CountsExhausted, PatternNotBuilt}
 use Rattle.am_item.specs.declared.item.Item.{Item}
 use Rattle.am_labels.specs.declared.Label.{Label}
 use Rattle.am_tenant.specs.Names.{same}
 use Rattle.am_tenant.proofs.Same.{same_tells, same-refl}
 use Rattle.am_timer.specs.Timer.{Timer}
-use Rattle.am_replica.specs.Ticks.{AreMuted, has_muted, is_flush, muted_at, muted_for, some_flush}
+use Rattle.am_replica.specs.Ticks.{AreMuted, StopsMuting, has_muted, is_flush, is_flush_of, muted_at, muted_for, some_flush}
 
 abbrev pub Muteds : Type 0
 Muteds = List (List ℕ × List (List Label))
@@ -62,6 +64,10 @@ not_needed true true needless is = refl
 not_needed true false needless is = cc
 not_needed false there needless is = cc
 
+pub needed_flush : (flush there : Bool) → (flush && not there) ≡ true → flush ≡ true
+needed_flush true there needed = refl
+needed_flush false there needed = cc
+
 pub none_right : (moment : ℕ) (held : List ℕ → List Item) → AreMuted moment held []
 none_right moment held t = tt
 
@@ -80,6 +86,40 @@ any_append p (y ∷ xs) x = rw (any_append p xs x) (or_assoc (p y) (list_any p x
     or_assoc : (a b c : Bool) → (a || (b || c)) ≡ ((a || b) || c)
     or_assoc true b c = refl
     or_assoc false b c = refl
+
+-- one of the timers that is a flush
+pub flush_there : (t : List ℕ) (due : List Timer) (i : ℕ) (x : Timer) → i < length due → is_flush_of t (get_or due i x) ≡ true → some_flush t due ≡ true
+unfolding some_flush
+flush_there t [] i x within is = absurd (omega (arith, within))
+flush_there t (y ∷ due) zero x within is = rw is refl
+flush_there t (y ∷ due) (suc i) x within is = or_later (is_flush_of t y) _ (flush_there t due i x (omega (arith, within)) is)
+  where
+    or_later : (a b : Bool) → b ≡ true → (a || b) ≡ true
+    or_later true b later = refl
+    or_later false b later = later
+
+-- why one timer stops it is why all do
+pub stops_among : (refused : List (List ℕ)) (moment : ℕ) (due : List Timer) (i : ℕ) (x : Timer) (held : List ℕ → List Item) (fault : Fault) →
+    i < length due → x ≡ get_or due i x → StopsMuting refused moment (λ t. is_flush_of t x) held fault →
+    StopsMuting refused moment (λ t. some_flush t due) held fault
+stops_among refused moment due i x held OutOfMemory within is stops = tt
+stops_among refused moment due i x held CountsExhausted within is stops = absurd stops
+stops_among refused moment due i x held PatternNotBuilt within is (t, flush, unanswered) =
+    (t, flush_there t due i x within (ap (is_flush_of t) (sym is) ∙ flush), unanswered)
+
+-- why a tenant stops it is why its timer does
+pub stops_own : (refused : List (List ℕ)) (moment : ℕ) (x : Timer) (held : List ℕ → List Item) (fault : Fault) → is_flush x.name.key ≡ true →
+    StopsMuting refused moment (λ t. same t x.name.tenant) held fault → StopsMuting refused moment (λ t. is_flush_of t x) held fault
+stops_own refused moment x held OutOfMemory flush stops = tt
+stops_own refused moment x held CountsExhausted flush stops = absurd stops
+stops_own refused moment x held PatternNotBuilt flush (t, own, unanswered) = (t, rw (own, flush) refl, unanswered)
+
+-- .. and why timers stop it is why plans do
+pub stops_planned : (refused : List (List ℕ)) (moment : ℕ) (flushes others : List ℕ → Bool) (held : List ℕ → List Item) (fault : Fault) →
+    ((t : List ℕ) → others t ≡ flushes t) → StopsMuting refused moment flushes held fault → StopsMuting refused moment others held fault
+stops_planned refused moment flushes others held OutOfMemory same_flushes stops = tt
+stops_planned refused moment flushes others held CountsExhausted same_flushes stops = absurd stops
+stops_planned refused moment flushes others held PatternNotBuilt same_flushes (t, flush, unanswered) = (t, same_flushes t ∙ flush, unanswered)
 
 -- one timer more
 pub flush_more : (old new : Muteds) (xs : List Timer) (x : Timer) → ((t : List ℕ) → some_flush t xs ≡ true → has_muted t old ≡ true) →

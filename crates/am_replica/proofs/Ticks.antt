@@ -19,7 +19,7 @@ use Rattle.am_muting.specs.Failing.{HasUnanswered, patterns_muting}
 use Rattle.am_replica.specs.Held.{StopsFor}
 use Rattle.am_replica.specs.Retiring.{retired}
 use Rattle.am_replica.specs.Ticking.{done_by, due_keys, handled, muted_of, ticked}
-use Rattle.am_replica.specs.Ticks.{AreHandled, DoesDue, IsDone, StopsAt, StopsDoing, StopsHandling, TicksAll, done_for, is_flush, keys_for, muted_for, said_of, some_flush}
+use Rattle.am_replica.specs.Ticks.{AreHandled, DoesDue, IsDone, StopsAt, StopsDoing, StopsHandling, TicksAll, done_for, has_flush, is_flush, keys_for, muted_for, said_of, some_flush}
 use Rattle.am_replica.specs.Plans.{IsPlanned}
 use Rattle.am_replica.proofs.Kept.{each_keeps, handled_keeps, ticked_keeps}
 use Rattle.am_replica.proofs.Sequence.{each_more, past_among}
@@ -237,8 +237,11 @@ pub stops_tick : (here : List ℕ → Here) (old mid : List ℕ → Local) (refu
 unfolding ticked
 stops_tick here old mid refused left OutOfMemory stops = tt
 stops_tick here old mid refused left CountsExhausted (t, past) = (t, ap (λ l. (done_by t (here t) l).fits) (sym (left t)) ∙ past)
-stops_tick here old mid refused left PatternNotBuilt (t, unanswered) =
-    (t, subst (λ l. HasUnanswered refused (patterns_muting (configuration_in l.held) (here t).moment l.held)) (left t) unanswered)
+stops_tick here old mid refused left PatternNotBuilt (t, flush, unanswered) = (
+  t,
+  subst (λ (l : Local). has_flush t (here t).moment l.plan ≡ true) (left t) flush,
+  subst (λ (l : Local). HasUnanswered refused (patterns_muting (configuration_in l.held) (here t).moment l.held)) (left t) unanswered,
+)
 
 -- where each is ticked, what is planned goes by what is held
 pub all_keep : (here : List ℕ → Here) (old new : List ℕ → Local) (all : List Dispatch) → TicksAll here old new all → ((t : List ℕ) → IsPlanned (old t)) → (t : List ℕ) → IsPlanned (new t)

@@ -2,6 +2,7 @@
 use Rattle.std.specs.Prelude.{◌≡◌, ℕ, Bool, true, false, ◌&&◌, List, [], filter, map, IfSome, is_some, unwrap_or}
 use Rattle.std.specs.List.{list_any}
 use Rattle.std.specs.Map.{lookup}
+use Rattle.am_agenda.specs.Plan.{Plan}
 use Rattle.am_current.specs.Current.{configuration_in}
 use Rattle.am_item.specs.declared.fault.Fault.{Fault}
 use Rattle.am_item.specs.declared.fault.Fault.TheVariants.{OutOfMemory, CountsExhausted, PatternNotBuilt}
@@ -18,7 +19,7 @@ use Rattle.am_replica.specs.declared.dispatch.Dispatch.{Dispatch}
 use Rattle.am_replica.specs.declared.here.Here.{Here}
 use Rattle.am_replica.specs.Local.{Local, Reaction, Said, Tells, each}
 use Rattle.am_replica.specs.Retiring.{retired}
-use Rattle.am_replica.specs.Ticking.{done_by, handled, ticked}
+use Rattle.am_replica.specs.Ticking.{done_by, due_keys, handled, ticked}
 
 -- what an instance goes by at a moment, for each tenant, by the limits of all
 abbrev pub here_for : (instance incarnation moment : ℕ) → List (List ℕ × Limits) → List ℕ → Here
@@ -40,17 +41,30 @@ pub record IsTicked (here : Here) (t : List ℕ) (before after : Local) (says : 
 abbrev pub TicksAll : (List ℕ → Here) → (before after : List ℕ → Local) → List Dispatch → Type 0
 TicksAll here before after all = (t : List ℕ) → IsTicked (here t) t (before t) (after t) (said_of t all)
 
--- a pattern that may mute alerts of a tenant gave no answer
-abbrev pub HasUnmuted : (refused : List (List ℕ)) → ℕ → (List ℕ → List Item) → Type 0
-HasUnmuted refused moment held =
-    (t : List ℕ) × HasUnanswered refused (patterns_muting (configuration_in (held t)) moment (held t))
+-- the key is that of a group's flush
+abbrev pub is_flush : Key → Bool
+is_flush (Operation number) = false
+is_flush (Group key) = true
+is_flush (Retry number) = false
+is_flush (Push instance) = false
 
--- why it stops at a tick: a count of a tenant would have passed the greatest, a pattern gave no answer, or memory ran out
+-- the flush of a group of the tenant is due
+abbrev pub has_flush : List ℕ → ℕ → Plan → Bool
+has_flush t moment plan = list_any is_flush (due_keys t moment plan)
+
+-- a pattern that may mute alerts of a tenant, one of those that have a group to flush, gave no answer
+abbrev pub HasUnmuted : (refused : List (List ℕ)) → ℕ → (flushes : List ℕ → Bool) → (held : List ℕ → List Item) → Type 0
+HasUnmuted refused moment flushes held =
+    (t : List ℕ) × (flushes t ≡ true) × HasUnanswered refused (patterns_muting (configuration_in (held t)) moment (held t))
+
+-- why it stops at a tick: a count of a tenant would have passed the greatest, a pattern that may mute alerts of one that has a
+-- group to flush gave no answer, or memory ran out
 abbrev pub StopsAt : (List ℕ → Here) → (before : List ℕ → Local) → (refused : List (List ℕ)) → Fault → Type 0
 StopsAt here before refused OutOfMemory = Unit {0}
 StopsAt here before refused CountsExhausted = (t : List ℕ) × ((ticked t (here t) (before t)).fits ≡ false)
 StopsAt here before refused PatternNotBuilt =
-    (t : List ℕ) × HasUnanswered refused (patterns_muting (configuration_in (retired (here t).moment (before t)).held)
+    (t : List ℕ) × (has_flush t (here t).moment (retired (here t).moment (before t)).plan ≡ true)
+    × HasUnanswered refused (patterns_muting (configuration_in (retired (here t).moment (before t)).held)
     (here t).moment (retired (here t).moment (before t)).held)
 
 -- ---- what is due
@@ -68,7 +82,8 @@ abbrev pub StopsDoing : (List ℕ → Here) → (before : List ℕ → Local) �
 StopsDoing here before refused OutOfMemory = Unit {0}
 StopsDoing here before refused CountsExhausted = (t : List ℕ) × ((done_by t (here t) (before t)).fits ≡ false)
 StopsDoing here before refused PatternNotBuilt =
-    (t : List ℕ) × HasUnanswered refused (patterns_muting (configuration_in (before t).held) (here t).moment (before t).held)
+    (t : List ℕ) × (has_flush t (here t).moment (before t).plan ≡ true)
+    × HasUnanswered refused (patterns_muting (configuration_in (before t).held) (here t).moment (before t).held)
 
 -- ---- its timers
 
@@ -96,16 +111,13 @@ StopsHandling here muted due before PatternNotBuilt = ⊥
 
 -- ---- what is muted
 
--- the key is that of a group's flush
-abbrev pub is_flush : Key → Bool
-is_flush (Operation number) = false
-is_flush (Group key) = true
-is_flush (Retry number) = false
-is_flush (Push instance) = false
+-- a timer is the flush of a group of a tenant
+abbrev pub is_flush_of : List ℕ → Timer → Bool
+is_flush_of t x = same t x.name.tenant && is_flush x.name.key
 
 -- one of the timers is the flush of a group of a tenant
 unfoldable pub some_flush : List ℕ → List Timer → Bool
-some_flush t due = list_any (λ x. same t x.name.tenant && is_flush x.name.key) due
+some_flush t due = list_any (is_flush_of t) due
 
 -- what is muted at a moment where these items are held
 abbrev pub muted_at : ℕ → List Item → List (List Label)
@@ -120,7 +132,7 @@ abbrev pub AreMuted : ℕ → (List ℕ → List Item) → List (List ℕ × Lis
 AreMuted moment held muted =
     (t : List ℕ) → IfSome (lookup (λ s. same t s) muted) (λ sets. sets ≡ muted_at moment (held t))
 
-abbrev pub StopsMuting : (refused : List (List ℕ)) → ℕ → (List ℕ → List Item) → Fault → Type 0
-StopsMuting refused moment held OutOfMemory = Unit {0}
-StopsMuting refused moment held CountsExhausted = ⊥
-StopsMuting refused moment held PatternNotBuilt = HasUnmuted refused moment held
+abbrev pub StopsMuting : (refused : List (List ℕ)) → ℕ → (flushes : List ℕ → Bool) → (held : List ℕ → List Item) → Fault → Type 0
+StopsMuting refused moment flushes held OutOfMemory = Unit {0}
+StopsMuting refused moment flushes held CountsExhausted = ⊥
+StopsMuting refused moment flushes held PatternNotBuilt = HasUnmuted refused moment flushes held

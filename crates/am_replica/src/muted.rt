@@ -5,7 +5,7 @@ ghost use Rattle.std.specs.Map.{lookup};
 ghost use Rattle.am_tenant.specs.Names.{same};
 ghost use Rattle.am_pattern.specs.Asking.{Asked};
 ghost use Rattle.am_book.specs.Book.{items_of};
-ghost use Rattle.am_replica.specs.Ticks.{AreMuted, StopsMuting, has_muted, is_flush, muted_at, muted_for, some_flush};
+ghost use Rattle.am_replica.specs.Ticks.{AreMuted, StopsMuting, has_muted, is_flush, is_flush_of, muted_at, muted_for, some_flush};
 
 use crate::sets::no_sets;
 use am_current::Holdings;
@@ -52,7 +52,7 @@ impl Muted {
         ensures right { IfOk result (λ m. (t : List ℕ) → some_flush t due.now ≡ true → muted_for t m ≡ muted_at moment (items_of t holdings.old)) }
         ensures stays { holdings.new ≡ holdings.old }
         ensures asked { Asked result cache.old cache.new }
-        ensures fault { IfErr result (StopsMuting cache.new.refused moment (λ t. items_of t holdings.old)) }
+        ensures fault { IfErr result (StopsMuting cache.new.refused moment (λ t. some_flush t due.now) (λ t. items_of t holdings.old)) }
     {
         let mut muted = Muted::new(alloc);
         for timer in due {
@@ -86,7 +86,7 @@ impl Muted {
         ensures found { OnOk result (is_flush timer.now.name.key ≡ true → has_muted timer.now.name.tenant self.new ≡ true) }
         ensures stays { holdings.new ≡ holdings.old }
         ensures asked { Asked result cache.old cache.new }
-        ensures fault { IfErr result (StopsMuting cache.new.refused moment (λ t. items_of t holdings.old)) }
+        ensures fault { IfErr result (StopsMuting cache.new.refused moment (λ t. is_flush_of t timer.now) (λ t. items_of t holdings.old)) }
     {
         if self.is_needed(timer) {
             let tenant = &timer.name.tenant;
@@ -143,7 +143,7 @@ fn sets_of(
     ensures muted { IfOk result (λ sets. sets ≡ muted_at moment (items_of tenant.now holdings.old)) }
     ensures stays { holdings.new ≡ holdings.old }
     ensures asked { Asked result cache.old cache.new }
-    ensures fault { IfErr result (StopsMuting cache.new.refused moment (λ t. items_of t holdings.old)) }
+    ensures fault { IfErr result (StopsMuting cache.new.refused moment (λ t. same t tenant.now) (λ t. items_of t holdings.old)) }
 {
     let (held, config) = holdings.in_use(alloc, tenant)?;
     match muted_sets(alloc, held, config, moment, cache) {

@@ -11,7 +11,7 @@ ghost use Rattle.am_replica.specs.Held.{Does, StopsFor, local_of};
 ghost use Rattle.am_replica.specs.Local.{Tells};
 ghost use Rattle.am_replica.specs.Plans.{IsPlanned};
 ghost use Rattle.am_replica.specs.Ticking.{due_keys, handled};
-ghost use Rattle.am_replica.specs.Ticks.{AreHandled, DoesDue, StopsAt, StopsDoing, StopsHandling, StopsMuting, TicksAll, here_for, keys_for, muted_at, muted_for, said_of, some_flush};
+ghost use Rattle.am_replica.specs.Ticks.{AreHandled, DoesDue, StopsAt, StopsDoing, StopsHandling, StopsMuting, TicksAll, has_flush, here_for, keys_for, muted_at, muted_for, said_of, some_flush};
 
 use crate::dispatch::Dispatch;
 use crate::here::Here;
@@ -83,7 +83,7 @@ impl Parts {
         ensures muted { IfOk result (λ found. (t : List ℕ) → some_flush t found.0.items ≡ true → muted_for t found.1 ≡ muted_at moment (local_of t self.old).held) }
         ensures stays { self.new ≡ self.old }
         ensures asked { Asked result cache.old cache.new }
-        ensures fault { IfErr result (StopsMuting cache.new.refused moment (λ t. (local_of t self.old).held)) }
+        ensures fault { IfErr result (StopsMuting cache.new.refused moment (λ t. has_flush t moment (local_of t self.old).plan) (λ t. (local_of t self.old).held)) }
     {
         let due = self.agenda.due(alloc, moment)?;
         let muted = Muted::of(alloc, &mut self.holdings, &due, moment, cache)?;

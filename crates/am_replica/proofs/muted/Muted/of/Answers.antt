@@ -1,7 +1,8 @@
 use Rattle.std.proofs.Common.{◌∙◌, refl, take}
 use Rattle.std.proofs.lemmas.List.{take_more, take_all}
+use Rattle.std.proofs.lemmas.Result.{err_from_is_err_and}
 use Rattle.am_book.specs.Book.{items_of}
-use Rattle.am_replica.proofs.Muteds.{flush_more, found_right, none_flush, none_right}
+use Rattle.am_replica.proofs.Muteds.{flush_more, found_right, none_flush, none_right, stops_among}
 use Rattle.am_replica.proofs.muted.Muted.of.Goals as goal
 
 pub loop-timer-init : goal.loop-timer-init
@@ -29,3 +30,9 @@ pub returns-clause-right : goal.returns-clause-right
 returns-clause-right c = λ t some.
     found_right c.args.moment (λ s. items_of s c.args.holdings.now) c.loop-timer.muted t c.loop-timer.invariant.right
     (c.loop-timer.invariant.found t (rw (take_all c.loop-timer.timer-index c.args.due.now c.loop-timer-test.false) some))
+
+pub returns-in_err-add-clause-fault : goal.returns-in_err-add-clause-fault
+returns-in_err-add-clause-fault c =
+    let p = err_from_is_err_and c.from_residual.result c.from_residual.ensures.1 in
+    rw (p.1, p.2) (stops_among _ c.args.moment c.args.due.now c.loop-timer.timer-index c.timer-item.result (λ t. items_of t c.args.holdings.now) _
+    c.loop-timer-test.true c.timer-item.is (rw c.loop-timer.invariant.stays at c.in_err-add.ensures.fault))
