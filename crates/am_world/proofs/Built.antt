@@ -5,6 +5,7 @@ use Rattle.std.proofs.lemmas.Grind.{flat_map-append}
 use Rattle.std.proofs.lemmas.List.{append-nil, append_assoc}
 use Rattle.std.proofs.lemmas.List.Elements.{All-cons, All-contains, All-head, All-nil, All-tail, All-weaker}
 use Rattle.std.proofs.lemmas.List.Folds.{list_any-append}
+use Rattle.am_muting.specs.Failing.{AddsAmong}
 use Rattle.am_query.specs.Patterns.{HasRefused}
 use Rattle.am_match.specs.Checking.{AreRefusedRightly}
 use Rattle.am_pattern.specs.Refused.{IsRefusedRightly, has_text}
@@ -19,6 +20,13 @@ more_then xs ys zs (first, is) (next, then) = (first ++ next, then ∙ ap (λ l.
 
 pub more_nothing : (xs ys : List (List ℕ)) → ys ≡ xs → HasMore xs ys
 more_nothing xs ys e = ([], e ∙ sym (append-nil xs))
+
+-- what nothing was added to has more of any kind
+pub adds_none : (texts old new : List (List ℕ)) → new ≡ old → AddsAmong texts old new
+adds_none texts old new e = record { more = []; refused = e ∙ sym (append-nil old); each = All-nil _ }
+
+pub more_among : (texts old new : List (List ℕ)) → AddsAmong texts old new → HasMore old new
+more_among texts old new adds = (adds.more, adds.refused)
 
 pub keep_then : (xs ys zs : List Instance) → KeepRefused xs ys → KeepRefused ys zs → KeepRefused xs zs
 keep_then xs ys zs first next i = more_then _ _ _ (first i) (next i)

@@ -7,13 +7,14 @@ use Rattle.std.proofs.lemmas.Option.{slice_get_read, slice_get_within}
 use Rattle.am_world.specs.declared.instance.Instance.{Instance}
 use Rattle.am_api.specs.Replied.{Decision}
 use Rattle.am_http.specs.Connections.{bytes_of, left_open}
+use Rattle.am_http.specs.declared.request.Fed.{Fed}
 use Rattle.am_http.specs.declared.request.Request.{Request}
 use Rattle.am_world.specs.declared.event.Output.{Output}
 use Rattle.am_world.specs.Places.{AreNumbered, HasMore, IsDownAt, IsReadOnce, KeepRefused, SameElsewhere, bytes_at, bytes_where, here_in, here_of, incarnation_at, incarnation_where, instance_at, local_at, local_in, local_where, reads, refused_at, refused_where, roster_of, up_at, up_where}
 use Rattle.am_http.specs.Verdict.{verdict}
 use Rattle.am_replica.specs.Local.{blank}
 use Rattle.am_tenant.specs.Names.{same}
-use Rattle.am_world.specs.Reaction.{Brought, Here, MayDecide, Terms, brought, decision_at}
+use Rattle.am_world.specs.Reaction.{Brought, Here, MayDecide, Terms, asked_for, brought, decision_at}
 use Rattle.am_world.specs.Roster.{IsSameRoster}
 use Rattle.am_world.specs.Setup.{is_instance, numbers}
 use Rattle.am_world.specs.Taking.{Brings, Takes, taken_at}
@@ -241,10 +242,23 @@ taken_here i c xs x bytes decide moment e = rw e refl
 
 decided_here : (i moment : ℕ) (terms : Terms) (xs ys : List Instance) (x y : Instance) (request : Request) (d : Decision) →
     instance_at i xs ≡ Some x → instance_at i ys ≡ Some y →
-    MayDecide y.cache.refused request (decision_at (here_of x moment terms) request (local_in request.tenant x)) d →
-    MayDecide (refused_at i ys) request (decision_at (here_in moment terms i xs) request (local_at request.tenant i xs)) d
+    MayDecide x.cache.refused y.cache.refused request terms.limits
+    (decision_at (here_of x moment terms) request (local_in request.tenant x)) d →
+    MayDecide (refused_at i xs) (refused_at i ys) request terms.limits
+    (decision_at (here_in moment terms i xs) request (local_at request.tenant i xs)) d
 decided_here i moment terms xs ys x y request d here there may =
-    rw (refused_here i ys y there, here_here i moment terms xs x here, local_here request.tenant i xs x here) may
+    rw (
+      refused_here i xs x here,
+      refused_here i ys y there,
+      here_here i moment terms xs x here,
+      local_here request.tenant i xs x here,
+    ) may
+
+-- what its bytes have it ask
+asked_here : (i : ℕ) (xs : List Instance) (x : Instance) (told : Fed) (moment : ℕ) → instance_at i xs ≡ Some x →
+    asked_for told moment (λ t. local_at t i xs) ≡ asked_for told moment (λ t. local_in t x)
+unfolding local_at
+asked_here i xs x told moment e = rw e refl
 
 -- the instance at a place took a piece in
 pub takes_here : (i c : ℕ) (xs ys : List Instance) (x y : Instance) (bytes : List ℕ) (moment : ℕ) (terms : List ℕ → Terms) (outs outs' : List Output) →
@@ -259,6 +273,12 @@ takes_here i c xs ys x y bytes moment terms outs outs' here change brings front 
       outputs = brings.outputs ∙ ap (λ (b : Brought). outs ++ b.outputs) (sym same);
       fits = ap (λ (b : Brought). b.fits) same ∙ brings.fits;
       local = λ t. local_here t i ys y change.here ∙ brings.local t ∙ ap (λ (b : Brought). b.local t) (sym same);
+      built = brings.built;
+      adds = rw (
+        asked_here i xs x (verdict bytes) moment here,
+        refused_here i xs x here,
+        refused_here i ys y change.here,
+      ) brings.adds;
       reading = λ d. bytes_here d i ys y change.here ∙ front d
           ∙ ap (λ o. if nat_eq d c then left_open (verdict bytes) bytes else o) (sym (bytes_here d i xs x here));
       up = up_here i ys y change.here ∙ up ∙ sym (up_here i xs x here);

@@ -12,14 +12,14 @@ use Rattle.am_world.specs.declared.world.World.{World}
 use Rattle.am_world.specs.Moments.{clock_after, last_moment}
 use Rattle.am_world.specs.Outputs.{front_told}
 use Rattle.am_world.specs.Places.{IsReadOnce, SameElsewhere, bytes_at, incarnation_at, local_at, refused_at, roster_of, up_at}
-use Rattle.am_world.specs.PrivateCluster.{Course, Limited, PrivateCluster, Ticked, after_all, course, fits_all, ticks, told_all, unchanged}
+use Rattle.am_world.specs.PrivateCluster.{AreAllBuilt, Course, Happening, IsBuilt, Limited, PrivateCluster, Ticked, after_all, course, fits_all, ticks, told_all, unchanged}
 use Rattle.am_world.specs.Roster.{IsSameRoster, Roster, roster_after}
 use Rattle.am_limit.specs.Books.{limits_of}
 use Rattle.am_limit.specs.declared.limits.Limits as limit
 use Rattle.am_tenant.specs.Names.{same}
-use Rattle.am_world.specs.Simulation.{Follows, Kept, Premises, Stands, bytes_read, fault_count, limits_after, put_out}
+use Rattle.am_world.specs.Simulation.{Follows, Kept, Premises, Stands, asked_at, bytes_read, fault_count, limits_after, put_out}
 use Rattle.am_world.specs.View.{Reading, Seen, AskedAs, FrontAnswered, Shut, Watch, adds, look, watch}
-use Rattle.am_world.proofs.Built.{keep_equal, keep_same}
+use Rattle.am_world.proofs.Built.{adds_none}
 use Rattle.am_world.proofs.Faults.{incarnations_stay}
 
 pub same_again : (r : Roster) → IsSameRoster r r
@@ -91,51 +91,57 @@ kept_open w w' c i up reading same outputs faults = record {
   follows = λ v f. follows_open v w w' c i up reading same.roster f;
   outs = [];
   appended = outputs ∙ sym (append-nil (put_out w));
-  tenants = λ t v p given. record { stands = stands_same t w w' p same given.stands; told = λ u later. refl; fits = refl };
+  tenants = λ t v p given. inl (record { stands = stands_same t w w' p same given.stands; told = λ u later. refl; fits = refl; built = tt });
   front = λ v f u later. refl;
   owned = λ v f u later. refl;
   roster = same.roster;
   clock = same.clock;
   limits = λ t. ap (limits_of t) same.limits;
   service_key = same.service_key;
-  refused = keep_same _ _ same.refused;
+  refused = λ i. adds_none [] _ _ (same.refused i);
   faults = faults;
 }
 
 -- an event that adds nothing to any view, and is no change to what is known of any world
 pub kept_nothing : (w : World) (e : Event) → ((v : Watch) → Follows v w → watch v e ≡ v) →
-    ((t : List ℕ) (v : Watch) (p : PrivateCluster) → Premises t v p w e w →
-    (after_all p (adds t v e) ≡ p) × (told_all p (adds t v e) ≡ []) × (fits_all p (adds t v e) ≡ true)) →
+    ((t : List ℕ) (v : Watch) (p : PrivateCluster) → Premises t v p w →
+    (after_all p (adds t v e) ≡ p) × (told_all p (adds t v e) ≡ []) × (fits_all p (adds t v e) ≡ true) × AreAllBuilt p (adds t v e)) →
     ((v : Watch) → Follows v w → front_told v e ≡ []) → IsSameRoster (roster_of w.instances) (roster_after e (roster_of w.instances)) →
     w.clock ≡ clock_after e w.clock → ((t : List ℕ) (limits : limit.Limits) → limits ≡ limits_after e t limits) → Kept w e w
 kept_nothing w e unchanged nothing unsaid roster clock limits = record {
   follows = λ v f. rw (unchanged v f) f;
   outs = [];
   appended = sym (append-nil (put_out w));
-  tenants = λ t v p given. record {
+  tenants = λ t v p given. inl (record {
     stands = rw ((nothing t v p given).0) given.stands;
     told = λ u later. sym ((nothing t v p given).1);
     fits = (nothing t v p given).2;
-  };
+    built = (nothing t v p given).3;
+  });
   front = λ v f u later. sym (unsaid v f);
   owned = λ v f u later. refl;
   roster = roster;
   clock = clock;
   limits = λ t. limits t (limits_of t w.limits);
   service_key = refl;
-  refused = keep_equal w.instances w.instances refl;
+  refused = λ i. adds_none (asked_at w e i) _ _ refl;
   faults = refl;
 }
 
 pub kept_not_up : (w : World) (c i : ℕ) → up_at i w.instances ≡ false → Kept w (Open c i) w
 unfolding watch adds front_told
-kept_not_up w c i down = kept_nothing w (Open c i) (λ v f. rw (sym (f.roster.up i) ∙ down) refl) (λ t v p given. (refl, refl, refl)) (λ v f. refl)
+kept_not_up w c i down = kept_nothing w (Open c i) (λ v f. rw (sym (f.roster.up i) ∙ down) refl) (λ t v p given. (refl, refl, refl, tt)) (λ v f. refl)
     (same_again (roster_of w.instances)) refl (λ t limits. refl)
 
 pub kept_late_bytes : (w : World) (c m : ℕ) (piece : List ℕ) → nat_lt last_moment m ≡ true → Kept w (Bytes c m piece) w
 unfolding watch adds front_told
-kept_late_bytes w c m piece late = kept_nothing w (Bytes c m piece) (λ v f. rw late refl) (λ t v p given. rw late (refl, refl, refl)) (λ v f. rw late refl)
+kept_late_bytes w c m piece late = kept_nothing w (Bytes c m piece) (λ v f. rw late refl) (λ t v p given. rw late (refl, refl, refl, tt)) (λ v f. rw late refl)
     (same_again (roster_of w.instances)) refl (λ t limits. refl)
+
+-- what is no request brings no pattern
+pub none_asked : (b : Bool) (p : PrivateCluster) (h : Happening) → IsBuilt p h → AreAllBuilt p (if b then h ∷ [] else [])
+none_asked true p h built = (built, tt)
+none_asked false p h built = tt
 
 -- what a tick is to a private cluster
 pub tick_course : (b : Bool) (p : PrivateCluster) (m : ℕ) → (nat_lt last_moment m || nat_lt m p.clock) ≡ b →
@@ -152,7 +158,7 @@ unfolding watch adds front_told
 kept_refused_tick w m refused = kept_nothing w (Tick m) (λ v f. refl)
     (λ t v p given.
     let same : course p (Ticked m) ≡ unchanged p = tick_course true p m (rw (← given.stands.clock) refused) in
-    (ap (λ (q : Course). q.cluster) same, ap (λ (q : Course). q.outputs ++ []) same, ap (λ (q : Course). q.fits && true) same))
+    (ap (λ (q : Course). q.cluster) same, ap (λ (q : Course). q.outputs ++ []) same, ap (λ (q : Course). q.fits && true) same, (tt, tt)))
     (λ v f. refl) (same_again (roster_of w.instances)) (rw refused refl) (λ t limits. refl)
 
 -- the later of two moments
@@ -190,14 +196,14 @@ kept_limits w w' tenant limits set service_key clock instances outputs faults = 
   tenants = λ t v p given.
       let own = limited_alone (same t tenant) t w' p limits (set t ∙ limits_then (same t tenant) limits _ _ given.stands.limits)
       (service_key ∙ given.stands.service_key) given.stands.tenant (clock ∙ given.stands.clock) (rw instances given.stands.roster) (rw instances given.stands.local) in
-      record { stands = own.0; told = λ u later. sym own.1; fits = own.2 };
+      inl (record { stands = own.0; told = λ u later. sym own.1; fits = own.2; built = none_asked (same t tenant) p (Limited limits) tt });
   front = λ v f u later. refl;
   owned = λ v f u later. refl;
   roster = rw instances (same_again (roster_of w.instances));
   clock = clock;
   limits = set;
   service_key = service_key;
-  refused = keep_equal _ _ instances;
+  refused = λ i. adds_none [] _ _ (ap (refused_at i) instances);
   faults = faults;
 }
 

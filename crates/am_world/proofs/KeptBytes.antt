@@ -1,13 +1,12 @@
 -- bytes keep the simulation, whatever their verdict
 use Rattle.std.proofs.Common.{◌≡◌, inl, inr, ◌∙◌, ℕ, ◌==◌, ◌&&◌, nat_lt, true, false, List, [], ◌∷◌, ◌++◌, Option, None, Some, refl, sym, ap, arith, if◌then◌else◌, nat_eq}
-use Rattle.std.proofs.lemmas.List.{append-nil, append_assoc}
+use Rattle.std.proofs.lemmas.List.{append-nil}
 use Rattle.std.proofs.lemmas.Bool.{cases_Bool}
 use Rattle.std.proofs.lemmas.Bool.Decides.{nat_tests}
 use Rattle.am_http.specs.Connections.{left_open}
 use Rattle.am_http.specs.Verdict.{verdict}
 use Rattle.am_http.specs.Replies.{reply}
 use Rattle.am_alert.specs.Made.{counts_fit}
-use Rattle.am_api.specs.Patterns.{patterns_of_request}
 use Rattle.am_api.specs.Replied.{Decision}
 use Rattle.am_http.specs.declared.request.Fed.{Fed}
 use Rattle.am_http.specs.declared.request.Fed.TheVariants as fed
@@ -16,21 +15,18 @@ use Rattle.am_limit.specs.Books.{limits_of}
 use Rattle.am_tenant.specs.Names.{same}
 use Rattle.am_tenant.proofs.Same.{same_tells}
 use Rattle.am_world.specs.declared.event.Event.TheVariants.{Bytes}
-use Rattle.am_world.specs.declared.event.Output.{Output}
 use Rattle.am_world.specs.declared.event.Output.TheVariants.{Reply}
 use Rattle.am_world.specs.declared.instance.Instance.{Instance}
 use Rattle.am_world.specs.declared.world.World.{World}
 use Rattle.am_world.specs.Moments.{effective, last_moment}
 use Rattle.am_world.specs.Outputs.{answered_by, answered_on, are_owned, front_outputs, front_told, outputs_of, owner}
-use Rattle.am_world.specs.Places.{AreBuilt, KeepRefused, SameElsewhere, bytes_at, bytes_where, here_in, incarnation_at, incarnation_where, instance_at, local_at, local_where, refused_at, roster_of, up_at, up_where}
-use Rattle.am_world.specs.PrivateCluster.{Asked, Course, PrivateCluster, after, after_all, course, fits_all, here_at, patterns_in, put_out_at, terms_at, told, told_all}
+use Rattle.am_world.specs.Places.{SameElsewhere, bytes_at, bytes_where, here_in, instance_at, local_at, local_where, roster_of}
+use Rattle.am_world.specs.PrivateCluster.{Asked, Course, PrivateCluster, after, after_all, course, fits_all, here_at, put_out_at, terms_at, told, told_all}
 use Rattle.am_replica.specs.Local.{Reaction}
-use Rattle.am_world.specs.Reaction.{Brought, Here, MayDecide, Terms, asked, brought, carried_out, decision_at, terms_of, terms_with}
+use Rattle.am_world.specs.Reaction.{Brought, Here, asked, brought, carried_out, decision_at, terms_of, terms_with}
 use Rattle.am_world.specs.Roster.{IsSameRoster, put_at}
-use Rattle.am_world.specs.Simulation.{Follows, Kept, Later, Stands, bytes_read, fault_count, put_out, refused_by}
-use Rattle.am_world.specs.Taking.{Takes, taken_at}
+use Rattle.am_world.specs.Simulation.{Follows, Kept, Later, Stands, bytes_read}
 use Rattle.am_world.specs.View.{AskedAs, FrontAnswered, Reading, Seen, Shut, Table, Watch, adds, asked_by, asked_on, look, noted, seen_as, watch}
-use Rattle.am_world.proofs.Built.{none_refused}
 use Rattle.am_world.proofs.Kept.{itself, kept_nothing, roster_then, same_again}
 
 -- ---- what is read
@@ -110,7 +106,7 @@ front_unread v w c m piece unread f = elim (nat_lt last_moment m) as (λ b. (if 
 pub kept_unread_bytes : (w : World) (c m : ℕ) (piece : List ℕ) → ((i : ℕ) → bytes_at c i w.instances ≡ None) → Kept w (Bytes c m piece) w
 kept_unread_bytes w c m piece unread = kept_nothing w (Bytes c m piece)
     (λ v f. watch_unread v w c m piece unread f)
-    (λ t v p given. rw (adds_unread t v w c m piece unread given.follows) (refl, refl, refl))
+    (λ t v p given. rw (adds_unread t v w c m piece unread given.follows) (refl, refl, refl, tt))
     (λ v f. front_unread v w c m piece unread f)
     (same_again (roster_of w.instances))
     refl
@@ -119,17 +115,17 @@ kept_unread_bytes w c m piece unread = kept_nothing w (Bytes c m piece)
 -- ---- bytes that are taken
 
 -- the table and the view, by the verdict
-sees : (v : Watch) (w : World) (n c m : ℕ) (before piece : List ℕ) → nat_lt last_moment m ≡ false → bytes_at c n w.instances ≡ Some before → Follows v w →
+pub sees : (v : Watch) (w : World) (n c m : ℕ) (before piece : List ℕ) → nat_lt last_moment m ≡ false → bytes_at c n w.instances ≡ Some before → Follows v w →
     watch v (Bytes c m piece) ≡ record { table = (c, seen_as n (before ++ piece) (verdict (before ++ piece))) ∷ v.table; roster = v.roster }
 unfolding watch
 sees v w n c m before piece allowed here f = rw (allowed, seen_reading v w n c before f here) refl
 
-gives : (t : List ℕ) (v : Watch) (w : World) (n c m : ℕ) (before piece : List ℕ) → nat_lt last_moment m ≡ false → bytes_at c n w.instances ≡ Some before → Follows v w →
+pub gives : (t : List ℕ) (v : Watch) (w : World) (n c m : ℕ) (before piece : List ℕ) → nat_lt last_moment m ≡ false → bytes_at c n w.instances ≡ Some before → Follows v w →
     adds t v (Bytes c m piece) ≡ asked_by t c n m (verdict (before ++ piece))
 unfolding adds
 gives t v w n c m before piece allowed here f = rw (allowed, seen_reading v w n c before f here) refl
 
-says : (v : Watch) (w : World) (n c m : ℕ) (before piece : List ℕ) → nat_lt last_moment m ≡ false → bytes_at c n w.instances ≡ Some before → Follows v w →
+pub says : (v : Watch) (w : World) (n c m : ℕ) (before piece : List ℕ) → nat_lt last_moment m ≡ false → bytes_at c n w.instances ≡ Some before → Follows v w →
     front_told v (Bytes c m piece) ≡ answered_by c (verdict (before ++ piece))
 unfolding front_told
 says v w n c m before piece allowed here f = rw (allowed, seen_reading v w n c before f here) refl
@@ -153,7 +149,7 @@ unfolding bytes_at
 same_bytes d j xs ys e = ap (bytes_where d) e
 
 -- the table of the connections after the piece
-reading_after : (told : Fed) (n c : ℕ) (v : Watch) (before bytes : List ℕ) (xs ys : List Instance) →
+pub reading_after : (told : Fed) (n c : ℕ) (v : Watch) (before bytes : List ℕ) (xs ys : List Instance) →
     ((d i : ℕ) → bytes_at d i xs ≡ bytes_read i (look d v.table)) → look c v.table ≡ Some (Reading n before) →
     ((d : ℕ) → bytes_at d n ys ≡ (if d == c then left_open told bytes else bytes_at d n xs)) → SameElsewhere n xs ys →
     (d j : ℕ) → bytes_at d j ys ≡ bytes_read j (look d ((c, seen_as n bytes told) ∷ v.table))
@@ -211,7 +207,7 @@ here_same t n m w p s =
     (sym (s.roster.incarnation n))
 
 -- the decision on a request of the tenant, by what the world has
-abbrev decision_in : List ℕ → (n m : ℕ) → Request → World → Decision
+abbrev pub decision_in : List ℕ → (n m : ℕ) → Request → World → Decision
 decision_in t n m r w =
     decision_at (here_in (effective m w.clock) (terms_of w.service_key w.limits t) n w.instances) r (local_at t n w.instances)
 
@@ -243,7 +239,7 @@ local_everywhere t n xs ys here others j = elim (cases_Bool (nat_eq j n)) [
   | inr h ↦ ap (local_where t) (others j h)
 ]
 
-look_here : (c : ℕ) (s : Seen) (table : Table) → look c ((c, s) ∷ table) ≡ Some s
+pub look_here : (c : ℕ) (s : Seen) (table : Table) → look c ((c, s) ∷ table) ≡ Some s
 look_here c s table = rw (itself c) refl
 
 -- an output on a connection belongs to who asked or answered on it
@@ -251,7 +247,7 @@ not_of_tenant : (t : List ℕ) (u : Watch) (c : ℕ) (bytes : List ℕ) → look
 unfolding owner
 not_of_tenant t u c bytes seen = rw seen refl
 
-of_tenant : (t s : List ℕ) (u : Watch) (c : ℕ) (bytes : List ℕ) → look c u.table ≡ Some (AskedAs s) →
+pub of_tenant : (t s : List ℕ) (u : Watch) (c : ℕ) (bytes : List ℕ) → look c u.table ≡ Some (AskedAs s) →
     outputs_of t u (Reply c bytes ∷ []) ≡ (if same t s then Reply c bytes ∷ [] else [])
 unfolding owner
 of_tenant t s u c bytes seen = rw seen (elim (same t s) [ true ↦ refl | false ↦ refl ])
@@ -264,7 +260,7 @@ abbrev pub then_seen : Fed → ℕ → ℕ → List ℕ → Watch → Watch
 then_seen told n c bytes v = record { table = (c, seen_as n bytes told) ∷ v.table; roster = v.roster }
 
 -- what is decided on a request of the tenant is what its cluster decides
-abbrev IsRight : List ℕ → (n m : ℕ) → World → Fed → (Request → Decision) → Type 0
+abbrev pub IsRight : List ℕ → (n m : ℕ) → World → Fed → (Request → Decision) → Type 0
 IsRight t n m w told decide = (r : Request) → told ≡ fed.Request r → t ≡ r.tenant → decide r ≡ decision_in t n m r w
 
 -- the tenant that asked
@@ -278,7 +274,7 @@ asked_alone t n c m r w w' p s here others clock limits service_key roster =
     let reacts : Reacts t n w w' reaction = record { here = here; others = λ j h. ap (local_where t) (others j h); clock = clock; limits = limits; service_key = service_key; roster = roster } in
     rw (ap (λ (q : Course). q.cluster) (asked_course t n c m r w p s)) (stands_reacts t n w w' p reaction reacts s)
 
-stands_bytes : (told : Fed) (decide : Request → Decision) (t : List ℕ) (n c m : ℕ) (w w' : World) (p : PrivateCluster) → Stands t w p →
+pub stands_bytes : (told : Fed) (decide : Request → Decision) (t : List ℕ) (n c m : ℕ) (w w' : World) (p : PrivateCluster) → Stands t w p →
     IsRight t n m w told decide → ((s : List ℕ) → local_at s n w'.instances ≡ (brings told decide n c m w).local s) →
     SameElsewhere n w.instances w'.instances → w'.clock ≡ w.clock → w'.limits ≡ w.limits → w'.service_key ≡ w.service_key →
     IsSameRoster (roster_of w'.instances) (roster_of w.instances) → Stands t w' (after_all p (asked_by t c n m told))
@@ -302,7 +298,7 @@ told_asked : (t : List ℕ) (n c m : ℕ) (r : Request) (w : World) (p : Private
     Reply c (reply (decision_in t n m r w).status (decision_in t n m r w).body) ∷ [] ≡ told p (Asked c n m r)
 told_asked t n c m r w p s = rw (ap (λ (q : Course). q.outputs) (asked_course t n c m r w p s)) refl
 
-told_bytes : (told : Fed) (decide : Request → Decision) (t : List ℕ) (n c m : ℕ) (bytes : List ℕ) (v u : Watch) (w : World) (p : PrivateCluster) →
+pub told_bytes : (told : Fed) (decide : Request → Decision) (t : List ℕ) (n c m : ℕ) (bytes : List ℕ) (v u : Watch) (w : World) (p : PrivateCluster) →
     Stands t w p → IsRight t n m w told decide → Later (then_seen told n c bytes v) u →
     outputs_of t u (brings told decide n c m w).outputs ≡ told_all p (asked_by t c n m told)
 told_bytes fed.Waits decide t n c m bytes v u w p s right later = refl
@@ -316,7 +312,7 @@ told_bytes (fed.Request r) decide t n c m bytes v u w p s right later =
       | inr e ↦ rw (e.0) refl
     ]
 
-fits_bytes : (told : Fed) (decide : Request → Decision) (t : List ℕ) (n c m : ℕ) (w : World) (p : PrivateCluster) → Stands t w p →
+pub fits_bytes : (told : Fed) (decide : Request → Decision) (t : List ℕ) (n c m : ℕ) (w : World) (p : PrivateCluster) → Stands t w p →
     IsRight t n m w told decide → (brings told decide n c m w).fits ≡ true → fits_all p (asked_by t c n m told) ≡ true
 fits_bytes fed.Waits decide t n c m w p s right fit = refl
 fits_bytes (fed.Refused reason) decide t n c m w p s right fit = refl
@@ -337,7 +333,7 @@ not_of_front : (t : List ℕ) (u : Watch) (c : ℕ) (bytes : List ℕ) → look 
 unfolding owner
 not_of_front t u c bytes seen = rw seen refl
 
-front_bytes : (told : Fed) (decide : Request → Decision) (n c m : ℕ) (bytes : List ℕ) (v u : Watch) (w : World) →
+pub front_bytes : (told : Fed) (decide : Request → Decision) (n c m : ℕ) (bytes : List ℕ) (v u : Watch) (w : World) →
     Later (then_seen told n c bytes v) u → front_outputs u (brings told decide n c m w).outputs ≡ answered_by c told
 front_bytes fed.Waits decide n c m bytes v u w later = refl
 front_bytes (fed.Refused reason) decide n c m bytes v u w later = of_front u c _ (later.answered c (look_here c FrontAnswered v.table))
@@ -353,79 +349,9 @@ owned_reply : (t : List ℕ) (u : Watch) (c : ℕ) (bytes : List ℕ) → look c
 unfolding owner
 owned_reply t u c bytes seen = rw seen refl
 
-owned_bytes : (told : Fed) (decide : Request → Decision) (n c m : ℕ) (bytes : List ℕ) (v u : Watch) (w : World) →
+pub owned_bytes : (told : Fed) (decide : Request → Decision) (n c m : ℕ) (bytes : List ℕ) (v u : Watch) (w : World) →
     Later (then_seen told n c bytes v) u → are_owned u (brings told decide n c m w).outputs ≡ true
 owned_bytes fed.Waits decide n c m bytes v u w later = refl
 owned_bytes (fed.Refused reason) decide n c m bytes v u w later = owned_answer u c _ (later.answered c (look_here c FrontAnswered v.table))
 owned_bytes fed.Ready decide n c m bytes v u w later = owned_answer u c _ (later.answered c (look_here c FrontAnswered v.table))
 owned_bytes (fed.Request r) decide n c m bytes v u w later = owned_reply r.tenant u c _ (later.asked c r.tenant (look_here c (AskedAs r.tenant) v.table))
-
--- ---- a piece
-
-roster_taken : (n c : ℕ) (bytes : List ℕ) (m : ℕ) (terms : List ℕ → Terms) (xs ys : List Instance) (outs outs' : List Output) →
-    Takes n c bytes m terms xs ys outs outs' → IsSameRoster (roster_of ys) (roster_of xs)
-unfolding up_at incarnation_at
-roster_taken n c bytes m terms xs ys outs outs' takes = record {
-  up = λ j. elim (cases_Bool (nat_eq j n)) [
-    | inl h ↦ let number : j ≡ n = grind (arith, nat_tests) in ap (λ k. up_at k ys) number ∙ takes.up ∙ ap (λ k. up_at k xs) (sym number)
-    | inr h ↦ ap up_where (takes.others j h)
-  ];
-  incarnation = λ j. elim (cases_Bool (nat_eq j n)) [
-    | inl h ↦ let number : j ≡ n = grind (arith, nat_tests) in ap (λ k. incarnation_at k ys) number ∙ takes.incarnation ∙ ap (λ k. incarnation_at k xs) (sym number)
-    | inr h ↦ ap incarnation_where (takes.others j h)
-  ];
-}
-
--- what was decided on a request of the tenant is the decision, as none of its patterns was refused a build
-right_decision : (t : List ℕ) (n c m : ℕ) (r : Request) (w : World) (refused : ℕ → List (List ℕ)) (d : Decision) → t ≡ r.tenant →
-    AreBuilt refused (patterns_in (asked_by t c n m (fed.Request r))) →
-    MayDecide (refused n) r (decision_in r.tenant n m r w) d → d ≡ decision_in t n m r w
-right_decision t n c m r w refused d own built (inl same) = same ∙ ap (λ k. decision_in k n m r w) (sym own)
-right_decision t n c m r w refused d own built (inr (unbuilt, has)) =
-    let asked : same t r.tenant ≡ true = same_itself own in
-    let all = rw asked at (built n) in
-    absurd (none_refused (refused n) (patterns_of_request r) (rw (append-nil (patterns_of_request r)) at all) has)
-  where
-    same_itself : t ≡ r.tenant → same t r.tenant ≡ true
-    same_itself e = elim (same_tells t r.tenant) [ inl tells ↦ tells.0 | inr tells ↦ absurd (tells.1 e) ]
-
-is_right : (t : List ℕ) (n c m : ℕ) (bytes : List ℕ) (w w' : World) (told : Fed) (decide : Request → Decision) →
-    ((r : Request) → told ≡ fed.Request r → MayDecide (refused_at n w'.instances) r (decision_in r.tenant n m r w) (decide r)) →
-    AreBuilt (refused_by w') (patterns_in (asked_by t c n m told)) → IsRight t n m w told decide
-is_right t n c m bytes w w' told decide decided built r is own =
-    right_decision t n c m r w (refused_by w') (decide r) own (rw is at built) (decided r is)
-
-pub kept_bytes : (w w' : World) (n c m : ℕ) (before piece : List ℕ) → nat_lt last_moment m ≡ false → bytes_at c n w.instances ≡ Some before →
-    Takes n c (before ++ piece) (effective m w.clock) (λ t. terms_of w.service_key w.limits t) w.instances w'.instances (put_out w) (put_out w') →
-    KeepRefused w.instances w'.instances → w'.clock ≡ w.clock → w'.limits ≡ w.limits → w'.service_key ≡ w.service_key →
-    fault_count w' ≡ fault_count w → Kept w (Bytes c m piece) w'
-kept_bytes w w' n c m before piece allowed here takes refused clock limits service_key faults =
-    let bytes = before ++ piece in
-    let told = verdict bytes in
-    let roster = roster_taken n c bytes (effective m w.clock) _ w.instances w'.instances _ _ takes in
-    record {
-      follows = λ v f. rw (sees v w n c m before piece allowed here f) (record {
-        reading = reading_after told n c v before bytes w.instances w'.instances f.reading (seen_reading v w n c before f here) takes.reading takes.others;
-        roster = roster_then _ _ _ roster f.roster;
-      });
-      outs = (taken_at n c bytes takes.decide (effective m w.clock) w.instances).outputs;
-      appended = takes.outputs;
-      tenants = λ t v p given.
-          let adds_here = gives t v w n c m before piece allowed here given.follows in
-          let right = is_right t n c m bytes w w' told takes.decide takes.decided (rw adds_here at given.brought) in
-          record {
-            stands = rw adds_here (stands_bytes told takes.decide t n c m w w' p given.stands right takes.local takes.others clock limits service_key roster);
-            told = λ u later. rw adds_here
-                (told_bytes told takes.decide t n c m bytes v u w p given.stands right (rw (sees v w n c m before piece allowed here given.follows) at later));
-            fits = rw adds_here (fits_bytes told takes.decide t n c m w p given.stands right takes.fits);
-          };
-      front = λ v f u later. rw (says v w n c m before piece allowed here f)
-          (front_bytes told takes.decide n c m bytes v u w (rw (sees v w n c m before piece allowed here f) at later));
-      owned = λ v f u later. owned_bytes told takes.decide n c m bytes v u w (rw (sees v w n c m before piece allowed here f) at later);
-      roster = roster;
-      clock = clock;
-      limits = λ t. ap (limits_of t) limits;
-      service_key = service_key;
-      refused = refused;
-      faults = faults;
-    }

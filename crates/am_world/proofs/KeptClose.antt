@@ -10,7 +10,7 @@ use Rattle.am_world.specs.Outputs.{front_told}
 use Rattle.am_world.specs.Places.{bytes_at, roster_of}
 use Rattle.am_world.specs.Simulation.{Follows, Kept, bytes_read, fault_count, put_out}
 use Rattle.am_world.specs.View.{AskedAs, FrontAnswered, Reading, Seen, Shut, Table, Watch, adds, left, look, watch}
-use Rattle.am_world.proofs.Built.{keep_same}
+use Rattle.am_world.proofs.Built.{adds_none}
 use Rattle.am_world.proofs.Kept.{SameParts, kept_nothing, roster_then, same_again, stands_same}
 use Rattle.am_world.proofs.KeptBytes.{read_itself, seen_reading, unread_anywhere}
 
@@ -31,7 +31,7 @@ pub kept_unread_close : (w : World) (c : ℕ) → ((i : ℕ) → bytes_at c i w.
 unfolding adds front_told
 kept_unread_close w c unread = kept_nothing w (Close c)
     (λ v f. watch_unread v w c unread f)
-    (λ t v p given. (refl, refl, refl))
+    (λ t v p given. (refl, refl, refl, tt))
     (λ v f. refl)
     (same_again (roster_of w.instances))
     refl
@@ -68,13 +68,13 @@ kept_close w w' n c before here reading same outputs faults = record {
       });
   outs = [];
   appended = outputs ∙ sym (append-nil (put_out w));
-  tenants = λ t v p given. record { stands = stands_same t w w' p same given.stands; told = λ u later. refl; fits = refl };
+  tenants = λ t v p given. inl (record { stands = stands_same t w w' p same given.stands; told = λ u later. refl; fits = refl; built = tt });
   front = λ v f u later. refl;
   owned = λ v f u later. refl;
   roster = same.roster;
   clock = same.clock;
   limits = λ t. ap (limits_of t) same.limits;
   service_key = same.service_key;
-  refused = keep_same _ _ same.refused;
+  refused = λ i. adds_none [] _ _ (same.refused i);
   faults = faults;
 }

@@ -17,13 +17,13 @@ use Rattle.am_world.specs.declared.world.World.{World}
 use Rattle.am_world.specs.Moments.{effective, last_moment}
 use Rattle.am_world.specs.Outputs.{front_told}
 use Rattle.am_world.specs.Places.{SameElsewhere, awaits_at, bytes_at, here_in, local_at, local_where, refused_at, roster_of}
-use Rattle.am_world.specs.PrivateCluster.{Course, PrivateCluster, Tried, after_all, awaits, course, fits_all, handled, here_at, put_out_at, told_all, unchanged}
+use Rattle.am_world.specs.PrivateCluster.{AreAllBuilt, Course, PrivateCluster, Tried, after_all, awaits, course, fits_all, handled, here_at, put_out_at, told_all, unchanged}
 use Rattle.am_world.specs.Reaction.{in_replica, output_of, terms_of}
 use Rattle.am_world.specs.Roster.{IsSameRoster, put_at}
 use Rattle.am_world.specs.Simulation.{Kept, Stands, fault_count, put_out}
 use Rattle.am_world.specs.View.{adds, watch}
-use Rattle.am_world.proofs.Built.{keep_same}
-use Rattle.am_world.proofs.Kept.{kept_nothing, roster_then, same_again}
+use Rattle.am_world.proofs.Built.{adds_none}
+use Rattle.am_world.proofs.Kept.{kept_nothing, none_asked, roster_then, same_again}
 use Rattle.am_world.proofs.KeptBytes.{Reacts, here_same, local_everywhere, stands_kept, stands_reacts}
 use Rattle.am_world.proofs.RefusalSeen.{awaits_same}
 use Rattle.am_world.proofs.Turns.{local_same}
@@ -56,10 +56,11 @@ nothing_tried : (b : Bool) (p : PrivateCluster) (i k number tries moment : ℕ) 
     (after_all p (if b then Tried i k number tries moment status ∷ [] else []) ≡ p)
     × (told_all p (if b then Tried i k number tries moment status ∷ [] else []) ≡ [])
     × (fits_all p (if b then Tried i k number tries moment status ∷ [] else []) ≡ true)
+    × AreAllBuilt p (if b then Tried i k number tries moment status ∷ [] else [])
 nothing_tried true p i k number tries moment status unchanging =
     let is = unchanging refl in
-    (ap (λ (q : Course). q.cluster) is, ap (λ (q : Course). q.outputs ++ []) is, ap (λ (q : Course). q.fits && true) is)
-nothing_tried false p i k number tries moment status unchanging = (refl, refl, refl)
+    (ap (λ (q : Course). q.cluster) is, ap (λ (q : Course). q.outputs ++ []) is, ap (λ (q : Course). q.fits && true) is, (tt, tt))
+nothing_tried false p i k number tries moment status unchanging = (refl, refl, refl, tt)
 
 pub kept_unawaited : (w : World) (attempt : AttemptName) (tries m : ℕ) (status : Option ℕ) →
     ((nat_lt last_moment m ≡ true) ⊎ (awaits_at attempt tries w.instances ≡ false)) → Kept w (Outcome attempt tries m status) w
@@ -163,13 +164,18 @@ kept_outcome w w' attempt tries m status allowed awaited local fit others readin
   appended = outputs ∙ sym (append-nil (put_out w));
   tenants = λ t v p given.
       let own = tried_alone t w w' p attempt tries m status given.stands allowed awaited (local t) fit others clock limits service_key roster in
-      record { stands = own.0; told = λ u later. sym own.1; fits = own.2 };
+      inl (record {
+        stands = own.0;
+        told = λ u later. sym own.1;
+        fits = own.2;
+        built = none_asked (same t attempt.tenant) p (Tried attempt.instance attempt.incarnation attempt.number tries m status) tt;
+      });
   front = λ v f u later. refl;
   owned = λ v f u later. refl;
   roster = roster;
   clock = clock;
   limits = λ t. ap (limits_of t) limits;
   service_key = service_key;
-  refused = keep_same _ _ refused;
+  refused = λ i. adds_none [] _ _ (refused i);
   faults = faults;
 }

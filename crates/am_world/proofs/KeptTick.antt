@@ -24,6 +24,7 @@ use Rattle.am_world.specs.Simulation.{Faulted, Follows, Kept, Stands, fault_coun
 use Rattle.am_world.specs.Ticks.{TakeTurns}
 use Rattle.am_world.specs.View.{adds, watch}
 use Rattle.am_world.proofs.InstancesLemmas.{CountsFrom}
+use Rattle.am_world.proofs.Built.{adds_none}
 use Rattle.am_world.proofs.Kept.{roster_then, tick_course}
 use Rattle.am_world.proofs.Turns.{AllTicked, all_ticked, has, has_between, some_stopped, turn}
 
@@ -115,21 +116,22 @@ kept_tick w w' m faults allowed clock turns none exist limits service_key counte
       appended = all.appended;
       tenants = λ t v p given.
           let course_is : course p (Ticked m) ≡ ticks m p = tick_course false p m (rw (← given.stands.clock) allowed) in
-          record {
+          inl (record {
             stands = rw (ap (λ (q : Course). q.cluster) course_is)
                 (stands_ticked t w w' p m clock limits service_key all.roster (local_alone t m w p w'.instances given.stands exist (all.local t)) given.stands);
             told = λ u later. all.told t u ∙ put_out_alone t m w p given.stands numbers
                 ∙ sym (append-nil (ticks m p).outputs) ∙ sym (ap (λ (q : Course). q.outputs ++ []) course_is);
             fits = ap (λ (q : Course). q.fits && true) course_is
                 ∙ ap (λ b. b && true) (sym (fits_alone t m w p given.stands numbers) ∙ all.fits t);
-          };
+            built = (tt, tt);
+          });
       front = λ v f u later. all.front u;
       owned = λ v f u later. all.owned u;
       roster = all.roster;
       clock = rw allowed clock;
       limits = λ t. ap (limits_of t) limits;
       service_key = service_key;
-      refused = all.refused;
+      refused = λ i. adds_none [] _ _ (all.refused i);
       faults = counted;
     }
 

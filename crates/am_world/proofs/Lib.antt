@@ -6,6 +6,7 @@ mod Kept
 mod KeptBytes
 mod KeptClose
 mod KeptOutcome
+mod KeptPieces
 mod KeptTick
 mod Opening
 mod RefusalSeen

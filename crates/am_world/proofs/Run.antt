@@ -5,6 +5,7 @@ use Rattle.std.proofs.lemmas.Bool.Decides.{nat_tests}
 use Rattle.std.proofs.lemmas.List.{append-nil, append_assoc}
 use Rattle.std.proofs.lemmas.List.Elements.{filter-append}
 use Rattle.std.proofs.lemmas.List.Folds.{list_all-append}
+use Rattle.am_api.specs.Patterns.{patterns_of_request}
 use Rattle.am_world.specs.declared.event.Event.{Event}
 use Rattle.am_world.specs.declared.event.Event.TheVariants.{Open, Bytes, Close, Limits, Tick, Outcome}
 use Rattle.am_world.specs.declared.event.Output.{Output}
@@ -15,9 +16,9 @@ use Rattle.am_world.specs.Places.{AreBuilt, KeepRefused}
 use Rattle.am_world.specs.PrivateCluster.{Happening, PrivateCluster, after, after_all, fits, fits_all, opened, patterns_in, told, told_all}
 use Rattle.am_world.specs.Runs.{Alone, Headline, Prefixes, Run}
 use Rattle.am_world.specs.Setup.{Origin}
-use Rattle.am_world.specs.Simulation.{Faulted, Follows, Kept, Later, Opens, Premises, Stands, Step, fault_count, put_out, refused_by}
+use Rattle.am_world.specs.Simulation.{Faulted, Follows, IsAsAlone, IsRefusedAlone, Kept, Later, Opens, Premises, Stands, Step, fault_count, put_out, refused_by}
 use Rattle.am_world.specs.View.{AskedAs, FrontAnswered, Reading, Seen, Shut, Table, Watch, adds, first_watch, left, look, names_once, noted, opens_new, table_after, view, watch, watch_all}
-use Rattle.am_world.proofs.Built.{built_before, built_parts, keep_equal, keep_then}
+use Rattle.am_world.proofs.Built.{built_before, built_parts, keep_equal, keep_then, more_among, none_refused}
 
 -- ---- what was decided of a connection stays decided
 
@@ -140,7 +141,7 @@ run_more w (x ∷ es) mid e w' (next, first, run) step = (next, first, run_more 
 
 -- no pattern that was refused is forgotten
 pub step_refused : (w : World) (e : Event) (w' : World) → Step w e w' → KeepRefused w.instances w'.instances
-step_refused w e w' (inl kept) = kept.refused
+step_refused w e w' (inl kept) = λ i. more_among _ _ _ (kept.refused i)
 step_refused w e w' (inr faulted) = faulted.refused
 
 run_refused : (w : World) (es : List Event) (w' : World) → Run w es w' → KeepRefused w.instances w'.instances
@@ -176,37 +177,50 @@ ran_nothing Q w t v p f s = record {
   stands = s;
 }
 
--- what the first event needs of what all need
-pub first_given : (Q : Type 0) (t : List ℕ) (v : Watch) (p : PrivateCluster) (w : World) (e : Event) (mid : World) (es : List Event) (w' : World) →
-    Given Q t v p w (e ∷ es) w' → KeepRefused mid.instances w'.instances → Q → Premises t v p w e mid
-first_given Q t v p w e mid es w' given keep q = record {
-  follows = given.follows;
-  stands = given.stands q;
-  brought = built_before mid.instances w'.instances (patterns_in (adds t v e)) keep
-      (built_parts (refused_by w') (adds t v e) (view t (watch v e) es) (given.brought q)).0;
-}
+-- no request was refused for a pattern of the tenant's, where none that it brings was refused a build
+none_refused_alone : (t : List ℕ) (v : Watch) (p : PrivateCluster) (w : World) (e : Event) (outs : List Output) (w' : World) →
+    AreBuilt (refused_by w') (patterns_in (adds t v e)) → IsRefusedAlone t v p w e outs w' → ⊥
+none_refused_alone t v p w e outs w' built alone =
+    let all = rw alone.asked at (built alone.instance) in
+    none_refused (refused_by w' alone.instance) (patterns_of_request alone.request)
+    (rw (append-nil (patterns_of_request alone.request)) at all) alone.refused.own
 
--- .. and the others
+-- what a tenant gets of an event, where none of the patterns that it brings was refused a build
+pub as_alone : (t : List ℕ) (v : Watch) (p : PrivateCluster) (w : World) (e : Event) (w' : World) (kept : Kept w e w') →
+    Premises t v p w → AreBuilt (refused_by w') (patterns_in (adds t v e)) → IsAsAlone t v p e kept.outs w'
+as_alone t v p w e w' kept given built = elim (kept.tenants t v p given) [
+  | inl alone ↦ alone
+  | inr refused ↦ absurd (none_refused_alone t v p w e kept.outs w' built refused)
+]
+
+-- what the first event does of what all do
+pub first_alone : (Q : Type 0) (t : List ℕ) (v : Watch) (p : PrivateCluster) (w : World) (e : Event) (mid : World) (es : List Event) (w' : World) →
+    (kept : Kept w e mid) → Given Q t v p w (e ∷ es) w' → KeepRefused mid.instances w'.instances → Q → IsAsAlone t v p e kept.outs mid
+first_alone Q t v p w e mid es w' kept given keep q = as_alone t v p w e mid kept (record { follows = given.follows; stands = given.stands q })
+    (built_before mid.instances w'.instances (patterns_in (adds t v e)) keep
+    (built_parts (refused_by w') (adds t v e) (view t (watch v e) es) (given.brought q)).0)
+
+-- what the others need
 pub rest_given : (Q : Type 0) (t : List ℕ) (v : Watch) (p : PrivateCluster) (w : World) (e : Event) (mid : World) (es : List Event) (w' : World) →
-    Given Q t v p w (e ∷ es) w' → (kept : Kept w e mid) → (Q → Premises t v p w e mid) →
+    Given Q t v p w (e ∷ es) w' → (kept : Kept w e mid) → (Q → IsAsAlone t v p e kept.outs mid) →
     Given Q t (watch v e) (after_all p (adds t v e)) mid es w'
 rest_given Q t v p w e mid es w' given kept one = record {
   follows = kept.follows v given.follows;
   once = given.once.1;
-  stands = λ q. (kept.tenants t v p (one q)).stands;
+  stands = λ q. (one q).stands;
   brought = λ q. (built_parts (refused_by w') (adds t v e) (view t (watch v e) es) (given.brought q)).1;
 }
 
 pub ran_more : (Q : Type 0) (w : World) (e : Event) (mid : World) (es : List Event) (outs : List Output) (w' : World)
     (t : List ℕ) (v : Watch) (p : PrivateCluster) (kept : Kept w e mid) →
-    Follows v w → (Q → Premises t v p w e mid) → names_once (watch v e) es →
+    Follows v w → (Q → IsAsAlone t v p e kept.outs mid) → names_once (watch v e) es →
     Ran Q es outs w' t (watch v e) (after_all p (adds t v e)) → Ran Q (e ∷ es) (kept.outs ++ outs) w' t v p
-ran_more Q w e mid es outs w' t v p kept follows given once rest =
+ran_more Q w e mid es outs w' t v p kept follows one once rest =
     record {
       told = λ q u later.
           filter-append (λ output. is_tenant t (owner u output)) kept.outs outs
           ∙ ap (λ os. os ++ outputs_of t u outs)
-          ((kept.tenants t v p (given q)).told u (later_after (watch v e) _ u (later_all (watch v e) es once) later))
+          ((one q).told u (later_after (watch v e) _ u (later_all (watch v e) es once) later))
           ∙ ap (λ os. told_all p (adds t v e) ++ os) (rest.told q u later)
           ∙ sym (told_all-append p (adds t v e) (view t (watch v e) es));
       front = λ u later.
@@ -220,7 +234,7 @@ ran_more Q w e mid es outs w' t v p kept follows given once rest =
             kept.owned v follows u (later_after (watch v e) _ u (later_all (watch v e) es once) later),
             rest.owned u later,
           ) refl;
-      fits = λ q. fits_all-append p (adds t v e) (view t (watch v e) es) (kept.tenants t v p (given q)).fits (rest.fits q);
+      fits = λ q. fits_all-append p (adds t v e) (view t (watch v e) es) (one q).fits (rest.fits q);
       follows = rest.follows;
       stands = λ q. rw (after_all-append p (adds t v e) (view t (watch v e) es)) (rest.stands q);
     }
@@ -231,7 +245,7 @@ ran Q w [] w' t v p run none given =
     rw run ([], sym (append-nil (put_out w)), ran_nothing Q w t v p given.follows given.stands)
 ran Q w (e ∷ es) w' t v p (mid, step, run) none given =
     let kept = step_kept w e mid w' step (faults_stay mid es w' run) none in
-    let one = first_given Q t v p w e mid es w' given (run_refused mid es w' run) in
+    let one = first_alone Q t v p w e mid es w' kept given (run_refused mid es w' run) in
     let later = rest_given Q t v p w e mid es w' given kept one in
     let rest = ran Q mid es w' t (watch v e) (after_all p (adds t v e)) run none later in (
       kept.outs ++ rest.0,

@@ -10,7 +10,7 @@ use Rattle.am_world.specs.Setup.{Origin}
 use Rattle.am_world.specs.Simulation.{Follows, Opens, Stands, Step, fault_count, put_out, refused_by}
 use Rattle.am_world.specs.View.{Watch, adds, first_watch, names_once, view, watch}
 use Rattle.am_world.proofs.Built.{keep_equal, keep_then}
-use Rattle.am_world.proofs.Run.{Given, Ran, alone_of, first_given, given_opening, ran_nothing, ran_more, rest_given, step_faults, step_kept, step_refused}
+use Rattle.am_world.proofs.Run.{Given, Ran, alone_of, first_alone, given_opening, ran_nothing, ran_more, rest_given, step_faults, step_kept, step_refused}
 
 -- what a world put out says nothing of what it reads and has
 forgets_follows : (v : Watch) (w w' : World) → Forgets w w' → Follows v w → Follows v w'
@@ -55,7 +55,7 @@ ran Q w (e ∷ es) outs w' t v p (before, mid, rest, forgets, step, both, steps)
       stands = λ q. forgets_stands t w before p forgets (given.stands q);
       brought = given.brought;
     } in
-    let one = first_given Q t v p before e mid es w' from (steps_refused mid es rest w' steps) in
+    let one = first_alone Q t v p before e mid es w' kept from (steps_refused mid es rest w' steps) in
     let later = rest_given Q t v p before e mid es w' from kept one in
     let all : outs ≡ kept.outs ++ rest = both ∙ ap (λ os. os ++ rest) (kept.appended ∙ ap (λ os. os ++ kept.outs) forgets.outputs) in
     rw all

@@ -18,6 +18,7 @@ ticks_idle moment limits x before down = record {
   outputs = sym (append-nil before);
   does = λ t. rw down (record { local = refl; said = refl; fits = refl });
   front = refl;
+  refused = refl;
   up = refl;
   idle = λ e. refl;
   quiet = λ e. refl;
@@ -27,13 +28,14 @@ ticks_idle moment limits x before down = record {
 pub ticks_told : (moment : ℕ) (limits : List (List ℕ × Limits)) (x x' : Instance) (before after : List Output) → x.up ≡ true →
     (all : List Dispatch) × (after ≡ before ++ map (notice_from x.number x.incarnation) all)
     × TicksAll (here_for x.number x.incarnation moment limits) (λ t. local_in t x) (λ t. local_in t x') all →
-    x'.front ≡ x.front → x'.up ≡ x.up → Ticks moment limits x x' before after
+    x'.front ≡ x.front → x'.cache.refused ≡ x.cache.refused → x'.up ≡ x.up → Ticks moment limits x x' before after
 unfolding local_in
-ticks_told moment limits x x' before after up (all, outputs, ticks) front same = record {
+ticks_told moment limits x x' before after up (all, outputs, ticks) front refused same = record {
   all = all;
   outputs = outputs;
   does = λ t. rw up (record { local = (ticks t).local; said = (ticks t).said; fits = (ticks t).fits });
   front = front;
+  refused = refused;
   up = same;
   idle = λ down. let never = sym up ∙ down in absurd cc;
   quiet = λ down. let never = sym up ∙ down in absurd cc;

@@ -15,7 +15,7 @@ use Rattle.am_tenant.proofs.Same.{same_tells}
 use Rattle.am_world.specs.declared.event.Output.{Output}
 use Rattle.am_world.specs.declared.instance.Instance.{Instance}
 use Rattle.am_world.specs.Outputs.{are_owned, front_outputs, is_front, is_tenant, outputs_of, owner}
-use Rattle.am_world.specs.Places.{IsDownAt, KeepRefused, SameElsewhere, bytes_at, bytes_where, cause_at, cause_where, incarnation_at, incarnation_where, instance_at, local_at, local_where, refused_at, roster_of, up_at, up_where}
+use Rattle.am_world.specs.Places.{IsDownAt, KeepRefused, SameElsewhere, bytes_at, bytes_where, cause_at, cause_where, incarnation_at, incarnation_where, instance_at, local_at, local_where, refused_at, refused_where, roster_of, up_at, up_where}
 use Rattle.am_world.specs.Reaction.{notice, output_of, tick_if}
 use Rattle.am_world.specs.Roster.{IsSameRoster}
 use Rattle.am_world.specs.Ticks.{CauseAt, StopsAt, TakeTurns, TakesTurn, TicksAt, notice_from}
@@ -95,7 +95,7 @@ pub record AllTicked (moment : ℕ) (limits : List (List ℕ × Limits)) (first 
   pub owned : (u : Watch) → are_owned u outs ≡ true
   pub reading : (c i : ℕ) → bytes_at c i ys ≡ bytes_at c i xs
   pub roster : IsSameRoster (roster_of ys) (roster_of xs)
-  pub refused : KeepRefused xs ys
+  pub refused : (i : ℕ) → refused_at i ys ≡ refused_at i xs
 
 nobody_ticked : (moment : ℕ) (limits : List (List ℕ × Limits)) (first xs : List Instance) (before : List Output) →
     AllTicked moment limits first [] xs xs before before
@@ -109,7 +109,7 @@ nobody_ticked moment limits first xs before = record {
   owned = λ u. refl;
   reading = λ c i. refl;
   roster = record { up = λ i. refl; incarnation = λ i. refl };
-  refused = keep_equal xs xs refl;
+  refused = λ i. refl;
 }
 
 -- what is the same at one place and all others is the same everywhere
@@ -125,6 +125,11 @@ bytes_everywhere : (c n : ℕ) (xs ys : List Instance) → bytes_at c n ys ≡ b
     (i : ℕ) → bytes_at c i ys ≡ bytes_at c i xs
 unfolding bytes_at
 bytes_everywhere c n xs ys here others = everywhere (bytes_where c) n xs ys here others
+
+pub refused_everywhere : (n : ℕ) (xs ys : List Instance) → refused_at n ys ≡ refused_at n xs → SameElsewhere n xs ys →
+    (i : ℕ) → refused_at i ys ≡ refused_at i xs
+unfolding refused_at
+refused_everywhere n xs ys here others = everywhere refused_where n xs ys here others
 
 roster_everywhere : (n : ℕ) (xs ys : List Instance) → up_at n ys ≡ up_at n xs → incarnation_at n ys ≡ incarnation_at n xs →
     SameElsewhere n xs ys → IsSameRoster (roster_of ys) (roster_of xs)
@@ -152,8 +157,8 @@ both a b first next = rw (first, next) refl
 one_ticked : (moment : ℕ) (limits : List (List ℕ × Limits)) (first : List Instance) (n : ℕ) (ns : List ℕ)
     (xs mid ys : List Instance) (before outs after : List Output) → CountsFrom (suc n) ns → instance_at n xs ≡ instance_at n first →
     TicksAt n moment limits xs mid before outs → incarnation_at n mid ≡ incarnation_at n xs → SameElsewhere n xs mid →
-    KeepRefused xs mid → AllTicked moment limits first ns mid ys outs after → AllTicked moment limits first (n ∷ ns) xs ys before after
-one_ticked moment limits first n ns xs mid ys before outs after counts here ticks incarnation others refused rest =
+    AllTicked moment limits first ns mid ys outs after → AllTicked moment limits first (n ∷ ns) xs ys before after
+one_ticked moment limits first n ns xs mid ys before outs after counts here ticks incarnation others rest =
     let later : has n ns ≡ false = not_later (suc n) n ns counts (omega arith) in
     let k : incarnation_at n xs ≡ incarnation_at n first = incarnation_same n first xs here in
     let roster = roster_everywhere n xs mid ticks.up incarnation others in
@@ -182,7 +187,7 @@ one_ticked moment limits first n ns xs mid ys before outs after counts here tick
         up = λ i. rest.roster.up i ∙ roster.up i;
         incarnation = λ i. rest.roster.incarnation i ∙ roster.incarnation i;
       };
-      refused = keep_then _ _ _ refused rest.refused;
+      refused = λ i. rest.refused i ∙ refused_everywhere n xs mid ticks.refused others i;
     }
 
 pub all_ticked : (moment : ℕ) (limits : List (List ℕ × Limits)) (first : List Instance) (n : ℕ) (ns : List ℕ) (xs ys : List Instance)
@@ -193,7 +198,6 @@ all_ticked moment limits first n [] xs ys before after faults counts same (is, s
 all_ticked moment limits first n (m ∷ ns) xs ys before after faults (own, counts) same
     (mid, outs, true, rest, one, others, counted) zero =
     one_ticked moment limits first m ns xs mid ys before outs after (rw (sym own) at counts) (same m (omega arith)) one.ends one.incarnation one.others
-    one.refused
     (all_ticked moment limits first (suc n) ns mid ys outs after rest counts
     (λ i later. one.others i (grind (arith, nat_tests)) ∙ same i (omega arith)) others (sym counted ∙ zero))
 all_ticked moment limits first n (m ∷ ns) xs ys before after faults (own, counts) same

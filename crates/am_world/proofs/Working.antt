@@ -39,6 +39,7 @@ ticks_here i moment limits xs ys x y before after here change number ticks = rec
       rw (up_here i xs x here, incarnation_here i xs x here, local_here t i xs x here, local_here t i ys y change.here, ← number)
       (ticks.does t);
   reading = λ c. bytes_here c i ys y change.here ∙ ap (bytes_of c) ticks.front ∙ sym (bytes_here c i xs x here);
+  refused = refused_here i ys y change.here ∙ ticks.refused ∙ sym (refused_here i xs x here);
   up = up_here i ys y change.here ∙ ticks.up ∙ sym (up_here i xs x here);
   idle = λ down. change.here ∙ ap Some (ticks.idle (sym (up_here i xs x here) ∙ down)) ∙ sym here;
   quiet = λ down. ticks.quiet (sym (up_here i xs x here) ∙ down);
@@ -54,7 +55,7 @@ same_cause : (fault : Fault) (here here' : List ℕ → ReplicaHere) (before bef
     StopsTicking here before refused fault → StopsTicking here' before' refused fault
 same_cause OutOfMemory here here' before before' refused heres sames cause = cause
 same_cause CountsExhausted here here' before before' refused heres sames (t, e) = (t, rw (heres t, sames t) e)
-same_cause PatternNotBuilt here here' before before' refused heres sames (t, e) = (t, rw (heres t, sames t) e)
+same_cause PatternNotBuilt here here' before before' refused heres sames (t, flush, e) = (t, rw (heres t, sames t) flush, rw (heres t, sames t) e)
 
 stops_here : (i moment : ℕ) (limits : List (List ℕ × Limits)) (xs ys : List Instance) (x y : Instance) (before after : List Output) →
     instance_at i xs ≡ Some x → Changed i xs ys y → x.number ≡ i → Stops moment limits x y before after →

@@ -2,6 +2,7 @@
 use Rattle.std.specs.Prelude.{ℕ, Bool, true, ◌&&◌, ◌==◌, List, [], ◌∷◌, ◌++◌, map, Option, Some, None, is_some, if◌then◌else◌}
 use Rattle.std.specs.List.{flat_map, list_all}
 use Rattle.am_api.specs.Patterns.{patterns_of_request}
+use Rattle.am_api.specs.Replied.{Decision}
 use Rattle.am_http.specs.declared.request.Request.{Request}
 use Rattle.am_limit.specs.declared.limits.Limits.{Limits}
 use Rattle.am_limit.specs.Limits.{default_limits}
@@ -11,7 +12,7 @@ use Rattle.am_world.specs.declared.event.Output.{Output}
 use Rattle.am_world.specs.declared.event.Refused.{Refused}
 use Rattle.am_world.specs.declared.event.Refused.TheVariants.{MomentRefused, NotAwaited}
 use Rattle.am_world.specs.Moments.{effective, is_refused_tick, is_too_late}
-use Rattle.am_world.specs.Reaction.{Here, Terms, asked, in_replica, output_of, terms_with, tick_if}
+use Rattle.am_world.specs.Reaction.{AcceptsBuilt, Here, Terms, asked, carried_out, decision_at, in_replica, output_of, terms_with, tick_if}
 use Rattle.am_world.specs.Roster.{Roster, opened_roster, put_at}
 use Rattle.am_world.specs.Setup.{Origin, numbers}
 
@@ -81,6 +82,11 @@ react reaction moment i p =
 abbrev pub tick_at : PrivateCluster → (moment i : ℕ) → Reaction
 tick_at p moment i = tick_if (p.roster.up i) p.tenant (in_replica (here_at p moment i)) (p.at i)
 
+-- the instance answers a request that came over the connection by this decision
+abbrev pub answered : (connection instance moment : ℕ) → Decision → PrivateCluster → Course
+answered connection i moment decision p =
+    react (λ here local. carried_out here.moment connection decision local) (effective moment p.clock) i p
+
 -- at a tick the clock is told, and all instances tick, in order of number
 abbrev pub ticks : ℕ → PrivateCluster → Course
 ticks moment p = record {
@@ -141,6 +147,19 @@ fits_all p [] = true
 fits_all p (h ∷ hs) = fits p h && fits_all (after p h) hs
 
 -- ---- the texts that the tenant has as patterns
+
+-- where a request that happens is accepted, a regex was built of each pattern that it brings
+abbrev pub IsBuilt : PrivateCluster → Happening → Type 0
+IsBuilt p (Asked connection i moment request) =
+    AcceptsBuilt request (decision_at (here_at p (effective moment p.clock) i) request (p.at i))
+IsBuilt p (Limited limits) = Unit {0}
+IsBuilt p (Ticked moment) = Unit {0}
+IsBuilt p (Tried i k number tries moment status) = Unit {0}
+
+-- .. of all that happens
+abbrev pub AreAllBuilt : PrivateCluster → List Happening → Type 0
+AreAllBuilt p [] = Unit {0}
+AreAllBuilt p (h ∷ hs) = IsBuilt p h × AreAllBuilt (after p h) hs
 
 -- those that a happening brings
 abbrev pub patterns_brought : Happening → List (List ℕ)

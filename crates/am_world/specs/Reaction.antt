@@ -1,5 +1,5 @@
 -- what an instance does when something happens to a tenant
-use Rattle.std.specs.Prelude.{◌≡◌, ◌⊎◌, ℕ, Bool, true, false, List, [], ◌∷◌, if◌then◌else◌}
+use Rattle.std.specs.Prelude.{◌≡◌, ◌⊎◌, ℕ, Bool, true, false, ◌<◌, List, [], ◌∷◌, ◌++◌, All, length, if◌then◌else◌}
 use Rattle.am_alert.specs.Made.{counts_fit}
 use Rattle.am_alert.specs.declared.maker.Maker.{Maker}
 use Rattle.am_http.specs.Codes.{code_of, status_of}
@@ -11,7 +11,8 @@ use Rattle.am_http.specs.declared.request.Request.{Request}
 use Rattle.am_item.specs.Best.{all_joined}
 use Rattle.am_item.specs.declared.fault.Fault.{Fault}
 use Rattle.am_item.specs.declared.fault.Fault.TheVariants.{OutOfMemory, CountsExhausted, PatternNotBuilt}
-use Rattle.am_match.specs.Matchers.{patterns_of}
+use Rattle.am_pattern.specs.Cache.{Cache}
+use Rattle.am_pattern.specs.Kept.{HasRegex}
 use Rattle.am_outlet.specs.declared.attempt.Sending.{Sending}
 use Rattle.am_tenant.specs.Names.{same}
 use Rattle.am_world.specs.declared.event.Output.{Output}
@@ -27,6 +28,7 @@ use Rattle.am_api.specs.Replied.{Decision}
 use Rattle.am_api.specs.Decision.{decided}
 use Rattle.am_api.specs.Deciding.{IsUnbuilt}
 use Rattle.am_api.specs.Patterns.{patterns_of_request}
+use Rattle.am_api.specs.Refusing.{Refuses, stored_asked}
 use Rattle.am_replica.specs.declared.here.Here.{Here as ReplicaHere}
 use Rattle.am_replica.specs.Accepting.{StopsAccepting, kept}
 use Rattle.am_replica.specs.Local.{Ledger, Local, Reaction, Said, Replies, Tells, stays}
@@ -90,10 +92,20 @@ carried_out moment connection decision local = record {
 unfoldable pub asked : Here → ℕ → Request → Local → Reaction
 asked here connection request local = carried_out here.moment connection (decision_at here request local) local
 
--- What may be decided on a request, where these texts were refused a build: the decision; or, for a pattern of the request
--- among them, a refusal that stores nothing.
-abbrev pub MayDecide : List (List ℕ) → Request → Decision → Decision → Type 0
-MayDecide refused request decision d = (d ≡ decision) ⊎ (IsUnbuilt d × HasRefused refused (patterns_of_request request))
+-- A pattern of the request was refused its build: under these limits the first of its checks that meets such a one refuses the
+-- request, and stores nothing. The instance had been refused the first texts before, and the others afterwards.
+pub record IsRefusedBuild (before after : List (List ℕ)) (request : Request) (limits : Limits) (d : Decision) : Type 0 where
+  pub old : Cache
+  pub new : Cache
+  pub had : old.refused ≡ before
+  pub has : new.refused ≡ after
+  pub refuses : Refuses request limits old new d
+  pub unbuilt : IsUnbuilt d
+  pub own : HasRefused after (patterns_of_request request)
+
+-- what may be decided on a request: the decision; or, for a pattern of its own, such a refusal
+abbrev pub MayDecide : (before after : List (List ℕ)) → Request → Limits → Decision → Decision → Type 0
+MayDecide before after request limits decision d = (d ≡ decision) ⊎ IsRefusedBuild before after request limits d
 
 -- the tick of an instance, where it is up
 abbrev pub tick_if : Bool → List ℕ → ReplicaHere → Local → Reaction
@@ -147,17 +159,32 @@ brought fed.Ready decide moment connection locals = only_says (Reply connection 
 brought (fed.Request request) decide moment connection locals =
     of_one request.tenant moment connection (decide request) locals
 
+-- where the request is accepted, a regex was built of each pattern that it brings
+abbrev pub AcceptsBuilt : Request → Decision → Type 0
+AcceptsBuilt request d = (0 < length d.items) ⊎ (d.status < 400) → All HasRegex (patterns_of_request request)
+
+-- the texts that bytes of this verdict have an instance ask as patterns, at a moment at which it has this of each tenant: those
+-- of the request, and of those in use for its tenant the ones that it asks
+abbrev pub asked_for : Fed → (moment : ℕ) → (List ℕ → Local) → List (List ℕ)
+asked_for fed.Waits moment locals = []
+asked_for (fed.Refused reason) moment locals = []
+asked_for fed.Ready moment locals = []
+asked_for (fed.Request request) moment locals =
+    let held = (locals request.tenant).held in
+    patterns_of_request request ++ stored_asked request (patterns_in_use (configuration_in held) moment held)
+
 -- ---- faults
 
 -- what stops an instance at a request: a count would pass the greatest; a pattern that is in use, or one of the routes that
--- are in use once the request is decided, gave no answer; memory may run out anywhere
+-- are in use once what was decided is stored, gave no answer, though each that the request brought was built; memory may run
+-- out anywhere
 abbrev pub StopsFor : Fault → Request → Here → Local → List (List ℕ) → Type 0
 StopsFor OutOfMemory request here local refused = Unit {0}
 StopsFor CountsExhausted request here local refused = counts_fit (decision_at here request local).items ≡ false
 StopsFor PatternNotBuilt request here local refused =
     HasUnanswered refused (patterns_in_use (configuration_in local.held) here.moment local.held)
-    ⊎ ((decision : Decision) × MayDecide refused request (decision_at here request local) decision
-    × StopsAccepting refused decision.items local PatternNotBuilt)
+    ⊎ (StopsAccepting refused (decision_at here request local).items local PatternNotBuilt
+    × AcceptsBuilt request (decision_at here request local))
 
 -- .. and at bytes, by their verdict
 abbrev pub IsCause : Fault → Fed → (Request → Here) → (List ℕ → Local) → List (List ℕ) → Type 0

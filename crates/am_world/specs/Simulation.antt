@@ -1,23 +1,26 @@
 -- that the world stands for the private cluster of every tenant at once, and that each event keeps it so
-use Rattle.std.specs.Prelude.{ℕ, ◌≡◌, ◌⊎◌, ◌==◌, if◌then◌else◌, ◌+◌, ◌^◌, ◌-◌, Bool, true, false, is_some, List, [], ◌++◌, Option, None, Some, length, filter, min, max}
+use Rattle.std.specs.Prelude.{ℕ, ◌≡◌, ◌⊎◌, ◌==◌, if◌then◌else◌, ◌+◌, ◌^◌, ◌-◌, Bool, true, false, is_some, List, [], ◌∷◌, ◌++◌, Option, None, Some, length, filter, min, max}
 use Rattle.am_world.specs.declared.event.Event.{Event}
 use Rattle.am_world.specs.declared.event.Event.TheVariants as event
 use Rattle.am_world.specs.declared.event.Output.{Output}
 use Rattle.am_world.specs.declared.world.World.{World}
+use Rattle.am_api.specs.Replied.{Decision}
 use Rattle.am_http.specs.Verdict.{verdict}
+use Rattle.am_http.specs.declared.request.Request.{Request}
 use Rattle.am_item.specs.declared.fault.Fault.{Fault}
 use Rattle.am_item.specs.declared.fault.Fault.TheVariants.{OutOfMemory}
 use Rattle.am_limit.specs.Books.{limits_of}
 use Rattle.am_limit.specs.declared.limits.Limits.{Limits}
+use Rattle.am_muting.specs.Failing.{AddsAmong}
 use Rattle.am_replica.specs.Delivery.{outcome}
 use Rattle.am_replica.specs.Held.{StopsFor as StopsReacting}
 use Rattle.am_replica.specs.Ticks.{StopsAt as StopsTicking, here_for}
 use Rattle.am_tenant.specs.Names.{same}
 use Rattle.am_world.specs.Moments.{clock_after, effective}
 use Rattle.am_world.specs.Outputs.{outputs_of, front_outputs, front_told, are_owned}
-use Rattle.am_world.specs.Places.{instance_at, here_in, local_at, bytes_at, cause_at, up_at, incarnation_at, refused_at, roster_of, AreBuilt, IsDownAt, KeepRefused}
-use Rattle.am_world.specs.PrivateCluster.{PrivateCluster, opened, after_all, told_all, fits_all, patterns_in}
-use Rattle.am_world.specs.Reaction.{IsCause, in_replica, terms_of}
+use Rattle.am_world.specs.Places.{instance_at, here_in, local_at, bytes_at, cause_at, up_at, incarnation_at, refused_at, roster_of, IsDownAt, KeepRefused}
+use Rattle.am_world.specs.PrivateCluster.{PrivateCluster, AreAllBuilt, Asked, answered, opened, after_all, told_all, fits_all}
+use Rattle.am_world.specs.Reaction.{IsCause, IsRefusedBuild, asked_for, in_replica, terms_of}
 use Rattle.am_world.specs.Refusal.{refusal}
 use Rattle.am_world.specs.Roster.{IsSameRoster, roster_after}
 use Rattle.am_world.specs.Setup.{Origin, numbers}
@@ -68,12 +71,10 @@ pub record Opens (origin : Origin) (w : World) : Type 0 where
 
 -- ---- one event
 
--- what an event needs, of a tenant: what is known is so, the cluster has what the world has, and no pattern that the tenant
--- brings was refused a build
-pub record Premises (t : List ℕ) (v : Watch) (p : PrivateCluster) (w : World) (e : Event) (w' : World) : Type 0 where
+-- what an event needs, of a tenant: what is known is so, and the cluster has what the world has
+pub record Premises (t : List ℕ) (v : Watch) (p : PrivateCluster) (w : World) : Type 0 where
   pub follows : Follows v w
   pub stands : Stands t w p
-  pub brought : AreBuilt (refused_by w') (patterns_in (adds t v e))
 
 -- what was decided of connections stays so
 pub record Later (v u : Watch) : Type 0 where
@@ -81,12 +82,44 @@ pub record Later (v u : Watch) : Type 0 where
   pub answered : (c : ℕ) → look c v.table ≡ Some FrontAnswered → look c u.table ≡ Some FrontAnswered
 
 -- the tenant gets of an event what its private cluster makes of it: of these outputs its own are the cluster's, the world
--- has of it what the cluster has, and no count passed the greatest
+-- has of it what the cluster has, no count passed the greatest, and what was accepted has only patterns that were built
 pub record IsAsAlone (t : List ℕ) (v : Watch) (p : PrivateCluster) (e : Event) (outs : List Output) (w' : World) :
     Type 0 where
   pub stands : Stands t w' (after_all p (adds t v e))
   pub told : (u : Watch) → Later (watch v e) u → outputs_of t u outs ≡ told_all p (adds t v e)
   pub fits : fits_all p (adds t v e) ≡ true
+  pub built : AreAllBuilt p (adds t v e)
+
+-- A request of the tenant was refused, since a pattern of its own was refused its build: the tenant is told this alone, and has
+-- what its cluster has that answers so.
+pub record IsRefusedAlone (t : List ℕ) (v : Watch) (p : PrivateCluster) (w : World) (e : Event) (outs : List Output)
+    (w' : World) : Type 0 where
+  pub connection : ℕ
+  pub instance : ℕ
+  pub moment : ℕ
+  pub request : Request
+  pub asked : adds t v e ≡ Asked connection instance moment request ∷ []
+  pub decision : Decision
+  pub refused : IsRefusedBuild (refused_by w instance) (refused_by w' instance) request p.limits decision
+  pub stands : Stands t w' (answered connection instance moment decision p).cluster
+  pub told : (u : Watch) → Later (watch v e) u → outputs_of t u outs ≡ (answered connection instance moment decision p).outputs
+
+-- ---- what is asked
+
+-- the texts that a piece has the instance of a number ask as patterns, where these bytes of its connection came before
+abbrev pub asked_then : World → (moment : ℕ) → List ℕ → ℕ → Option (List ℕ) → List (List ℕ)
+asked_then w moment piece j None = []
+asked_then w moment piece j (Some before) =
+    asked_for (verdict (before ++ piece)) (effective moment w.clock) (λ t. local_at t j w.instances)
+
+-- .. that an event has it ask, where all of them may be refused: those of a request. At a tick all have to give an answer
+abbrev pub asked_at : World → Event → ℕ → List (List ℕ)
+asked_at w (event.Open c i) j = []
+asked_at w (event.Bytes c moment piece) j = asked_then w moment piece j (bytes_at c j w.instances)
+asked_at w (event.Close c) j = []
+asked_at w (event.Limits tenant limits) j = []
+asked_at w (event.Tick moment) j = []
+asked_at w (event.Outcome attempt tries moment status) j = []
 
 -- a tenant's limits after an event
 abbrev pub limits_after : Event → List ℕ → Limits → Limits
@@ -98,19 +131,20 @@ limits_after (event.Tick moment) t limits = limits
 limits_after (event.Outcome attempt tries moment status) t limits = limits
 
 -- an event that was handled, or refused: for every tenant at once. What is put out is each tenant's, as its cluster says,
--- or the front's, as the bytes of the connections say, and nobody else's
+-- or the front's, as the bytes of the connections say, and nobody else's. No build is refused but of what the event's request asks
 pub record Kept (w : World) (e : Event) (w' : World) : Type 0 where
   pub follows : (v : Watch) → Follows v w → Follows (watch v e) w'
   pub outs : List Output
   pub appended : put_out w' ≡ put_out w ++ outs
-  pub tenants : (t : List ℕ) (v : Watch) (p : PrivateCluster) → Premises t v p w e w' → IsAsAlone t v p e outs w'
+  pub tenants : (t : List ℕ) (v : Watch) (p : PrivateCluster) → Premises t v p w →
+      IsAsAlone t v p e outs w' ⊎ IsRefusedAlone t v p w e outs w'
   pub front : (v : Watch) → Follows v w → (u : Watch) → Later (watch v e) u → front_outputs u outs ≡ front_told v e
   pub owned : (v : Watch) → Follows v w → (u : Watch) → Later (watch v e) u → are_owned u outs ≡ true
   pub roster : IsSameRoster (roster_of w'.instances) (roster_after e (roster_of w.instances))
   pub clock : w'.clock ≡ clock_after e w.clock
   pub limits : (t : List ℕ) → limits_of t w'.limits ≡ limits_after e t (limits_of t w.limits)
   pub service_key : w'.service_key ≡ w.service_key
-  pub refused : KeepRefused w.instances w'.instances
+  pub refused : (i : ℕ) → AddsAmong (asked_at w e i) (refused_by w i) (refused_by w' i)
   pub faults : fault_count w' ≡ fault_count w
 
 -- the instances of which an event asks work

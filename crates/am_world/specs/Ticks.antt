@@ -28,6 +28,7 @@ pub record Ticks (moment : ℕ) (limits : List (List ℕ × Limits)) (x x' : Ins
   pub does : (t : List ℕ) → IsDone
       (tick_if x.up t (here_for x.number x.incarnation moment limits t) (local_in t x)) (local_in t x') (said_of t all)
   pub front : x'.front ≡ x.front
+  pub refused : x'.cache.refused ≡ x.cache.refused
   pub up : x'.up ≡ x.up
   pub idle : x.up ≡ false → x' ≡ x
   pub quiet : x.up ≡ false → after ≡ before
@@ -53,6 +54,7 @@ pub record TicksAt (i moment : ℕ) (limits : List (List ℕ × Limits)) (xs ys 
       (tick_if (up_at i xs) t (here_for i (incarnation_at i xs) moment limits t) (local_at t i xs)) (local_at t i ys)
       (said_of t all)
   pub reading : (c : ℕ) → bytes_at c i ys ≡ bytes_at c i xs
+  pub refused : refused_at i ys ≡ refused_at i xs
   pub up : up_at i ys ≡ up_at i xs
   pub idle : up_at i xs ≡ false → instance_at i ys ≡ instance_at i xs
   pub quiet : up_at i xs ≡ false → after ≡ before

@@ -38,12 +38,13 @@ pub struct Instance {
 impl Instance {
     ghost use Rattle.am_alert.specs.Made.{counts_fit, greatest_count};
     ghost use Rattle.am_api.specs.Deciding.{decision_of};
+    ghost use Rattle.am_muting.specs.Failing.{AddsAmong};
     ghost use Rattle.am_replica.specs.Delivery.{is_awaited, outcome};
     ghost use Rattle.am_replica.specs.Held.{StopsFor as StopsReacting};
     ghost use Rattle.am_replica.specs.Local.{Local, Reaction, blank};
     ghost use Rattle.am_replica.specs.Ticks.{IsDone, StopsAt, TicksAll, here_for, said_of};
     ghost use Rattle.am_world.specs.Places.{HasMore, here_of, local_in};
-    ghost use Rattle.am_world.specs.Reaction.{IsCause, MayDecide, StopsFor, Terms, decision_at, in_replica, terms_of, terms_with};
+    ghost use Rattle.am_world.specs.Reaction.{AcceptsBuilt, IsCause, MayDecide, StopsFor, Terms, asked_for, decision_at, in_replica, terms_of, terms_with};
     ghost use Rattle.am_world.specs.Taking.{Brings};
     ghost use Rattle.am_world.specs.Ticks.{Either, Stops, Ticks};
 
@@ -174,6 +175,7 @@ impl Instance {
         ensures up { self.new.up ≡ self.old.up }
         ensures incarnation { self.new.incarnation ≡ self.old.incarnation }
         ensures number { self.new.number ≡ self.old.number }
+        ensures stays { OnOk result (self.new.cache.refused ≡ self.old.cache.refused) }
         ensures refused { HasMore self.old.cache.refused self.new.cache.refused }
     {
         let (number, incarnation) = (self.number, self.incarnation);
@@ -339,7 +341,7 @@ impl Instance {
         limits: Limits,
         moment: Moment,
     ) -> Result<Decided, Fault>
-        ensures decision { IfOk result (λ d. MayDecide self.new.cache.refused request.now
+        ensures decision { IfOk result (λ d. MayDecide self.old.cache.refused self.new.cache.refused request.now limits
             (decision_at (here_of self.old moment (terms_with service_key.now limits request.now.tenant)) request.now
             (local_in request.now.tenant self.old)) (decision_of d)) }
         ensures fits { IfOk result (λ d. counts_fit d.items.items ≡ true) }
@@ -349,11 +351,13 @@ impl Instance {
             (here_of self.old moment (terms_with service_key.now limits request.now.tenant))
             (local_in request.now.tenant self.old) self.new.cache.refused) }
         ensures local { (t : List ℕ) → local_in t self.new ≡ local_in t self.old }
+        ensures built { IfOk result (λ d. AcceptsBuilt request.now (decision_of d)) }
+        ensures adds { AddsAmong (asked_for (Fed.Request request.now) moment (λ t. local_in t self.old))
+            self.old.cache.refused self.new.cache.refused }
         ensures front { self.new.front ≡ self.old.front }
         ensures up { self.new.up ≡ self.old.up }
         ensures incarnation { self.new.incarnation ≡ self.old.incarnation }
         ensures number { self.new.number ≡ self.old.number }
-        ensures refused { HasMore self.old.cache.refused self.new.cache.refused }
     {
         let maker = Maker {
             instance: self.number,

@@ -16,7 +16,7 @@ pub returns-in_err-accept-clause-cause : goal.returns-in_err-accept-clause-cause
 unfolding local_in
 returns-in_err-accept-clause-cause c =
     let p = err_from_is_err_and c.from_residual-in_err-accept.result c.from_residual-in_err-accept.ensures.1 in
-    rw (p.1, p.2) (stops_accepting _ _ c.args.request.now _ _ _ _ (decision_of c.in_ok-decided.decided) c.in_err-accept.ensures.asked c.in_ok-decided.ensures.decision
+    rw (p.1, p.2) (stops_accepting _ _ _ c.args.request.now _ _ _ _ _ (decision_of c.in_ok-decided.decided) c.in_ok-decided.ensures.decision c.in_ok-decided.ensures.built
     (c.decide.ensures.local c.args.request.now.tenant) c.in_err-accept.ensures.fault)
 
 pub returns-clause-brings : goal.returns-clause-brings
@@ -30,4 +30,6 @@ returns-clause-brings c terms own = record {
       (rw c.as_slice.ensures at c.in_ok-bytes.ensures);
   fits = c.in_ok-decided.ensures.fits;
   local = λ t. rw (c.decide.ensures.local t) at (c.in_ok-accept.ensures.does t);
+  built = λ r is. let same : c.args.request.now ≡ r = cc in rw (← same) c.in_ok-decided.ensures.built;
+  adds = rw c.in_ok-accept.ensures.asked.refused c.decide.ensures.adds;
 }

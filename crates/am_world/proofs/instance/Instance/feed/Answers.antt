@@ -9,21 +9,21 @@ use Rattle.am_world.proofs.instance.Instance.feed.Goals as goal
 pub returns-in-Waits-clause-brings : goal.returns-in-Waits-clause-brings
 unfolding local_in
 returns-in-Waits-clause-brings c before here =
-    rw (← c.in_ok-feed.ensures.verdict before here, c.in-Waits.is) (brings_waits _ _ _ _ _ _ (λ t. refl))
+    rw (← c.in_ok-feed.ensures.verdict before here, c.in-Waits.is) (brings_waits _ _ _ _ _ _ (λ t. refl) refl)
 
 pub returns-in_ok-push-in-Refused-clause-brings : goal.returns-in_ok-push-in-Refused-clause-brings
 unfolding local_in
 returns-in_ok-push-in-Refused-clause-brings c before here =
     rw (← c.in_ok-feed.ensures.verdict before here, c.in-Refused.is) (brings_refused c.in-Refused.reason _ _ _ _ _ _ _
     (c.in_ok-push-in-Refused.ensures.items ∙ ap (λ bytes. c.args.outputs.now.items ++ Reply c.args.connection bytes ∷ []) c.in_ok-bytes-in-Refused.ensures)
-    (λ t. refl))
+    (λ t. refl) refl)
 
 pub returns-in_ok-push-in-Ready-clause-brings : goal.returns-in_ok-push-in-Ready-clause-brings
 unfolding local_in
 returns-in_ok-push-in-Ready-clause-brings c before here =
     rw (← c.in_ok-feed.ensures.verdict before here, c.in-Ready.is) (brings_ready _ _ _ _ _ _ _
     (c.in_ok-push-in-Ready.ensures.items ∙ ap (λ bytes. c.args.outputs.now.items ++ Reply c.args.connection bytes ∷ []) c.in_ok-bytes-in-Ready.ensures)
-    (λ t. refl))
+    (λ t. refl) refl)
 
 pub returns-in-Request-clause-brings : goal.returns-in-Request-clause-brings
 unfolding local_in
@@ -31,7 +31,7 @@ returns-in-Request-clause-brings c = on_ok_weaker c.answer.result (λ brings bef
     rw (← c.in_ok-feed.ensures.verdict before here, c.in-Request.is)
     (let b = brings (λ t. terms_of c.args.service_key.now c.args.limits.now t)
     (ap (λ limits. terms_with c.args.service_key.now limits c.in-Request.request.tenant) (sym c.of-limits.ensures)) in
-    record { decide = b.decide; decided = b.decided; outputs = b.outputs; fits = b.fits; local = b.local })) c.answer.ensures.brings
+    record { decide = b.decide; decided = b.decided; outputs = b.outputs; fits = b.fits; local = b.local; built = b.built; adds = b.adds })) c.answer.ensures.brings
 
 pub returns-in-Request-clause-cause : goal.returns-in-Request-clause-cause
 unfolding local_in

@@ -8,7 +8,7 @@ returns-then-not-self-clause-ends c = ticks_idle c.args.moment c.args.limits.now
 pub returns-in-Ok-clause-ends : goal.returns-in-Ok-clause-ends
 returns-in-Ok-clause-ends c =
     ticks_told c.args.moment c.args.limits.now c.args.self.now _ c.args.outputs.now.items _ c.if-not-self.false c.in-Ok.ensures.told
-    c.tell.ensures.front c.tell.ensures.up
+    c.tell.ensures.front c.in-Ok.ensures.stays c.tell.ensures.up
 
 pub returns-in-Err-clause-ends : goal.returns-in-Err-clause-ends
 returns-in-Err-clause-ends c = record {

@@ -4,7 +4,8 @@ use Rattle.am_world.specs.Moments.{last_moment}
 use Rattle.am_world.proofs.Built.{keep_same, keep_then}
 use Rattle.am_world.proofs.Faults.{elsewhere_then, faulted_at, incarnations_stay, some_where}
 use Rattle.am_world.proofs.Kept.{kept_late_bytes}
-use Rattle.am_world.proofs.KeptBytes.{kept_bytes, kept_unread_bytes}
+use Rattle.am_world.proofs.KeptBytes.{kept_unread_bytes}
+use Rattle.am_world.proofs.KeptPieces.{kept_bytes}
 use Rattle.am_world.proofs.world.World.on_bytes.Goals as goal
 
 pub returns-then-moment-gt-LAST_MOMENT-clause-step : goal.returns-then-moment-gt-LAST_MOMENT-clause-step
@@ -17,7 +18,7 @@ pub returns-in-Ok-clause-step : goal.returns-in-Ok-clause-step
 returns-in-Ok-clause-step c =
     let found = some_where _ c.in-Some.ensures.reads in
     inl (kept_bytes c.args.self.now _ c.in-Some.reader c.args.connection c.args.moment found.0 c.args.piece.now (grind (arith, nat_tests)) found.1
-    (rw (c.as_slice.ensures, c.effective-at.ensures) at (c.in-Ok.ensures.takes found.0 found.1)) c.feed.ensures.refused refl refl refl refl)
+    (rw (c.as_slice.ensures, c.effective-at.ensures) at (c.in-Ok.ensures.takes found.0 found.1)) refl refl refl refl)
 
 pub returns-in-Err-clause-step : goal.returns-in-Err-clause-step
 returns-in-Err-clause-step c =
