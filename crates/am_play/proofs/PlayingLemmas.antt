@@ -2,7 +2,6 @@
 use Rattle.std.proofs.Common.{◌≡◌, ℕ, suc, ◌+◌, ◌<◌, ◌≤◌, min, Bool, true, false, List, [], ◌∷◌, ◌++◌, length, get_or, drop, drop-cons, add-one, string_bytes, Option, None, Some, IsSome, MatchOption, Result, Ok, Err, IsOk, is_ok, inl, inr, refl, sym, ap, ◌∙◌, arith, append-nil, append_assoc}
 use Rattle.std.proofs.lemmas.Bool.Decides.{nat_tests}
 use Rattle.std.proofs.lemmas.List.Concat.{flat_map-append}
-use Rattle.std.specs.Io.KnownBytes.{Appends, Keeps}
 use Rattle.std.specs.List.{flat_map}
 use Rattle.am_world.specs.declared.event.Event.{Event}
 use Rattle.am_world.specs.declared.event.Event.TheVariants as event
@@ -49,25 +48,6 @@ grows_more old mid new first rest one other = record {
       ∙ append_assoc old.tries.items (tries_in (outputs first)) (tries_in (outputs rest))
       ∙ ap (λ ts. old.tries.items ++ ts) (sym (tries_in-append first rest));
 }
-
--- nothing is written
-pub appends_nothing : (known : Option (List ℕ)) → Appends known known []
-appends_nothing None = tt
-appends_nothing (Some xs) = sym (append-nil xs)
-
--- one after the other
-pub appends_more : (a b c : Option (List ℕ)) (xs ys : List ℕ) → Appends a b xs → Appends b c ys → Appends a c (xs ++ ys)
-appends_more None b c xs ys first rest = tt
-appends_more (Some a) None c xs ys first rest = absurd first
-appends_more (Some a) (Some b) None xs ys first rest = absurd rest
-appends_more (Some a) (Some b) (Some c) xs ys first rest = rest ∙ ap (λ s. s ++ ys) first ∙ append_assoc a xs ys
-
--- .. and then the writer is flushed
-pub appends_kept : (a b c : Option (List ℕ)) (xs : List ℕ) → Appends a b xs → Keeps b c → Appends a c xs
-appends_kept None b c xs h keeps = tt
-appends_kept (Some a) None c xs h keeps = absurd h
-appends_kept (Some a) (Some b) None xs h keeps = absurd keeps
-appends_kept (Some a) (Some b) (Some c) xs h keeps = keeps ∙ h
 
 -- what a test decides
 pub either_first : (P Q : Type 0) (b : Bool) → b ≡ true → P → Either b P Q

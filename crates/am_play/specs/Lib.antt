@@ -10,3 +10,4 @@ pub mod Request
 pub mod Scenario
 pub mod Trace
 pub mod Tries
+pub mod Writing

@@ -1,5 +1,5 @@
 -- A whole scenario: its lines, and what playing them comes to.
-use Rattle.std.specs.Prelude.{◌≡◌, ℕ, ◌==◌, List, ◌++◌, Option, IfSome}
+use Rattle.std.specs.Prelude.{◌≡◌, ◌⊎◌, ℕ, ◌==◌, List, [], ◌++◌, Option, IfSome}
 use Rattle.std.specs.List.{slice_split}
 use Rattle.am_world.specs.Runs.{Alone}
 use Rattle.am_world.specs.Setup.{Origin}
@@ -8,8 +8,9 @@ use Rattle.am_world.specs.View.{first_watch, names_once}
 use Rattle.am_play.specs.declared.play.Played.{Played}
 use Rattle.am_play.specs.declared.play.Player.{Player}
 use Rattle.am_play.specs.Link.{Answers, Carries}
-use Rattle.am_play.specs.Playing.{Plays, IsStart}
-use Rattle.am_play.specs.Trace.{Happened, events, outputs, no_fault, unbuilt}
+use Rattle.am_play.specs.Playing.{Plays, IsStart, ending}
+use Rattle.am_play.specs.Trace.{Happened, events, outputs, no_fault, printed, unbuilt}
+use Rattle.am_play.specs.Writing.{AppendsPart}
 
 -- the lines, which end at LF; what follows the last LF is a line too
 abbrev pub lines_of : List ℕ → List (List ℕ)
@@ -39,3 +40,24 @@ pub record Scenario (carries : Carries) (answers : Answers) (origin : Origin) (b
 abbrev pub AloneUntilFault : Origin → List Happened → Type 0
 AloneUntilFault origin trace = (first rest : List Happened) → trace ≡ first ++ rest → no_fault first →
     names_once (first_watch origin) (events first) → Alone origin (events first) (unbuilt first) (outputs first)
+
+-- a stream or the memory failed: lines were played, the reader's first where its bytes are known, this happened, and a
+-- first part of what is written of it was written. The ending is written behind the reader's last line alone
+pub record CourseBreaks (carries : Carries) (answers : Answers) (start : Player) (bytes old new : Known) : Type 0 where
+  pub lines : List (List ℕ)
+  pub others : List (List ℕ)
+  pub are_read : IfSome bytes (λ bytes. lines ++ others ≡ lines_of bytes)
+  pub played : Played
+  pub trace : List Happened
+  pub end : Player
+  pub plays : Plays carries answers 1 start lines played trace end
+  pub written : AppendsPart old new (printed trace)
+      ⊎ ((others ≡ []) × AppendsPart old new (printed trace ++ ending played (fault_count end.world)))
+
+-- .. from a new world on; each tenant is as if alone until a fault
+pub record ScenarioBreaks (carries : Carries) (answers : Answers) (origin : Origin)
+    (bytes old new : Known) : Type 0 where
+  pub start : Player
+  pub is_start : IsStart origin start
+  pub course : CourseBreaks carries answers start bytes old new
+  pub alone : AloneUntilFault origin course.trace

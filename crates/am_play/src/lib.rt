@@ -13,3 +13,4 @@ pub mod play;
 mod report;
 pub mod serve;
 pub mod stops;
+mod writing;

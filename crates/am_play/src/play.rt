@@ -1,15 +1,16 @@
-ghost use Rattle.std.specs.Prelude.{◌≡◌, ◌++◌, ◌&&◌, not, is_none, ℕ, List, [], IfOk, OnOk, string_bytes};
+ghost use Rattle.std.specs.Prelude.{◌≡◌, ◌⊎◌, ◌++◌, ◌&&◌, not, is_none, ℕ, List, [], IfOk, OnErr, OnOk, string_bytes};
 ghost use Rattle.std.specs.List.{flat_map};
-ghost use Rattle.std.specs.Io.KnownBytes.{Appends};
+ghost use Rattle.std.specs.Io.KnownBytes.{Appends, Keeps};
 ghost use Rattle.am_world.specs.Refusal.{refusal};
 ghost use Rattle.am_world.specs.Runs.{Alone};
 ghost use Rattle.am_world.specs.Simulation.{fault_count, put_out};
 ghost use Rattle.am_world.specs.View.{first_watch, names_once};
 ghost use Rattle.am_play.specs.Output.{is_answered};
 ghost use Rattle.am_play.specs.Playing.{Happens, Gives, Calls, Obeys, Settles, Does, ending, faults_line, instance_of};
-ghost use Rattle.am_play.specs.Scenario.{Course, Scenario, AloneUntilFault};
+ghost use Rattle.am_play.specs.Scenario.{AloneUntilFault, Course, CourseBreaks, Scenario, ScenarioBreaks};
 ghost use Rattle.am_play.specs.Trace.{Happened, Reports, events, outputs, printed, output_line, unbuilt};
 ghost use Rattle.am_play.specs.Tries.{tries_in, try_of};
+ghost use Rattle.am_play.specs.Writing.{AppendsPart};
 
 use crate::command::{Command, Request};
 use crate::connections::Connections;
@@ -17,6 +18,7 @@ use crate::line::{LineFault, read_command};
 use crate::link::Link;
 use crate::report::{Report, Try};
 use crate::stops::Stops;
+use crate::writing::write_whole;
 use am_http::ConnectionId;
 use am_text::{Octets, Text};
 use am_world::event::{Event, Output};
@@ -50,7 +52,8 @@ pub enum Played {
 /// that no connection's name is opened twice and no pattern that the tenant brings was refused its build, and up to a first
 /// fault.
 ///
-/// An error is one of reading or writing, or has the kind `OutOfMemory`; what was written stays.
+/// An error is one of reading or writing, or has the kind `OutOfMemory`; what was written stays, and is a first part of
+/// what is written of the lines that were played.
 pub fn play<L: Link, R: BufRead + Drop, W: Write, E: Write>(
     alloc: Global,
     setup: Setup,
@@ -60,12 +63,16 @@ pub fn play<L: Link, R: BufRead + Drop, W: Write, E: Write>(
     errors: &mut E,
 ) -> io::Result<Played>
     // Where the bytes of the reader aren't known, there are lines of which this holds.
-    ensures { IfOk result (λ played. (trace : List Happened) × (faults : ℕ)
+    ensures plays { IfOk result (λ played. (trace : List Happened) × (faults : ℕ)
         × Scenario L.carries L.answers setup.origin (R.remaining reader) played trace faults
         × Appends (W.contents writer.old) (W.contents writer.new) (printed trace ++ ending played faults)
         × (faults ≡ 0 → names_once (first_watch setup.origin) (events trace) →
         Alone setup.origin (events trace) (unbuilt trace) (outputs trace))
         × AloneUntilFault setup.origin trace) }
+    // Without memory for a new world nothing is written.
+    ensures breaks { OnErr result (Keeps (W.contents writer.old) (W.contents writer.new)
+        ⊎ ScenarioBreaks L.carries L.answers setup.origin (R.remaining reader)
+        (W.contents writer.old) (W.contents writer.new)) }
 {
     let world = World::open(alloc, setup)?;
     let mut player = Player {
@@ -100,10 +107,12 @@ impl Player {
         writer: &mut W,
         errors: &mut E,
     ) -> io::Result<Played>
-        ensures { IfOk result (λ played. (trace : List Happened)
+        ensures plays { IfOk result (λ played. (trace : List Happened)
             × Course L.carries L.answers self.old (R.remaining reader) played trace self.new
             × Appends (W.contents writer.old) (W.contents writer.new)
             (printed trace ++ ending played (fault_count self.new.world))) }
+        ensures breaks { OnErr result (CourseBreaks L.carries L.answers self.old (R.remaining reader)
+            (W.contents writer.old) (W.contents writer.new)) }
     {
         let mut number = 0u64;
         let mut stops = Stops::none();
@@ -111,18 +120,36 @@ impl Player {
             let line = line?;
             number += 1;
             match read_command(alloc, line.as_slice()) {
-                Ok(command) => {
-                    let lines = self.play_line(alloc, link, command)?;
-                    stops.tell(&self.world, errors)?;
-                    writer.write_all(lines.as_bytes())?;
-                }
+                Ok(command) => self.write_line(alloc, link, command, &mut stops, writer, errors)?,
                 Err(LineFault::NotACommand) => return Ok(Played::BadLine(number)),
                 Err(LineFault::OutOfMemory) => return Err(io::ErrorKind::OutOfMemory.into()),
             }
         }
         let last = faults_line(alloc, self.world.faults())?;
-        writer.write_all(last.as_bytes())?;
+        write_whole(writer, last.as_bytes())?;
         Ok(Played::All)
+    }
+
+    /// Plays a line and writes what is to be written of it. What instances stopped by it is told first.
+    fn write_line<L: Link, W: Write, E: Write>(
+        &mut self,
+        alloc: Global,
+        link: &mut L,
+        command: Command,
+        stops: &mut Stops,
+        writer: &mut W,
+        errors: &mut E,
+    ) -> io::Result<()>
+        ensures plays { OnOk result ((trace : List Happened) × Does L.carries L.answers self.old command self.new trace
+            × Appends (W.contents writer.old) (W.contents writer.new) (printed trace)) }
+        ensures breaks { OnErr result (Keeps (W.contents writer.old) (W.contents writer.new)
+            ⊎ ((trace : List Happened) × Does L.carries L.answers self.old command self.new trace
+            × AppendsPart (W.contents writer.old) (W.contents writer.new) (printed trace))) }
+    {
+        let lines = self.play_line(alloc, link, command)?;
+        stops.tell(&self.world, errors)?;
+        write_whole(writer, lines.as_bytes())?;
+        Ok(())
     }
 
     /// Does what a line asks for, and then gives each try that went out its outcome. Gives what is to be written of all

@@ -1,15 +1,17 @@
-use Rattle.std.proofs.Common.{refl, Some}
-use Rattle.am_play.proofs.PlayingLemmas.{appends_kept}
+use Rattle.std.proofs.Common.{refl, inr, Some}
+use Rattle.std.proofs.KnownBytes.{Appends-kept}
+use Rattle.am_play.proofs.BreakLemmas.{scenario_breaks, course_breaks}
 use Rattle.am_play.proofs.TraceLemmas.{course_alone, course_until_fault}
+use Rattle.am_play.proofs.WritingLemmas.{on_err, whole}
 use Rattle.am_world.specs.Simulation.{fault_count}
 use Rattle.am_play.specs.Playing.{IsStart}
 use Rattle.am_play.specs.declared.play.Player.{Player}
 use Rattle.am_play.proofs.play.play.Goals as goal
 
-pub returns : goal.returns
-returns g c =
-    let trace = c.in_ok-played.ensures.0 in
-    let course = c.in_ok-played.ensures.1 in
+pub returns-clause-plays : goal.returns-clause-plays
+returns-clause-plays g c =
+    let trace = c.in_ok-played.ensures.plays.0 in
+    let course = c.in_ok-played.ensures.plays.1 in
     let start : Player =
     record { world = c.in_ok-world.world; connections = c.new.result; moment = 0; hook = Some 200 } in
     let end : Player = c.play_lines.new.self in
@@ -18,7 +20,7 @@ returns g c =
       trace,
       fault_count end.world,
       record { start = start; is_start = is_start; end = end; course = course; counted = refl },
-      appends_kept _ _ _ _ c.in_ok-played.ensures.2 c.flush.ensures.bytes,
+      Appends-kept _ _ _ _ c.in_ok-played.ensures.plays.2 c.flush.ensures.bytes,
       course_alone g.L.Link.carries g.L.Link.answers c.args.setup.origin start (g.R.Read.remaining c.args.reader)
           c.in_ok-played.played trace end is_start
           course,
@@ -26,3 +28,32 @@ returns g c =
           (g.R.Read.remaining c.args.reader) c.in_ok-played.played trace end
           is_start course,
     )
+
+pub returns-in_err-played-clause-breaks : goal.returns-in_err-played-clause-breaks
+returns-in_err-played-clause-breaks g c =
+    let start : Player =
+    record { world = c.in_ok-world.world; connections = c.new.result; moment = 0; hook = Some 200 } in
+    on_err _ (inr (scenario_breaks g.L.Link.carries g.L.Link.answers start (g.R.Read.remaining c.args.reader) _ _
+    c.args.setup.origin (record {
+      opens = c.in_ok-world.ensures;
+      connections = c.new.ensures;
+      moment = refl;
+      hook =
+          refl;
+    }) c.in_err-played.ensures.breaks))
+
+pub returns-in_err-flush-clause-breaks : goal.returns-in_err-flush-clause-breaks
+returns-in_err-flush-clause-breaks g c =
+    let start : Player =
+    record { world = c.in_ok-world.world; connections = c.new.result; moment = 0; hook = Some 200 } in
+    let played = c.in_ok-played.ensures.plays in
+    on_err _ (inr (scenario_breaks g.L.Link.carries g.L.Link.answers start (g.R.Read.remaining c.args.reader) _ _
+    c.args.setup.origin (record {
+      opens = c.in_ok-world.ensures;
+      connections = c.new.ensures;
+      moment = refl;
+      hook =
+          refl;
+    })
+    (course_breaks g.L.Link.carries g.L.Link.answers start (g.R.Read.remaining c.args.reader) _ _ c.in_ok-played.played
+    played.0 c.play_lines.new.self played.1 (whole _ _ _ (Appends-kept _ _ _ _ played.2 c.flush.ensures.bytes)))))

@@ -1,10 +1,13 @@
-use Rattle.std.proofs.Common.{rules, ◌≡◌, [], ◌<◌, ◌++◌, arith, None, Some, append-nil}
+use Rattle.std.proofs.Common.{rules, ◌≡◌, [], ◌<◌, ◌++◌, arith, None, Some, inl, inr, append-nil}
 use Rattle.std.proofs.lemmas.List.Concat.{flat_map-append}
+use Rattle.std.proofs.KnownBytes.{Appends-kept, Appends-trans, Keeps-refl}
 use Rattle.std.specs.Io.Iter.{split_known_bytes, pieces_left_to_read}
-use Rattle.am_play.proofs.PlayingLemmas.{appends_nothing, appends_more}
+use Rattle.am_play.proofs.BreakLemmas.{course_breaks, trace_later, upto_breaks}
 use Rattle.am_play.proofs.ScenarioLemmas.{upto_first, upto_more, upto_bad, upto_end}
+use Rattle.am_play.proofs.WritingLemmas.{none_written, on_err, part_later, whole}
 use Rattle.am_play.specs.Line.{command_of}
 use Rattle.am_play.specs.Trace.{text_of, printed}
+use Rattle.am_play.specs.declared.play.Played.TheVariants.{All}
 use Rattle.am_play.proofs.play.Player.play_lines.Goals as goal
 
 pub loop-line-init : goal.loop-line-init
@@ -15,12 +18,12 @@ loop-line-init g c =
       byte = search rules;
       count = search rules;
       trace = [];
-      appends = appends_nothing _;
+      appends = none_written _ _ (Keeps-refl _);
       upto = upto_first g.L.Link.carries g.L.Link.answers c.args.self.now (g.R.Read.remaining c.args.reader) _ left;
     }
 
-pub returns-in-Err-NotACommand : goal.returns-in-Err-NotACommand
-returns-in-Err-NotACommand g c =
+pub returns-in-Err-NotACommand-clause-plays : goal.returns-in-Err-NotACommand-clause-plays
+returns-in-Err-NotACommand-clause-plays g c =
     let known = c.loop-line.invariant in
     let next = rw (c.in_ok-line.was, known.byte) at c.in-Some.ensures.steps.2 in
     let bad : command_of c.in_ok-line.line.items ≡ None =
@@ -42,23 +45,22 @@ loop-line-preserved g c =
     rw c.as_slice.ensures.value at c.in-Ok.ensures in
     let fewer : pieces_left_to_read c.next.new.self < pieces_left_to_read c.loop-line.line-iterator =
     (c.in-Some.ensures.goes.on tt).2 in
-    let played = c.in_ok-lines-in-Ok.ensures in
+    let played = c.in_ok-write_line-in-Ok.ensures.plays in
     record {
       byte = rw c.in-Some.ensures.steps.1 known.byte;
       count = omega (arith, known.count);
       trace = known.trace ++ played.0;
       appends = rw (flat_map-append text_of known.trace played.0)
-          (appends_more _ _ _ (printed known.trace) (printed played.0) known.appends
-          (rw (c.as_bytes.ensures.value, played.1) at c.in_ok-write_all-in-Ok.ensures.bytes));
-      upto = upto_more g.L.Link.carries g.L.Link.answers c.args.self.now c.loop-line.self c.play_line.new.self
+          (Appends-trans _ _ _ (printed known.trace) (printed played.0) known.appends played.2);
+      upto = upto_more g.L.Link.carries g.L.Link.answers c.args.self.now c.loop-line.self c.write_line.new.self
           (g.R.Read.remaining c.args.reader)
           (split_known_bytes g.R.Read.remaining c.loop-line.line-iterator)
           (split_known_bytes g.R.Read.remaining c.next.new.self) c.loop-line.number c.in_ok-line.line.items
-          c.in-Ok.command known.trace played.0 known.upto next.0 next.1 is played.2;
+          c.in-Ok.command known.trace played.0 known.upto next.0 next.1 is played.1;
     }
 
-pub returns : goal.returns
-returns g c =
+pub returns-clause-plays : goal.returns-clause-plays
+returns-clause-plays g c =
     let known = c.loop-line.invariant in
     let course =
     upto_end g.L.Link.carries g.L.Link.answers c.args.self.now c.loop-line.self (g.R.Read.remaining c.args.reader)
@@ -66,10 +68,59 @@ returns g c =
     c.in-None.ensures.steps.2 in (
       known.trace,
       course,
-      appends_more _ _ _ _ _ known.appends
+      Appends-trans _ _ _ _ _ known.appends
           (rw (
-            c.as_bytes-2.ensures.value,
+            c.as_bytes.ensures.value,
             c.in_ok-last.ensures,
             c.faults.ensures,
-          ) at c.in_ok-write_all.ensures.bytes),
+          ) at c.in_ok-write_whole.ensures.ok),
     )
+
+pub returns-in_err-line-clause-breaks : goal.returns-in_err-line-clause-breaks
+returns-in_err-line-clause-breaks g c =
+    let known = c.loop-line.invariant in
+    on_err _ (upto_breaks g.L.Link.carries g.L.Link.answers c.args.self.now (g.R.Read.remaining c.args.reader)
+    _ _ _ _ _ known.trace known.upto (whole _ _ _ known.appends))
+
+pub returns-in_err-write_line-in-Ok-clause-breaks : goal.returns-in_err-write_line-in-Ok-clause-breaks
+returns-in_err-write_line-in-Ok-clause-breaks g c =
+    let known = c.loop-line.invariant in
+    let next = rw (c.in_ok-line.was, known.byte) at c.in-Some.ensures.steps.2 in
+    let is : command_of c.in_ok-line.line.items ≡ Some c.in-Ok.command =
+    rw c.as_slice.ensures.value at c.in-Ok.ensures in
+    on_err _ (elim c.in_err-write_line-in-Ok.ensures.breaks [
+      | inl kept ↦ upto_breaks g.L.Link.carries g.L.Link.answers c.args.self.now (g.R.Read.remaining c.args.reader)
+          _ _ _ _ _ known.trace known.upto (whole _ _ _ (Appends-kept _ _ _ _ known.appends kept))
+      | inr played ↦ upto_breaks g.L.Link.carries g.L.Link.answers c.args.self.now (g.R.Read.remaining c.args.reader)
+          _ _ _ _ _ (known.trace ++ played.0)
+          (upto_more g.L.Link.carries g.L.Link.answers c.args.self.now c.loop-line.self c.write_line.new.self
+          (g.R.Read.remaining c.args.reader)
+          (split_known_bytes g.R.Read.remaining c.loop-line.line-iterator)
+          (split_known_bytes g.R.Read.remaining c.next.new.self) c.loop-line.number c.in_ok-line.line.items
+          c.in-Ok.command known.trace played.0 known.upto next.0 next.1 is played.1)
+          (trace_later _ _ _ known.trace played.0 known.appends played.2)
+    ])
+
+pub returns-in-Err-OutOfMemory-clause-breaks : goal.returns-in-Err-OutOfMemory-clause-breaks
+returns-in-Err-OutOfMemory-clause-breaks g c =
+    let known = c.loop-line.invariant in
+    upto_breaks g.L.Link.carries g.L.Link.answers c.args.self.now (g.R.Read.remaining c.args.reader)
+    _ _ _ _ _ known.trace known.upto (whole _ _ _ known.appends)
+
+pub returns-in_err-last-clause-breaks : goal.returns-in_err-last-clause-breaks
+returns-in_err-last-clause-breaks g c =
+    let known = c.loop-line.invariant in
+    on_err _ (upto_breaks g.L.Link.carries g.L.Link.answers c.args.self.now (g.R.Read.remaining c.args.reader)
+    _ _ _ _ _ known.trace known.upto (whole _ _ _ known.appends))
+
+pub returns-in_err-write_whole-clause-breaks : goal.returns-in_err-write_whole-clause-breaks
+returns-in_err-write_whole-clause-breaks g c =
+    let known = c.loop-line.invariant in
+    let course =
+    upto_end g.L.Link.carries g.L.Link.answers c.args.self.now c.loop-line.self (g.R.Read.remaining c.args.reader)
+    (split_known_bytes g.R.Read.remaining c.loop-line.line-iterator) c.loop-line.number known.trace known.upto
+    c.in-None.ensures.steps.2 in
+    on_err _ (course_breaks g.L.Link.carries g.L.Link.answers c.args.self.now (g.R.Read.remaining c.args.reader)
+    _ _ All known.trace c.loop-line.self course
+    (part_later _ _ _ (printed known.trace) _ known.appends
+    (rw (c.as_bytes.ensures.value, c.in_ok-last.ensures, c.faults.ensures) at c.in_err-write_whole.ensures.err)))

@@ -1,0 +1,81 @@
+-- What a scenario came to of which a stream or the memory failed.
+use Rattle.std.proofs.Common.{◌≡◌, ℕ, List, [], ◌++◌, Option, None, Some, IfSome, refl, sym, ◌∙◌, inl, inr, append-nil}
+use Rattle.std.proofs.lemmas.List.Concat.{flat_map-append}
+use Rattle.std.specs.Io.KnownBytes.{Appends}
+use Rattle.am_world.specs.Setup.{Origin}
+use Rattle.am_world.specs.Simulation.{fault_count}
+use Rattle.am_play.proofs.ScenarioLemmas.{Rest, Upto}
+use Rattle.am_play.proofs.TraceLemmas.{course_until_fault}
+use Rattle.am_play.proofs.WritingLemmas.{part_later}
+use Rattle.am_play.specs.Link.{Answers, Carries}
+use Rattle.am_play.specs.Playing.{IsStart, ending}
+use Rattle.am_play.specs.Scenario.{CourseBreaks, Course, ScenarioBreaks, lines_of}
+use Rattle.am_play.specs.Trace.{Happened, printed, text_of}
+use Rattle.am_play.specs.Writing.{AppendsPart}
+use Rattle.am_play.specs.declared.play.Played.{Played}
+use Rattle.am_play.specs.declared.play.Played.TheVariants.{All}
+use Rattle.am_play.specs.declared.play.Player.{Player}
+
+-- the lines that weren't played
+others_of : (bytes left : Option (List ℕ)) (lines : List (List ℕ)) → Rest bytes left lines →
+    (others : List (List ℕ)) × IfSome bytes (λ bytes. lines ++ others ≡ lines_of bytes)
+others_of None left lines rest = ([], tt)
+others_of (Some bytes) None lines rest = absurd rest
+others_of (Some bytes) (Some left) lines (inl rest) = (lines_of left, sym rest)
+others_of (Some bytes) (Some left) lines (inr rest) = ([], append-nil lines ∙ sym rest.0)
+
+all_read : (bytes : Option (List ℕ)) (lines : List (List ℕ)) → IfSome bytes (λ bytes. lines ≡ lines_of bytes) →
+    IfSome bytes (λ bytes. lines ++ [] ≡ lines_of bytes)
+all_read None lines read = tt
+all_read (Some bytes) lines read = append-nil lines ∙ read
+
+module _ (carries : Carries) (answers : Answers) (start : Player) (bytes old new : Option (List ℕ)) where
+  -- some lines were played
+  pub upto_breaks : (p : Player) (left : Option (List ℕ)) (n : ℕ) (trace : List Happened) →
+      Upto carries answers start bytes p left n trace → AppendsPart old new (printed trace) →
+      CourseBreaks carries answers start bytes old new
+  upto_breaks p left n trace upto written =
+      let others = others_of bytes left upto.lines upto.rest in
+      record {
+        lines = upto.lines;
+        others = others.0;
+        are_read = others.1;
+        played = All;
+        trace = trace;
+        end = p;
+        plays = rw (append-nil upto.lines, append-nil trace) at (upto.plays [] All [] p (refl, refl, refl));
+        written = inl written;
+      }
+
+  -- all lines were played
+  pub course_breaks : (played : Played) (trace : List Happened) (end : Player) →
+      Course carries answers start bytes played trace end →
+      AppendsPart old new (printed trace ++ ending played (fault_count end.world)) →
+      CourseBreaks carries answers start bytes old new
+  course_breaks played trace end course written = record {
+    lines = course.lines;
+    others = [];
+    are_read = all_read bytes course.lines course.are_read;
+    played = played;
+    trace = trace;
+    end = end;
+    plays = course.plays;
+    written = inr (refl, written);
+  }
+
+  -- .. from a new world on
+  pub scenario_breaks : (origin : Origin) → IsStart origin start → CourseBreaks carries answers start bytes old new →
+      ScenarioBreaks carries answers origin bytes old new
+  scenario_breaks origin is_start course = record {
+    start = start;
+    is_start = is_start;
+    course = course;
+    alone = course_until_fault carries answers origin start None course.played course.trace course.end is_start
+        (record { lines = course.lines; are_read = tt; plays = course.plays });
+  }
+
+-- the lines of a trace were written, and then a first part of those of what followed
+pub trace_later : (a b c : Option (List ℕ)) (trace more : List Happened) → Appends a b (printed trace) →
+    AppendsPart b c (printed more) → AppendsPart a c (printed (trace ++ more))
+trace_later a b c trace more h k =
+    rw (flat_map-append text_of trace more) (part_later a b c (printed trace) (printed more) h k)
