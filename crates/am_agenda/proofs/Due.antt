@@ -19,7 +19,7 @@ use Rattle.am_members.specs.Members.{gave, least_of}
 use Rattle.am_members.specs.Names.{is_group}
 use Rattle.am_outlet.specs.declared.attempt.Attempt.{Attempt}
 use Rattle.am_outlet.specs.Attempts.{attempt_at}
-use Rattle.am_timer.specs.declared.key.GroupKey.{GroupKey}
+use Rattle.am_timer.specs.declared.key.FlushKey.{FlushKey}
 use Rattle.am_timer.specs.declared.key.TimerKey.TheVariants.{Operation, Group, Retry, Push}
 use Rattle.am_timer.specs.Queue.{due_at, is_due, timers_of}
 use Rattle.am_timer.specs.Tied.{has_timer}
@@ -211,7 +211,7 @@ module _ (t : List ℕ) (plan : Plan) (q : Timer) where
           plan.grouped.alerts (has_some (members (group_in key) plan.grouped.alerts) refl)
         where
           own_key : Group (flush_key pace (group_in key)) ≡ Group key
-          own_key = ap (λ (r : List ℕ). let k : GroupKey = record { receiver = r; labels = key.labels; route = key.route } in Group k) ((bytes_eq-Decides pace.receiver key.receiver).0 e)
+          own_key = ap (λ (r : List ℕ). let k : FlushKey = record { receiver = r; labels = key.labels; route = key.route } in Group k) ((bytes_eq-Decides pace.receiver key.receiver).0 e)
 
           of_group : (g : Name) → group_in key ≡ g → hits q (flush_timer t plan g) ≡ true
           of_group g here =

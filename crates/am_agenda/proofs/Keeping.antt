@@ -16,7 +16,7 @@ use Rattle.am_members.specs.Grouped.{Grouped, grouped_of, nothing, put_in}
 use Rattle.am_members.specs.Members.{gave}
 use Rattle.am_outlet.specs.Attempts.{no_attempts}
 use Rattle.am_outlet.specs.Desks.{Desks, desk_of}
-use Rattle.am_timer.specs.declared.key.GroupKey.{GroupKey}
+use Rattle.am_timer.specs.declared.key.FlushKey.{FlushKey}
 use Rattle.am_timer.specs.declared.key.TimerKey.TheVariants.{Operation, Group, Retry, Push}
 use Rattle.am_timer.specs.Tied.{has_timer}
 use Rattle.am_timer.specs.Timer.{Key, Timer}
@@ -34,7 +34,7 @@ none_kept plans bare idle = record {
   timed = λ x. sym (ap (λ o. gave o x.due) (none_due x.name.tenant x.name.key));
 }
   where
-    none_for : (key : GroupKey) (pace : Option Pace) → due_for key nothing pace ≡ None
+    none_for : (key : FlushKey) (pace : Option Pace) → due_for key nothing pace ≡ None
     none_for key None = refl
     none_for key (Some pace) = either (bytes_eq pace.receiver key.receiver) _ _ refl refl
       where

@@ -21,11 +21,11 @@ use Rattle.am_members.specs.Grouped.{Grouped}
 use Rattle.am_members.specs.Members.{gave}
 use Rattle.am_members.specs.Names.{is_group}
 use Rattle.am_members.proofs.Orders.{group_tells}
-use Rattle.am_timer.specs.declared.key.GroupKey.{GroupKey}
+use Rattle.am_timer.specs.declared.key.FlushKey.{FlushKey}
 use Rattle.am_timer.specs.declared.key.TimerKey.TheVariants.{Operation, Group, Retry, Push}
 use Rattle.am_timer.specs.Queue.{is_named, with_timer, without}
 use Rattle.am_timer.specs.Tied.{has_timer}
-use Rattle.am_timer.specs.Timer.{Key, Name as TimerName, Timer, group_cmp, key_cmp, name_cmp, timer_cmp}
+use Rattle.am_timer.specs.Timer.{Key, Name as TimerName, Timer, flush_key_cmp, key_cmp, name_cmp, timer_cmp}
 use Rattle.am_timer.proofs.Orders.{name_ties, same_name, same_timer}
 use Rattle.am_timer.proofs.TiedLemmas.{has-filter, has-insert}
 use Rattle.am_planning.specs.declared.pace.Pace.{Pace}
@@ -33,7 +33,7 @@ use Rattle.am_agenda.specs.Plan.{all_groups, flush_due, flush_key, group_due, gr
 use Rattle.am_agenda.specs.Planned.{flush_due_of, flush_name, is_for, is_for_one, names_flush}
 
 -- two keys are the same where receiver, labels and route are
-same_key : (pace : Pace) (group : Name) (key : GroupKey) → is_eq (group_cmp (flush_key pace group) key) ≡ (is_group group (group_in key) && bytes_eq pace.receiver key.receiver)
+same_key : (pace : Pace) (group : Name) (key : FlushKey) → is_eq (flush_key_cmp (flush_key pace group) key) ≡ (is_group group (group_in key) && bytes_eq pace.receiver key.receiver)
 same_key pace group key =
     let labels = labels_cmp group.labels key.labels in
     let route = nat_cmp group.route key.route in
@@ -65,7 +65,7 @@ named_is t paces pace group x there =
     ∙ ap (λ b. b && is_eq (key_cmp (Group (flush_key pace group)) x.name.key)) (is_eq-name_cmp t x.name.tenant)
     ∙ ap (λ b. same t x.name.tenant && b) (by_kind x.name.key)
   where
-    by_route : (key : GroupKey) (b : Bool) → is_group group (group_in key) ≡ b → (b && bytes_eq pace.receiver key.receiver) ≡ names_flush paces group (Group key)
+    by_route : (key : FlushKey) (b : Bool) → is_group group (group_in key) ≡ b → (b && bytes_eq pace.receiver key.receiver) ≡ names_flush paces group (Group key)
     by_route key true is =
         let own : slice_get paces key.route ≡ Some pace = ap (λ (g : Name). slice_get paces g.route) (sym (same_group group (group_in key) is)) ∙ there in
         rw (is, own) refl
@@ -85,7 +85,7 @@ named_none t paces group x none = ap (λ b. same t x.name.tenant && b) (by_kind 
     never true = refl
     never false = refl
 
-    by_route : (key : GroupKey) (b : Bool) → is_group group (group_in key) ≡ b → names_flush paces group (Group key) ≡ false
+    by_route : (key : FlushKey) (b : Bool) → is_group group (group_in key) ≡ b → names_flush paces group (Group key) ≡ false
     by_route key true is =
         let own : slice_get paces key.route ≡ None = ap (λ (g : Name). slice_get paces g.route) (sym (same_group group (group_in key) is)) ∙ none in
         rw (is, own) refl

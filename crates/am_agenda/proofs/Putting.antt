@@ -18,7 +18,7 @@ use Rattle.am_members.specs.Names.{is_set, without as absent}
 use Rattle.am_members.proofs.Flushes.{flush_living}
 use Rattle.am_members.proofs.Putting.{rising_put, rising_without}
 use Rattle.am_outlet.specs.Desks.{Desks, desk_of}
-use Rattle.am_timer.specs.declared.key.GroupKey.{GroupKey}
+use Rattle.am_timer.specs.declared.key.FlushKey.{FlushKey}
 use Rattle.am_timer.specs.declared.key.TimerKey.TheVariants.{Operation, Group, Retry, Push}
 use Rattle.am_timer.specs.Tied.{has_timer}
 use Rattle.am_timer.specs.Timer.{Key, Timer}
@@ -126,17 +126,17 @@ module _ (book : List (List ℕ × List Pace)) (desks : Desks) (groups others : 
     timed = λ x. kept.timed x ∙ ap (λ o. gave o x.due) (same_due x.name.tenant x.name.key);
   }
     where
-      by_members : (grouped : Grouped) (key : GroupKey) (pace : Pace) (ms : List (List Label × ℕ)) → members (group_in key) grouped.alerts ≡ ms
+      by_members : (grouped : Grouped) (key : FlushKey) (pace : Pace) (ms : List (List Label × ℕ)) → members (group_in key) grouped.alerts ≡ ms
           → due_by pace (least_of ms) (flush_of (group_in key) grouped.flushes) ≡ due_by pace (least_of ms) (flush_of (group_in key) (living grouped))
       by_members grouped key pace [] bare = refl
       by_members grouped key pace (m ∷ ms) held =
           ap (due_by pace (least_of (m ∷ ms)))
           (sym (flush_living (group_in key) grouped ∙ ap (λ us. cond (is_bare us) None (flush_of (group_in key) grouped.flushes)) held))
 
-      group_as_before : (grouped : Grouped) (key : GroupKey) (pace : Pace) → group_due pace (group_in key) grouped ≡ group_due pace (group_in key) (swept grouped)
+      group_as_before : (grouped : Grouped) (key : FlushKey) (pace : Pace) → group_due pace (group_in key) grouped ≡ group_due pace (group_in key) (swept grouped)
       group_as_before grouped key pace = by_members grouped key pace (members (group_in key) grouped.alerts) refl
 
-      by_pace : (t : List ℕ) (key : GroupKey) (pace : Option Pace) → due_for key (grouped_of t groups) pace ≡ due_for key (grouped_of t others) pace
+      by_pace : (t : List ℕ) (key : FlushKey) (pace : Option Pace) → due_for key (grouped_of t groups) pace ≡ due_for key (grouped_of t others) pace
       by_pace t key None = refl
       by_pace t key (Some pace) =
           ap (λ d. cond (bytes_eq pace.receiver key.receiver) d None) (group_as_before (grouped_of t groups) key pace)

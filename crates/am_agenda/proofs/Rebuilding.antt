@@ -16,7 +16,7 @@ use Rattle.am_members.specs.Grouped.{Grouped, flush_of, grouped_of, in_group, me
 use Rattle.am_members.specs.Members.{gave, least_of}
 use Rattle.am_members.specs.Names.{is_group}
 use Rattle.am_outlet.specs.Desks.{Desks, desk_of}
-use Rattle.am_timer.specs.declared.key.GroupKey.{GroupKey}
+use Rattle.am_timer.specs.declared.key.FlushKey.{FlushKey}
 use Rattle.am_timer.specs.Tied.{has_timer}
 use Rattle.am_timer.specs.Timer.{Timer}
 use Rattle.am_planning.specs.declared.pace.Pace.{Pace}
@@ -46,7 +46,7 @@ no_members g (a ∷ ys) h =
         turned false b c = refl
 
 -- what none of the alerts' groups and of their routes' receivers names is never due
-never_planned : (paces : List Pace) (grouped : Grouped) (key : GroupKey) → is_changed paces (all_groups grouped.alerts) key ≡ false → flush_due paces grouped key ≡ None
+never_planned : (paces : List Pace) (grouped : Grouped) (key : FlushKey) → is_changed paces (all_groups grouped.alerts) key ≡ false → flush_due paces grouped key ≡ None
 unfolding flush_due
 never_planned paces grouped key unnamed = by_pace (slice_get paces key.route) refl
   where
@@ -68,7 +68,7 @@ never_planned paces grouped key unnamed = by_pace (slice_get paces key.route) re
         (ap (λ o. list_any (is_group (group_in key)) (all_groups grouped.alerts) && has_receiver key o) (sym e) ∙ unnamed)
 
 -- nothing is due of a tenant without alerts
-bare_never : (paces : List Pace) (grouped : Grouped) (key : GroupKey) → grouped.alerts ≡ [] → flush_due paces grouped key ≡ None
+bare_never : (paces : List Pace) (grouped : Grouped) (key : FlushKey) → grouped.alerts ≡ [] → flush_due paces grouped key ≡ None
 bare_never paces grouped key bare = never_planned paces grouped key (ap (λ ys. list_any (is_group (group_in key)) (all_groups ys) && has_receiver key (slice_get paces key.route)) bare)
 
 -- all alerts were taken out

@@ -10,7 +10,7 @@ use Rattle.am_members.specs.Grouped.{Grouped, flush_of, members}
 use Rattle.am_members.specs.Members.{gave}
 use Rattle.am_members.specs.Names.{is_group}
 use Rattle.am_members.proofs.Orders.{group-sym}
-use Rattle.am_timer.specs.declared.key.GroupKey.{GroupKey}
+use Rattle.am_timer.specs.declared.key.FlushKey.{FlushKey}
 use Rattle.am_timer.specs.declared.key.TimerKey.TheVariants.{Operation, Group, Retry, Push}
 use Rattle.am_timer.specs.Tied.{has_timer}
 use Rattle.am_timer.specs.Timer.{Key, Timer}
@@ -39,7 +39,7 @@ for_none t paces (g ∷ groups) x unnamed = rw (unnamed g, for_none t paces grou
     never false = refl
 
 -- a flush of one of the groups that is for none of them names another receiver than its route has
-other_receiver : (t : List ℕ) (paces : List Pace) (groups : List Name) (x : Timer) (key : GroupKey) → x.name.key ≡ Group key → same t x.name.tenant ≡ true
+other_receiver : (t : List ℕ) (paces : List Pace) (groups : List Name) (x : Timer) (key : FlushKey) → x.name.key ≡ Group key → same t x.name.tenant ≡ true
     → is_for_one t paces groups x ≡ false → list_any (is_group (group_in key)) groups ≡ true → has_receiver key (slice_get paces key.route) ≡ false
 other_receiver t paces [] x key is own none one = absurd (false≢true one)
 other_receiver t paces (g ∷ groups) x key is own none one =
@@ -56,12 +56,12 @@ other_receiver t paces (g ∷ groups) x key is own none one =
     by_first false e first rest = rest (ap (λ b. b || list_any (is_group (group_in key)) groups) (sym e) ∙ one)
 
 -- such a flush is never due
-never_due : (key : GroupKey) (grouped : Grouped) (pace : Option Pace) → has_receiver key pace ≡ false → due_for key grouped pace ≡ None
+never_due : (key : FlushKey) (grouped : Grouped) (pace : Option Pace) → has_receiver key pace ≡ false → due_for key grouped pace ≡ None
 never_due key grouped None h = refl
 never_due key grouped (Some pace) h = rw h refl
 
 -- the flush of another group is due as before
-due_elsewhere : (paces : List Pace) (changed : List Name) (old new : Grouped) (key : GroupKey) → AreTheOthers changed old new → list_any (is_group (group_in key)) changed ≡ false
+due_elsewhere : (paces : List Pace) (changed : List Name) (old new : Grouped) (key : FlushKey) → AreTheOthers changed old new → list_any (is_group (group_in key)) changed ≡ false
     → flush_due paces new key ≡ flush_due paces old key
 unfolding flush_due
 due_elsewhere paces changed old new key others not_one = by_pace (slice_get paces key.route)
@@ -71,12 +71,12 @@ due_elsewhere paces changed old new key others not_one = by_pace (slice_get pace
     by_pace (Some pace) = rw (others.held (group_in key) not_one, others.flushed (group_in key) not_one) refl
 
 -- a key names the flush of one of these groups, with the receiver that its route has
-abbrev pub is_changed : List Pace → List Name → GroupKey → Bool
+abbrev pub is_changed : List Pace → List Name → FlushKey → Bool
 is_changed paces changed key = list_any (is_group (group_in key)) changed && has_receiver key (slice_get paces key.route)
 
 -- a flush that no such key names is due as before
 abbrev pub IsDueElsewhere : List Name → Plan → Plan → Type 0
-IsDueElsewhere changed old new = (key : GroupKey) → is_changed new.paces changed key ≡ false → flush_due old.paces old.grouped key ≡ flush_due new.paces new.grouped key
+IsDueElsewhere changed old new = (key : FlushKey) → is_changed new.paces changed key ≡ false → flush_due old.paces old.grouped key ≡ flush_due new.paces new.grouped key
 
 -- .. where the paces stay and all other groups do
 pub due_as_before : (changed : List Name) (old new : Plan) → new.paces ≡ old.paces → AreTheOthers changed old.grouped new.grouped → IsDueElsewhere changed old new

@@ -11,7 +11,7 @@ use Rattle.am_members.specs.Grouped.{Grouped, flush_of, flushed_at, kept_after, 
 use Rattle.am_members.specs.Members.{least_of}
 use Rattle.am_members.specs.Names.{without as absent}
 use Rattle.am_outlet.specs.Attempts.{Desk, attempt_at, no_attempts}
-use Rattle.am_timer.specs.declared.key.GroupKey.{GroupKey}
+use Rattle.am_timer.specs.declared.key.FlushKey.{FlushKey}
 use Rattle.am_timer.specs.declared.key.TimerKey.TheVariants.{Operation, Group, Retry, Push}
 use Rattle.am_timer.specs.Timer.{Key, Timer, timer_cmp}
 use Rattle.am_planning.specs.declared.pace.Pace.{Pace}
@@ -28,7 +28,7 @@ abbrev pub no_plan : List Pace → Plan
 no_plan paces = record { paces = paces; grouped = nothing; desk = no_attempts }
 
 -- the group that a key names
-abbrev pub group_in : GroupKey → Name
+abbrev pub group_in : FlushKey → Name
 group_in key = record { route = key.route; labels = key.labels }
 
 -- when a group of this pace is due: the interval after its last flush; before its first flush, the wait after the least
@@ -43,13 +43,13 @@ abbrev pub group_due : Pace → Name → Grouped → Option ℕ
 group_due pace group grouped = due_by pace (least_of (members group grouped.alerts)) (flush_of group grouped.flushes)
 
 -- .. where its route has this pace, if it has one, and its receiver is the one that is named
-abbrev pub due_for : GroupKey → Grouped → Option Pace → Option ℕ
+abbrev pub due_for : FlushKey → Grouped → Option Pace → Option ℕ
 due_for key grouped None = None
 due_for key grouped (Some pace) =
     if bytes_eq pace.receiver key.receiver then group_due pace (group_in key) grouped else None
 
 -- when the flush of a group is due
-unfoldable pub flush_due : List Pace → Grouped → GroupKey → Option ℕ
+unfoldable pub flush_due : List Pace → Grouped → FlushKey → Option ℕ
 flush_due paces grouped key = due_for key grouped (slice_get paces key.route)
 
 -- when the next try of an attempt is due
@@ -70,7 +70,7 @@ abbrev pub timer_of : List ℕ → Key → Option ℕ → Option Timer
 timer_of t key due = option_map (λ d. record { due = d; name = record { tenant = t; key = key } }) due
 
 -- what names the flush of a group, where its route has this pace
-abbrev pub flush_key : Pace → Name → GroupKey
+abbrev pub flush_key : Pace → Name → FlushKey
 flush_key pace group = record { receiver = pace.receiver; labels = group.labels; route = group.route }
 
 -- the timer of a group's flush

@@ -14,7 +14,7 @@ use Rattle.am_members.specs.Names.{is_group}
 use Rattle.am_outlet.specs.declared.outcome.Outcome.{Outcome}
 use Rattle.am_outlet.specs.declared.outcome.Outcome.TheVariants.{NotOpen, Delivered, Again, GivenUp}
 use Rattle.am_outlet.specs.Desks.{Desks, desk_of}
-use Rattle.am_timer.specs.declared.key.GroupKey.{GroupKey}
+use Rattle.am_timer.specs.declared.key.FlushKey.{FlushKey}
 use Rattle.am_timer.specs.declared.key.TimerKey.TheVariants.{Operation, Group, Retry, Push}
 use Rattle.am_timer.specs.Queue.{with_timer, without}
 use Rattle.am_timer.specs.Tied.{has_timer}
@@ -62,7 +62,7 @@ groups_known (Some known) = known.groups
 -- ---- the timers of groups that changed
 
 -- a key names the flush of a group, with the receiver that its route has
-abbrev pub has_receiver : GroupKey → Option Pace → Bool
+abbrev pub has_receiver : FlushKey → Option Pace → Bool
 has_receiver key None = false
 has_receiver key (Some pace) = bytes_eq pace.receiver key.receiver
 

@@ -17,7 +17,7 @@ ghost use Rattle.am_agenda.specs.Planned.{flush_due_of, groups_known, is_for, is
 use crate::paces::Paces;
 use crate::refresh::{refresh, refresh_alerts, refresh_all};
 use am_labels::LabelSet;
-use am_members::{Group, Groups, Known};
+use am_members::{Group, Groups, Known, copy_groups};
 use am_planning::Pace;
 use am_tenant::TenantName;
 use am_text::{Listed, Moment};
@@ -43,17 +43,6 @@ pub fn put_in(
     let changed = copy_groups(alloc, known.groups.as_slice())?;
     groups.put(alloc, tenant, labels, known)?;
     refresh_all(alloc, timers, groups, paces, tenant, changed.as_slice())
-}
-
-/// A copy of groups.
-pub fn copy_groups(alloc: Global, groups: &[Group]) -> Result<Listed<Group>, AllocError>
-    ensures { IfOk result (λ copy. copy ≡ groups.now) }
-{
-    let mut copies = Vec::with_capacity(alloc, groups.len())?;
-    for group in groups {
-        copies.push(group.copy()?)?;
-    }
-    Ok(Listed::from_vec(copies))
 }
 
 /// Removes an alert, and sets the timers of its groups anew.

@@ -10,4 +10,3 @@ mod refresh;
 mod trying;
 
 pub use agenda::Agenda;
-pub use grouping::copy_groups;

@@ -6,7 +6,7 @@ ghost use Rattle.am_agenda.specs.Planned.{flush_name, retry_name};
 use am_members::Group;
 use am_planning::Pace;
 use am_tenant::TenantName;
-use am_timer::{GroupKey, TimerKey, TimerName};
+use am_timer::{FlushKey, TimerKey, TimerName};
 use std::alloc::{AllocError, Global};
 
 /// The name of the timer of a group's flush, where the group's route has this pace.
@@ -20,7 +20,7 @@ pub fn flush_name(
 {
     Ok(TimerName {
         tenant: *tenant,
-        key: TimerKey::Group(GroupKey {
+        key: TimerKey::Group(FlushKey {
             receiver: pace.receiver.copy(alloc)?,
             labels: group.labels.copy()?,
             route: group.route,

@@ -11,7 +11,7 @@ use Rattle.am_labels.specs.declared.Label.{Label}
 use Rattle.am_labels.specs.Labels.{labels_cmp, labels_total}
 use Rattle.am_item.specs.declared.item.Alert.{Alert}
 use Rattle.am_item.specs.declared.item.Item.{Item}
-use Rattle.am_api.specs.Fresh.{is_held, new_count, new_sets}
+use Rattle.am_api.specs.Fresh.{has_alert, new_count, new_sets}
 
 -- ---- label sets
 
@@ -19,7 +19,7 @@ use Rattle.am_api.specs.Fresh.{is_held, new_count, new_sets}
 pub regrouped : (whole old front later : List Alert) (alert : Alert) → whole ≡ old ++ later → old ≡ front ++ alert ∷ [] → whole ≡ front ++ alert ∷ later
 regrouped whole old front later alert before split = before ∙ ap (λ xs. xs ++ later) split ∙ append_assoc front (alert ∷ []) later
 
-sets_more : (held : List Item) (later : List Alert) (alert : Alert) → is_held held alert.labels ≡ false → new_sets held (alert ∷ later) ≡ alert.labels ∷ new_sets held later
+sets_more : (held : List Item) (later : List Alert) (alert : Alert) → has_alert held alert.labels ≡ false → new_sets held (alert ∷ later) ≡ alert.labels ∷ new_sets held later
 sets_more held later alert fresh = rw fresh refl
 
 or_cond : (b c : Bool) → cond b true c ≡ b || c
@@ -27,7 +27,7 @@ or_cond true c = refl
 or_cond false c = refl
 
 -- whether a label set is among those that are new
-pub known_more : (held : List Item) (later : List Alert) (alert : Alert) (key : List Label) (old new : Bool) → is_held held alert.labels ≡ false →
+pub known_more : (held : List Item) (later : List Alert) (alert : Alert) (key : List Label) (old new : Bool) → has_alert held alert.labels ≡ false →
     old ≡ is_member (eq_by_cmp labels_cmp) (new_sets held later) key → new ≡ cond (is_eq (labels_cmp alert.labels key)) true old →
     new ≡ is_member (eq_by_cmp labels_cmp) (new_sets held (alert ∷ later)) key
 known_more held later alert key old new fresh before now =
@@ -40,7 +40,7 @@ counted sets set true is = rw is (omega arith)
 counted sets set false is = rw is (omega arith)
 
 -- and how many they are
-pub count_more : (held : List Item) (later : List Alert) (alert : Alert) (old new : ℕ) (known added : Bool) → is_held held alert.labels ≡ false →
+pub count_more : (held : List Item) (later : List Alert) (alert : Alert) (old new : ℕ) (known added : Bool) → has_alert held alert.labels ≡ false →
     old ≡ new_count held later → known ≡ is_member (eq_by_cmp labels_cmp) (new_sets held later) alert.labels → added ≡ not known →
     new ≡ old + (if added then 1 else 0) → new ≡ new_count held (alert ∷ later)
 count_more held later alert old new known added fresh before knows adds now =
@@ -57,7 +57,7 @@ past_some limit len new whole room is within left = grind (arith, nat_tests)
 pub new_few : (held : List Item) (posted : List Alert) → new_count held posted ≤ length posted
 new_few held posted =
     let sets = map (λ (alert : Alert). alert.labels) posted in
-    let is_new : List Label → Bool = λ labels. not (is_held held labels) in
+    let is_new : List Label → Bool = λ labels. not (has_alert held labels) in
     omega (arith, distinct_count-le (eq_by_cmp labels_cmp) (new_sets held posted), length-filter is_new sets, count_by-le-length is_new sets, length-map posted (λ (alert : Alert). alert.labels))
 
 pub past_few : (limit len new whole room count : ℕ) → whole ≡ len + new → len ≤ limit → room ≡ limit - len → new ≤ count → count ≤ room → false ≡ nat_lt limit whole

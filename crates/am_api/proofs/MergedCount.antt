@@ -34,7 +34,7 @@ use Rattle.am_item.proofs.Order.{labels_exact}
 use Rattle.am_alert.specs.declared.maker.Maker.{Maker}
 use Rattle.am_alert.specs.Made.{is_posted, items_from, last_of_each, made}
 use Rattle.am_api.specs.Decision.{count_with}
-use Rattle.am_api.specs.Fresh.{is_held, new_count, new_sets}
+use Rattle.am_api.specs.Fresh.{has_alert, new_count, new_sets}
 
 -- two label sets are equal
 abbrev same_set : List Label → List Label → Bool
@@ -247,14 +247,14 @@ new_not_held false true e = cc
 new_not_held false false e = refl
 
 module _ (held : List Item) (posted : List Alert) where
-  is_held_set : (k : List Label) → is_held held k ≡ is_member same_set (sets_of held) k
-  is_held_set k = some_found (AlertKey k) held ∙ sym (member_sets held k)
+  has_alert_set : (k : List Label) → has_alert held k ≡ is_member same_set (sets_of held) k
+  has_alert_set k = some_found (AlertKey k) held ∙ sym (member_sets held k)
 
   new_member : (k : List Label) → is_member same_set (new_sets held posted) k ≡ (is_member same_set (posted_sets posted) k && not (is_member same_set (sets_of held) k))
   new_member k =
-      is_member-filter (eq_by_cmp_equiv labels_total) (λ labels. not (is_held held labels)) k
-      (λ x same. ap (λ labels. not (is_held held labels)) (labels_exact k x ((Equal-is (labels_cmp k x)).0 same))) (posted_sets posted)
-      ∙ ap (λ h. is_member same_set (posted_sets posted) k && not h) (is_held_set k)
+      is_member-filter (eq_by_cmp_equiv labels_total) (λ labels. not (has_alert held labels)) k
+      (λ x same. ap (λ labels. not (has_alert held labels)) (labels_exact k x ((Equal-is (labels_cmp k x)).0 same))) (posted_sets posted)
+      ∙ ap (λ h. is_member same_set (posted_sets posted) k && not h) (has_alert_set k)
 
   none_held : (k : List Label) → is_member same_set (new_sets held posted) k ≡ true → is_member same_set (sets_of held) k ≡ false
   none_held k there = new_not_held (is_member same_set (posted_sets posted) k) (is_member same_set (sets_of held) k) (sym (new_member k) ∙ there)

@@ -10,12 +10,12 @@ use Rattle.am_item.specs.Best.{item_at}
 use Rattle.am_item.specs.declared.key.ThingKey.TheVariants.{Alert as AlertKey}
 
 -- an alert with this label set is held
-abbrev pub is_held : List Item → List Label → Bool
-is_held held labels = is_some (item_at (AlertKey labels) held)
+abbrev pub has_alert : List Item → List Label → Bool
+has_alert held labels = is_some (item_at (AlertKey labels) held)
 
 -- the label sets that are posted and aren't held
 abbrev pub new_sets : List Item → List Alert → List (List Label)
-new_sets held posted = filter (λ labels. not (is_held held labels)) (map (λ (alert : Alert). alert.labels) posted)
+new_sets held posted = filter (λ labels. not (has_alert held labels)) (map (λ (alert : Alert). alert.labels) posted)
 
 -- how many they are: those that are equal count once
 abbrev pub new_count : List Item → List Alert → ℕ

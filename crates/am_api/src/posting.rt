@@ -5,7 +5,7 @@ ghost use Rattle.am_alert.specs.Posted.{posted};
 ghost use Rattle.am_alert.specs.declared.maker.Maker.{Maker};
 ghost use Rattle.am_api.specs.Deciding.{Decides};
 ghost use Rattle.am_api.specs.Decision.{count_with, stored_or_refused, stored_within};
-ghost use Rattle.am_api.specs.Fresh.{is_held, new_count};
+ghost use Rattle.am_api.specs.Fresh.{has_alert, new_count};
 
 use crate::decision::{self, Decided, refuse};
 use am_alert::{Maker, items_of_post, read_posted};
@@ -73,7 +73,7 @@ fn count_new(alloc: Global, held: &Held, posted: &[Alert]) -> Result<usize, Allo
     let mut new = BTreeSet::new(alloc);
     let mut before = posted;
     while let Some((alert, earlier)) = before.split_last() {
-        if !is_held(held, &alert.labels) {
+        if !has_alert(held, &alert.labels) {
             new.insert(&alert.labels)?;
         }
         before = earlier;
@@ -82,8 +82,8 @@ fn count_new(alloc: Global, held: &Held, posted: &[Alert]) -> Result<usize, Allo
 }
 
 // Whether an alert with this label set is held.
-fn is_held(held: &Held, labels: &LabelSet) -> bool
-    ensures { result ≡ is_held held.now labels.now }
+fn has_alert(held: &Held, labels: &LabelSet) -> bool
+    ensures { result ≡ has_alert held.now labels.now }
 {
     held.alerts().contains_key(labels)
 }

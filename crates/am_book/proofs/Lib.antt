@@ -5,3 +5,4 @@ pub mod Told
 pub mod Lists
 pub mod Retiring
 pub mod Fewer
+pub mod Newcomers

@@ -90,15 +90,19 @@ pub rising_after : {T E : Type 0} (r : Result T E) (was now : List Item) (item :
 rising_after (Ok _) was now item h _ up = rw h (rising-joined was item)
 rising_after (Err _) was now item _ h up = rw h up
 
+-- a list found, or a new one without items, has the items of the look-up
+in_found : (o : Option (List Item)) (fresh : List Item) → fresh ≡ [] → unwrap_or o fresh ≡ found_items o
+in_found None fresh none = none
+in_found (Some held) fresh none = refl
+
+-- .. which are those that a book has of the tenant
+pub items_found : (m : BTreeMap (List ℕ) (List Item)) (tenant : List ℕ) (was fresh : List Item) → AreHeld m → fresh ≡ [] → was ≡ unwrap_or (get tenants m tenant) fresh → was ≡ items_of tenant (pairs_of m)
+items_found m tenant was fresh are none found = found ∙ in_found (get tenants m tenant) fresh none ∙ sym (items_of-pairs_of tenant m are.ordered)
+
 module _ (m n : BTreeMap (List ℕ) (List Item)) (tenant : List ℕ) (now : List Item) where
   -- a rising list put into a book
   pub held_after : AreHeld m → IsOrdered tenants n → n.entries ≡ insert_entry tenants m.entries tenant now → IsRising now → AreHeld n
   held_after are ordered entries up = record { ordered = ordered; rising = rw entries (All-values-insert_entry tenants tenant now (λ held. IsRising held) m.entries are.rising up) }
-
-  -- a list found, or a new one without items, has the items of the look-up
-  in_found : (o : Option (List Item)) (fresh : List Item) → fresh ≡ [] → unwrap_or o fresh ≡ found_items o
-  in_found None fresh none = none
-  in_found (Some held) fresh none = refl
 
   -- what a book has of each tenant once an item has joined the list of one
   pub items_after : (was fresh : List Item) (item : Item) → AreHeld m → IsOrdered tenants n
@@ -111,7 +115,7 @@ module _ (m n : BTreeMap (List ℕ) (List Item)) (tenant : List ℕ) (now : List
       items_of-pairs_of t n ordered ∙ ap found_items (gets t)
       ∙ by_cases (same t tenant)
       (λ h.
-      let held : was ≡ old = found ∙ in_found (get tenants m tenant) fresh none ∙ ap (λ q. found_items (get tenants m q)) (sym (eq_from_same t tenant h)) ∙ sym (items_of-pairs_of t m are.ordered) in
+      let held : was ≡ old = items_found m tenant was fresh are none found ∙ ap (λ q. items_of q (pairs_of m)) (sym (eq_from_same t tenant h)) in
       ap found_items (cond-true _ (Some now) (get tenants m t) (test ∙ h)) ∙ joins ∙ ap (λ xs. joined xs item) held ∙ sym (cond-true _ (joined old item) old h))
       (λ h.
       ap found_items (cond-false _ (Some now) (get tenants m t) (test ∙ h)) ∙ sym (items_of-pairs_of t m are.ordered) ∙ sym (cond-false _ (joined old item) old h))
@@ -126,7 +130,7 @@ module _ (m n : BTreeMap (List ℕ) (List Item)) (tenant : List ℕ) (now : List
       items_of-pairs_of t n ordered ∙ ap found_items (gets t)
       ∙ by_cases (same t tenant)
       (λ h.
-      let held : was ≡ items_of t (pairs_of m) = found ∙ in_found (get tenants m tenant) fresh none ∙ ap (λ q. found_items (get tenants m q)) (sym (eq_from_same t tenant h)) ∙ sym (items_of-pairs_of t m are.ordered) in
+      let held : was ≡ items_of t (pairs_of m) = items_found m tenant was fresh are none found ∙ ap (λ q. items_of q (pairs_of m)) (sym (eq_from_same t tenant h)) in
       ap found_items (cond-true _ (Some now) (get tenants m t) (test ∙ h)) ∙ back ∙ held)
       (λ h. ap found_items (cond-false _ (Some now) (get tenants m t) (test ∙ h)) ∙ sym (items_of-pairs_of t m are.ordered))
 

@@ -1,5 +1,5 @@
 -- A book as pairs of a tenant and an item.
-use Rattle.std.specs.Prelude.{◌≡◌, ◌<◌, List, ℕ, [], ◌∷◌, ◌++◌, length, take, Option, Some, None, if◌then◌else◌}
+use Rattle.std.specs.Prelude.{◌≡◌, ◌<◌, Bool, List, ℕ, [], ◌∷◌, ◌++◌, length, take, Option, Some, None, is_none, if◌then◌else◌}
 use Rattle.std.specs.BTreeMap.{BTreeMap, IsOrdered, get, values}
 use Rattle.std.specs.BTreeSet.{BTreeSet}
 use Rattle.std.specs.Cmp.Lexicographic.{slice_cmp}
@@ -7,7 +7,8 @@ use Rattle.std.specs.List.{All}
 use Rattle.std.specs.Ordering.{nat_cmp}
 use Rattle.am_tenant.specs.Names.{same}
 use Rattle.am_item.specs.declared.item.Item.{Item}
-use Rattle.am_item.specs.Best.{IsRising, all_joined}
+use Rattle.am_item.specs.Best.{IsRising, all_joined, item_at, joined}
+use Rattle.am_item.specs.Key.{key_of}
 use Rattle.am_book.specs.Row.{has_row, tells}
 use Rattle.am_book.specs.declared.row.Row.{Row}
 
@@ -53,3 +54,12 @@ pub record IsPartlyJoined (held items now : List Item) : Type 0 where
   pub count : ℕ
   pub fewer : count < length items
   pub joined : now ≡ all_joined held (take count items)
+
+-- no item of this one's key is held
+abbrev pub is_new : List Item → Item → Bool
+is_new held item = is_none (item_at (key_of item) held)
+
+-- of items that join those held, one after the other: for each, whether there was none of its key when it came
+abbrev pub are_new : List Item → List Item → List Bool
+are_new held [] = []
+are_new held (item ∷ items) = is_new held item ∷ are_new (joined held item) items

@@ -1,4 +1,4 @@
-ghost use Rattle.std.specs.Prelude.{◌≡◌, ◌+◌, ℕ, List, [], None, length, true, false, not, filter, IsSome, nat_le, IfErr, IfNone, IfSome, OnErr, OnOk, if◌then◌else◌};
+ghost use Rattle.std.specs.Prelude.{◌≡◌, ◌+◌, ℕ, List, [], None, length, true, false, not, filter, IsSome, nat_le, IfErr, IfNone, IfOk, IfSome, OnErr, OnOk, if◌then◌else◌};
 ghost use Rattle.std.specs.BTreeMap.{IsOrdered};
 ghost use Rattle.std.specs.BTreeSet.{btree_set_len};
 ghost use Rattle.std.specs.Cmp.Lexicographic.{slice_cmp};
@@ -8,7 +8,7 @@ ghost use Rattle.am_tenant.specs.Names.{same};
 ghost use Rattle.am_item.specs.Best.{IsRising, all_joined, item_at, joined};
 ghost use Rattle.am_item.specs.Key.{has_key, key_of};
 ghost use Rattle.am_item.specs.Retirement.{is_retired, standing_of};
-ghost use Rattle.am_book.specs.Book.{AreHeld, IsPartlyJoined, held_of, items_of, pairs_of};
+ghost use Rattle.am_book.specs.Book.{AreHeld, IsPartlyJoined, are_new, held_of, is_new, items_of, pairs_of};
 ghost use Rattle.am_book.specs.Row.{has_row, is_row_of, same_row, tells};
 ghost use Rattle.am_book.specs.declared.row.Row.{Row};
 
@@ -79,32 +79,42 @@ impl Book {
     }
 
     /// Puts an item of a tenant: it takes its key's place, unless an item of that key is held whose
-    /// stamp is no smaller. Other tenants' items stay. An error, which is out of memory, leaves all items as
-    /// they were.
-    pub fn put(&mut self, alloc: Global, tenant: &TenantName, item: Item) -> Result<(), AllocError>
+    /// stamp is no smaller. Other tenants' items stay. Answers whether none of that key was held. An error, which is
+    /// out of memory, leaves all items as they were.
+    pub fn put(
+        &mut self,
+        alloc: Global,
+        tenant: &TenantName,
+        item: Item,
+    ) -> Result<bool, AllocError>
         ensures joined { OnOk result ((t : List ℕ) → items_of t self.new ≡ (if same t tenant.now then joined (items_of t self.old) item else items_of t self.old)) }
+        ensures new { IfOk result (λ new. new ≡ is_new (items_of tenant.now self.old) item) }
         ensures err { OnErr result ((t : List ℕ) → items_of t self.new ≡ items_of t self.old) }
     {
         let held = self.tenants.entry(*tenant)?.or_insert(Held::new(alloc));
         put_in(alloc, held, &mut self.rows, tenant, item)
     }
 
-    /// Puts items of a tenant, as [`Book::put`] does one after the other. After an error, which is out of memory and
-    /// comes of one of them, those before it are put and no others; other tenants' items stay.
+    /// Puts items of a tenant, as [`Book::put`] does one after the other, and answers of each what that answers. After
+    /// an error, which is out of memory, those before one of them are put and no others; other tenants' items stay.
     pub fn put_all(
         &mut self,
         alloc: Global,
         tenant: &TenantName,
         items: Vec<Item>,
-    ) -> Result<(), AllocError>
+    ) -> Result<Vec<bool>, AllocError>
         ensures joined { OnOk result ((t : List ℕ) → items_of t self.new ≡ (if same t tenant.now then all_joined (items_of t self.old) items.items else items_of t self.old)) }
+        ensures new { IfOk result (λ new. new.items ≡ are_new (items_of tenant.now self.old) items.items) }
         ensures own { OnErr result (IsPartlyJoined (items_of tenant.now self.old) items.items (items_of tenant.now self.new)) }
         ensures others { OnErr result ((t : List ℕ) → same t tenant.now ≡ false → items_of t self.new ≡ items_of t self.old) }
     {
+        // Room for the answers is taken first, so that from then on only a put may fail.
+        let mut answers = Vec::with_capacity(alloc, items.len())?;
         for item in items {
-            self.put(alloc, tenant, item)?;
+            let is_new = self.put(alloc, tenant, item)?;
+            answers.push_reserved(is_new);
         }
-        Ok(())
+        Ok(answers)
     }
 
     /// Drops of every tenant what is retired at the moment. It takes no memory, and looks at no more than what it
@@ -133,25 +143,31 @@ impl Book {
 }
 
 // Puts an item of a tenant into what is held of it, and its row in the place of that of the item that it replaces.
+// Answers whether none of its key was held.
 fn put_in(
     alloc: Global,
     held: &mut Held,
     rows: &mut BTreeSet<Row>,
     tenant: &TenantName,
     item: Item,
-) -> Result<(), AllocError>
+) -> Result<bool, AllocError>
     requires { (row : Row) → same row.tenant tenant.now ≡ true → has_row rows.old row ≡ tells row held.old }
     ensures joined { OnOk result (held.new ≡ joined held.old item) }
+    ensures new { IfOk result (λ new. new ≡ is_new held.old item) }
     ensures err { OnErr result (held.new ≡ held.old) }
     ensures told { (row : Row) → has_row rows.new row ≡ (if same row.tenant tenant.now then tells row held.new else has_row rows.old row) }
 {
     let key = item.thing.key(alloc)?;
     match held.standing(&key) {
-        None => add(held, rows, tenant, key, item),
-        Some(old) if item.stamp.exceeds(&old.stamp) => {
-            replace(alloc, held, rows, tenant, key, old, item)
+        None => {
+            add(held, rows, tenant, key, item)?;
+            Ok(true)
         }
-        Some(_) => Ok(()),
+        Some(old) if item.stamp.exceeds(&old.stamp) => {
+            replace(alloc, held, rows, tenant, key, old, item)?;
+            Ok(false)
+        }
+        Some(_) => Ok(false),
     }
 }
 

@@ -4,7 +4,7 @@ ghost use Rattle.std.specs.Io.BufRead.{Rests};
 ghost use Rattle.std.specs.Option.{option_map_or};
 ghost use Rattle.am_tenant.specs.Names.{same};
 ghost use Rattle.am_item.specs.Best.{IsRising, all_joined, item_at};
-ghost use Rattle.am_book.specs.Book.{items_of};
+ghost use Rattle.am_book.specs.Book.{are_new, items_of};
 ghost use Rattle.am_item.specs.Key.{has_key};
 ghost use Rattle.am_item.specs.Retirement.{is_retired};
 ghost use Rattle.am_current.specs.Current.{configuration_in, read_for};
@@ -118,15 +118,16 @@ impl Holdings {
     }
 
     /// Puts items of a tenant, one after the other: each takes its key's place, unless an item of that key is held
-    /// whose stamp is no smaller. After an error, which is out of memory, the first of them may be there; other
-    /// tenants' items stay.
+    /// whose stamp is no smaller. Answers of each whether none of its key was held. After an error, which is out of
+    /// memory, the first of them may be there; other tenants' items stay.
     pub fn put_all(
         &mut self,
         alloc: Global,
         tenant: &TenantName,
         items: Vec<Item>,
-    ) -> Result<(), AllocError>
+    ) -> Result<Vec<bool>, AllocError>
         ensures joined { OnOk result ((t : List ℕ) → items_of t self.new ≡ (if same t tenant.now then all_joined (items_of t self.old) items.items else items_of t self.old)) }
+        ensures new { IfOk result (λ new. new.items ≡ are_new (items_of tenant.now self.old) items.items) }
         ensures others { OnErr result ((t : List ℕ) → same t tenant.now ≡ false → items_of t self.new ≡ items_of t self.old) }
     {
         let is_replaced = is_replaced(self.parts.book.held(tenant), items.as_slice());

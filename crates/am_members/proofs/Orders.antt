@@ -1,19 +1,16 @@
--- The orders of label sets, groups and stays tell exactly what is equal.
-use Rattle.std.proofs.Common.{◌≡◌, ◌≢◌, ◌⊎◌, ℕ, true, false, ◌&&◌, ◌==◌, inl, inr, arith, List, Ordering, refl, sym, ap, ◌∙◌}
-use Rattle.std.specs.Cmp.{Equal-is, IsTotalOrder, nat_cmp_total, on_total, then_total, tied_then}
+-- The orders of moments, label sets and groups tell exactly what is equal.
+use Rattle.std.proofs.Common.{◌≡◌, ◌≢◌, ◌⊎◌, ℕ, true, false, inl, inr, List, Ordering, refl, sym, ap, ◌∙◌}
+use Rattle.std.specs.Cmp.{Equal-is, IsTotalOrder, nat_cmp_total, on_total, then_total}
 use Rattle.std.specs.Ordering.{is_eq, nat_cmp, ordering_then}
 use Rattle.std.specs.declared.cmp.Ordering.TheVariants.{Less, Equal, Greater}
 use Rattle.std.proofs.lemmas.Bool.{cases_Bool, false≢true, true≢false}
-use Rattle.std.proofs.lemmas.Bool.Decides.{nat_tests}
 use Rattle.std.proofs.lemmas.Cmp.{tied_itself}
 use Rattle.std.proofs.lemmas.Map.Lookups.{CmpEqualImpliesEq, exact_unsigned}
 use Rattle.am_labels.specs.declared.Label.{Label}
 use Rattle.am_labels.specs.Labels.{labels_cmp, labels_total}
 use Rattle.am_labels.proofs.InOrder.{labels_exact}
 use Rattle.am_members.specs.declared.group.Group.{Group}
-use Rattle.am_members.specs.declared.members.Stay.{Stay}
-use Rattle.am_members.specs.Members.{stay_cmp}
-use Rattle.am_members.specs.Names.{group_cmp, is_group, is_set}
+use Rattle.am_members.specs.Names.{group_cmp, is_group, is_moment, is_set}
 
 -- two comparisons, one after the other, are `Equal` only where both are
 then_equal : (a b : Ordering) → ordering_then a b ≡ Equal → (a ≡ Equal) × (b ≡ Equal)
@@ -38,19 +35,17 @@ tells R total exact a b = elim (cases_Bool (is_eq (R a b))) [
   | inr h ↦ inr (h, λ e. false≢true (sym h ∙ ap (λ c. is_eq (R a c)) (sym e) ∙ ap is_eq (tied_itself total a)))
 ]
 
+pub moment_tells : (a b : ℕ) → ((is_moment a b ≡ true) × (a ≡ b)) ⊎ ((is_moment a b ≡ false) × (a ≢ b))
+moment_tells a b = tells nat_cmp nat_cmp_total exact_unsigned a b
+
 pub set_tells : (a b : List Label) → ((is_set a b ≡ true) × (a ≡ b)) ⊎ ((is_set a b ≡ false) × (a ≢ b))
 set_tells a b = tells labels_cmp labels_total labels_exact a b
 
 pub group_tells : (a b : Group) → ((is_group a b ≡ true) × (a ≡ b)) ⊎ ((is_group a b ≡ false) × (a ≢ b))
 group_tells a b = tells group_cmp groups_total groups_exact a b
 
--- a test of numbers
-is_eq-nat_cmp : (m n : ℕ) → is_eq (nat_cmp m n) ≡ (m == n)
-is_eq-nat_cmp m n = grind (arith, nat_tests)
-
--- stays are the same where moments and label sets are
-pub same_stay : (a b : Stay) → is_eq (stay_cmp a b) ≡ (a.since == b.since && is_set a.labels b.labels)
-same_stay a b = sym (tied_then (nat_cmp a.since b.since) (labels_cmp a.labels b.labels)) ∙ ap (λ t. t && is_set a.labels b.labels) (is_eq-nat_cmp a.since b.since)
+pub moment-refl : (a : ℕ) → is_moment a a ≡ true
+moment-refl a = ap is_eq (tied_itself nat_cmp_total a)
 
 pub set-refl : (a : List Label) → is_set a a ≡ true
 set-refl a = ap is_eq (tied_itself labels_total a)

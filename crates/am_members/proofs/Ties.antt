@@ -1,92 +1,109 @@
--- The members of a group and their stays, as one is added or removed, and the least moment.
-use Rattle.std.proofs.Common.{◌≡◌, ◌<◌, ◌≤◌, ℕ, length, Bool, nat_le, Ordering, true, false, ◌&&◌, ◌==◌, cond, inl, inr, arith, List, [], ◌∷◌, Option, Some, None, refl, sym, ap, ◌∙◌}
-use Rattle.std.specs.Map.{lookup}
-use Rattle.std.specs.BTreeMap.{BTreeMap}
-use Rattle.std.specs.List.{All}
-use Rattle.std.specs.Option.{MatchOption}
-use Rattle.std.specs.Ordering.{is_eq, is_gt, is_le, nat_cmp, ordering_then}
-use Rattle.std.specs.declared.cmp.Ordering.TheVariants.{Less, Equal, Greater}
-use Rattle.std.proofs.lemmas.Bool.{cases_Bool, false≢true, true≢false}
+-- How many members are held since each moment, as one is added or removed, and the least moment.
+use Rattle.std.proofs.Common.{◌≡◌, ◌+◌, ◌-◌, ◌<◌, ◌≤◌, ℕ, length, false, nat_le, cond, inl, inr, arith, List, [], ◌∷◌, Option, Some, None, IfSome, IsSome, unwrap_or, refl, ap, ◌∙◌}
+use Rattle.std.specs.BTreeMap.{insert_entry}
+use Rattle.std.specs.List.{sum_by}
+use Rattle.std.specs.List.Sorted.{IsStrictlySortedBy}
+use Rattle.std.specs.Map.{keys_of, lookup, remove_entry, values_of}
+use Rattle.std.specs.Option.{MatchOption, option_map}
+use Rattle.std.specs.Ordering.{is_gt, nat_cmp}
+use Rattle.std.proofs.lemmas.Bool.{cases_Bool}
 use Rattle.std.proofs.lemmas.Bool.Decides.{nat_tests}
-use Rattle.std.proofs.lemmas.List.Elements.{All-head, All-tail, All-weaker}
-use Rattle.std.proofs.lemmas.Map.Keys.{le_from_is_le}
-use Rattle.std.proofs.lemmas.Map.Views.{All-found}
+use Rattle.std.proofs.lemmas.List.Sums.{count_by-le-length, sum_by-cons}
+use Rattle.std.proofs.lemmas.Map.Entries.{length-values_of, sum_by-insert_entry, sum_by-remove_entry}
 use Rattle.am_labels.specs.declared.Label.{Label}
 use Rattle.am_labels.specs.Labels.{labels_cmp, labels_total}
-use Rattle.am_members.specs.declared.members.Stay.{Stay}
-use Rattle.am_members.specs.Members.{IsTied, gave, has_stay, least_of, least_with, stay_cmp}
-use Rattle.am_members.specs.Names.{is_set}
-use Rattle.am_members.proofs.Orders.{same_stay, set_tells, set-refl}
+use Rattle.am_members.specs.Members.{AreNonzero, IsTied, count_at, held_since, least_of, least_with}
+use Rattle.am_members.specs.Names.{is_moment, is_set}
+use Rattle.am_members.proofs.Orders.{moment_tells, moment-refl}
 
--- the stays are those of the members
-abbrev pub AreTied : List (List Label × ℕ) → List Stay → Type 0
-AreTied sinces stays = (q : Stay) → has_stay stays q ≡ gave (lookup (is_set q.labels) sinces) q.since
+-- ---- the counts
 
--- a member and its stay are gone
-pub tied_removed : (sinces after : List (List Label × ℕ)) (stays left : List Stay) (s : Stay) → AreTied sinces stays
-    → lookup (is_set s.labels) sinces ≡ Some s.since
-    → ((l : List Label) → lookup (is_set l) after ≡ cond (is_set s.labels l) None (lookup (is_set l) sinces))
-    → ((q : Stay) → has_stay left q ≡ cond (is_eq (stay_cmp s q)) false (has_stay stays q))
-    → AreTied after left
-tied_removed sinces after stays left s tied there look has q = elim (set_tells s.labels q.labels) [
-  | inl y ↦
-      has q ∙ rw (same_stay s q, tied q, look q.labels, y.0, ← y.1, there) (same (s.since == q.since))
-  | inr n ↦ has q ∙ rw (same_stay s q, look q.labels, n.0) (other (s.since == q.since) ∙ tied q)
-]
-  where
-    same : (b : Bool) → cond (b && true) false b ≡ false
-    same true = refl
-    same false = refl
+-- one count was set, or taken out
+abbrev pub IsSet : ℕ → Option ℕ → List (ℕ × ℕ) → List (ℕ × ℕ) → Type 0
+IsSet s count counts after = (m : ℕ) → lookup (is_moment m) after ≡ cond (is_moment s m) count (lookup (is_moment m) counts)
 
-    other : (b : Bool) → cond (b && false) false (has_stay stays q) ≡ has_stay stays q
-    other true = refl
-    other false = refl
+-- what is counted then at each moment
+count_set : (s : ℕ) (count : Option ℕ) (counts after : List (ℕ × ℕ)) → IsSet s count counts after
+    → (m : ℕ) → count_at m after ≡ cond (is_moment s m) (unwrap_or count 0) (count_at m counts)
+count_set s count counts after set m = elim (cases_Bool (is_moment s m)) [ inl y ↦ rw (set m, y) refl | inr n ↦ rw (set m, n) refl ]
 
--- a member and its stay came
-pub tied_added : (sinces after : List (List Label × ℕ)) (stays more : List Stay) (s : Stay) → AreTied sinces stays
-    → lookup (is_set s.labels) sinces ≡ None
-    → ((l : List Label) → lookup (is_set l) after ≡ cond (is_set s.labels l) (Some s.since) (lookup (is_set l) sinces))
-    → ((q : Stay) → has_stay more q ≡ cond (is_eq (stay_cmp s q)) true (has_stay stays q))
-    → AreTied after more
-tied_added sinces after stays more s tied absent look has q = elim (set_tells s.labels q.labels) [
-  | inl y ↦
-      has q ∙ rw (same_stay s q, tied q, look q.labels, y.0, ← y.1, absent) (same (s.since == q.since))
-  | inr n ↦ has q ∙ rw (same_stay s q, look q.labels, n.0) (other (s.since == q.since) ∙ tied q)
-]
-  where
-    same : (b : Bool) → cond (b && true) true false ≡ b
-    same true = refl
-    same false = refl
+-- one member more is counted
+pub raised : (s : ℕ) (counts after : List (ℕ × ℕ)) → IsSet s (Some (count_at s counts + 1)) counts after
+    → (m : ℕ) → count_at m after ≡ count_at m counts + cond (is_moment s m) 1 0
+raised s counts after set m = count_set s _ counts after set m ∙ elim (moment_tells s m) [ inl y ↦ rw (y.0, y.1) refl | inr n ↦ rw n.0 (omega arith) ]
 
-    other : (b : Bool) → cond (b && false) true (has_stay stays q) ≡ has_stay stays q
-    other true = refl
-    other false = refl
+-- no count is 0, where the one that was set isn't
+pub nonzero_set : (s : ℕ) (count : Option ℕ) (counts after : List (ℕ × ℕ)) → IsSet s count counts after → IfSome count (λ n. 0 < n) → AreNonzero counts → AreNonzero after
+nonzero_set s count counts after set some nonzero m = elim (cases_Bool (is_moment s m)) [ inl y ↦ rw (set m, y) some | inr n ↦ rw (set m, n) (nonzero m) ]
+
+-- no more members are held since a moment than there are
+pub held-le-length : (m : ℕ) (sinces : List (List Label × ℕ)) → held_since m sinces ≤ length sinces
+held-le-length m sinces = omega (arith, count_by-le-length (λ s. is_moment s m) (values_of sinces), length-values_of sinces)
+
+-- a member and its count came
+pub tied_added : (sinces : List (List Label × ℕ)) (counts more : List (ℕ × ℕ)) (l : List Label) (s : ℕ) → IsTied sinces counts → lookup (is_set l) sinces ≡ None
+    → IsStrictlySortedBy labels_cmp (keys_of (insert_entry labels_cmp sinces l s))
+    → ((m : ℕ) → count_at m more ≡ count_at m counts + cond (is_moment s m) 1 0) → (AreNonzero counts → AreNonzero more)
+    → IsTied (insert_entry labels_cmp sinces l s) more
+tied_added sinces counts more l s tied absent rising counted nonzero = record {
+  rising = rising;
+  counted = λ m.
+      let f : ℕ → ℕ = λ s. cond (is_moment s m) 1 0 in
+      let sum : sum_by f (values_of (insert_entry labels_cmp sinces l s)) + unwrap_or (option_map f (lookup (is_set l) sinces)) 0 ≡ sum_by f (values_of sinces) + f s =
+      sum_by-insert_entry f labels_total sinces l s tied.rising in
+      let none : unwrap_or (option_map f (lookup (is_set l) sinces)) 0 ≡ 0 = ap (λ o. unwrap_or (option_map f o) 0) absent in
+      counted m ∙ omega (arith, tied.counted m, sum, none);
+  nonzero = nonzero tied.nonzero;
+}
+
+-- a member and its count are gone
+pub tied_removed : (sinces : List (List Label × ℕ)) (counts left : List (ℕ × ℕ)) (l : List Label) (s : ℕ) → IsTied sinces counts → lookup (is_set l) sinces ≡ Some s
+    → IsStrictlySortedBy labels_cmp (keys_of (remove_entry (is_set l) sinces))
+    → ((m : ℕ) → count_at m left ≡ count_at m counts - cond (is_moment s m) 1 0) → (AreNonzero counts → AreNonzero left)
+    → IsTied (remove_entry (is_set l) sinces) left
+tied_removed sinces counts left l s tied there rising counted nonzero = record {
+  rising = rising;
+  counted = λ m.
+      let f : ℕ → ℕ = λ s. cond (is_moment s m) 1 0 in
+      let sum : sum_by f (values_of (remove_entry (is_set l) sinces)) + unwrap_or (option_map f (lookup (is_set l) sinces)) 0 ≡ sum_by f (values_of sinces) =
+      sum_by-remove_entry f (is_set l) sinces in
+      let own : unwrap_or (option_map f (lookup (is_set l) sinces)) 0 ≡ f s = ap (λ o. unwrap_or (option_map f o) 0) there in
+      counted m ∙ omega (arith, tied.counted m, sum, own);
+  nonzero = nonzero tied.nonzero;
+}
 
 -- ---- the least moment
 
+-- how many are held since a moment, by the first member and the others
+held-cons : (q : ℕ) (m : List Label × ℕ) (ms : List (List Label × ℕ)) → held_since q (m ∷ ms) ≡ cond (is_moment m.1 q) 1 0 + held_since q ms
+held-cons q m ms = sum_by-cons (λ s. cond (is_moment s q) 1 0) m.1 (values_of ms)
+
+-- the first member is held since its moment
+held-first : (m : List Label × ℕ) (ms : List (List Label × ℕ)) → 0 < held_since m.1 (m ∷ ms)
+held-first m ms = let own : ◌≡◌ {A = ℕ} (cond (is_moment m.1 m.1) 1 0) 1 = ap (λ b. cond b 1 0) (moment-refl m.1) in omega (arith, held-cons m.1 m ms, own)
+
 -- a moment that no member precedes
-none_precedes : (r : ℕ) (ms : List (List Label × ℕ)) → All (λ m. r ≤ m.1) ms → MatchOption (least_of ms) (Unit {0}) (λ x. r ≤ x)
+none_precedes : (r : ℕ) (ms : List (List Label × ℕ)) → ((q : ℕ) → 0 < held_since q ms → r ≤ q) → MatchOption (least_of ms) (Unit {0}) (λ x. r ≤ x)
 none_precedes r [] all = tt
-none_precedes r (m ∷ ms) all = least_two (least_of ms) (none_precedes r ms (All-tail (λ e. r ≤ e.1) m ms all))
+none_precedes r (m ∷ ms) all = least_two (least_of ms) (none_precedes r ms (λ q held. all q (omega (arith, held-cons q m ms, held))))
   where
     first : r ≤ m.1
-    first = All-head (λ (e : List Label × ℕ). r ≤ e.1) m ms all
+    first = all m.1 (held-first m ms)
 
     least_two : (o : Option ℕ) → MatchOption o (Unit {0}) (λ x. r ≤ x) → MatchOption (least_with m.1 o) (Unit {0}) (λ x. r ≤ x)
     least_two None h = first
     least_two (Some x) h = elim (cases_Bool (nat_le m.1 x)) [ inl y ↦ rw y first | inr n ↦ rw n h ]
 
--- the least moment is no later than that of a member
-is_reached : (test : List Label → Bool) (r : ℕ) (ms : List (List Label × ℕ)) → lookup test ms ≡ Some r → MatchOption (least_of ms) ⊥ (λ x. x ≤ r)
-is_reached test r [] h = absurd (cc)
-is_reached test r (m ∷ ms) h = elim (cases_Bool (test m.0)) [
-  | inl y ↦ let e : m.1 ≡ r = some_same m.1 r (rw y at h) in here (least_of ms) e
-  | inr n ↦ later (least_of ms) (is_reached test r ms (rw n at h))
+-- the least moment is no later than one since which a member is held
+is_reached : (r : ℕ) (ms : List (List Label × ℕ)) → 0 < held_since r ms → MatchOption (least_of ms) ⊥ (λ x. x ≤ r)
+is_reached r [] h = absurd (omega (arith, h))
+is_reached r (m ∷ ms) h = elim (moment_tells m.1 r) [
+  | inl y ↦ here (least_of ms) y.1
+  | inr n ↦
+      let not_first : ◌≡◌ {A = ℕ} (cond (is_moment m.1 r) 1 0) 0 = ap (λ b. cond b 1 0) n.0 in
+      later (least_of ms) (is_reached r ms (omega (arith, h, held-cons r m ms, not_first)))
 ]
   where
-    some_same : (a b : ℕ) → Some a ≡ Some b → a ≡ b
-    some_same a b e = cc
-
     here : (o : Option ℕ) → m.1 ≡ r → MatchOption (least_with m.1 o) ⊥ (λ x. x ≤ r)
     here None e = omega arith
     here (Some x) e = elim (cases_Bool (nat_le m.1 x)) [ inl y ↦ rw y (omega arith) | inr n ↦ rw n (grind (arith, nat_tests)) ]
@@ -95,49 +112,35 @@ is_reached test r (m ∷ ms) h = elim (cases_Bool (test m.0)) [
     later None h = absurd h
     later (Some x) h = elim (cases_Bool (nat_le m.1 x)) [ inl y ↦ rw y (grind (arith, nat_tests)) | inr n ↦ rw n h ]
 
--- so it is that of the member that none precedes
-pub least_is : (test : List Label → Bool) (r : ℕ) (ms : List (List Label × ℕ)) → lookup test ms ≡ Some r → All (λ m. r ≤ m.1) ms → least_of ms ≡ Some r
-least_is test r ms h all = both (least_of ms) (none_precedes r ms all) (is_reached test r ms h)
+-- so it is the moment since which one is held that none precedes
+least_is : (r : ℕ) (ms : List (List Label × ℕ)) → 0 < held_since r ms → ((q : ℕ) → 0 < held_since q ms → r ≤ q) → least_of ms ≡ Some r
+least_is r ms h all = both (least_of ms) (none_precedes r ms all) (is_reached r ms h)
   where
     both : (o : Option ℕ) → MatchOption o (Unit {0}) (λ x. r ≤ x) → MatchOption o ⊥ (λ x. x ≤ r) → o ≡ Some r
     both None a b = absurd b
     both (Some x) a b = ap Some (omega arith)
 
--- a look-up that gave a moment
-gave_some : (o : Option ℕ) (r : ℕ) → gave o r ≡ true → o ≡ Some r
-gave_some None r h = absurd (false≢true h)
-gave_some (Some s) r h = ap Some (grind (arith, nat_tests))
+-- what counts some is there
+counts_some : (o : Option ℕ) → 0 < unwrap_or o 0 → IsSome o
+counts_some None h = absurd (omega (arith, h))
+counts_some (Some n) h = refl
 
-gave_itself : (r : ℕ) → gave (Some r) r ≡ true
-gave_itself r = grind (arith, nat_tests)
+-- a count that is kept counts some
+kept_counts : (o : Option ℕ) (n : ℕ) → o ≡ Some n → IfSome o (λ count. 0 < count) → 0 < unwrap_or o 0
+kept_counts o n there some = rw there (rw there at some)
 
--- of two stays the one that isn't above has no greater moment
-not_above : (a b : Stay) → is_gt (stay_cmp a b) ≡ false → a.since ≤ b.since
-not_above a b h = by_order (nat_cmp a.since b.since) refl h
+-- the first moment that is counted is the least
+pub least_first : (sinces : List (List Label × ℕ)) (counts : List (ℕ × ℕ)) (s n : ℕ) → IsTied sinces counts → lookup (is_moment s) counts ≡ Some n
+    → ((q : ℕ) → IsSome (lookup (is_moment q) counts) → is_gt (nat_cmp s q) ≡ false) → least_of sinces ≡ Some s
+least_first sinces counts s n tied there least =
+    least_is s sinces (rw (tied.counted s) at (kept_counts (lookup (is_moment s) counts) n there (tied.nonzero s)))
+    (λ q held. not_above s q (least q (counts_some (lookup (is_moment q) counts) (rw (tied.counted q) held))))
   where
-    by_order : (o : Ordering) → nat_cmp a.since b.since ≡ o → is_gt (ordering_then o (labels_cmp a.labels b.labels)) ≡ false → a.since ≤ b.since
-    by_order Less e k = le_from_is_le a.since b.since (ap is_le e)
-    by_order Equal e k = le_from_is_le a.since b.since (ap is_le e)
-    by_order Greater e k = absurd (true≢false k)
+    not_above : (a b : ℕ) → is_gt (nat_cmp a b) ≡ false → a ≤ b
+    not_above a b h = grind (arith, nat_tests)
 
--- the first stay has the least moment
-pub least_first : (m : BTreeMap (List Label) ℕ) (stays : List Stay) (s : Stay) → IsTied m.entries stays → has_stay stays s ≡ true
-    → ((q : Stay) → has_stay stays q ≡ true → is_gt (stay_cmp s q) ≡ false) → least_of m.entries ≡ Some s.since
-least_first m stays s tied there least =
-    least_is (is_set s.labels) s.since m.entries (gave_some _ s.since (sym (tied.tied s) ∙ there))
-    (All-weaker {X = List Label × ℕ} (λ e. lookup (is_set e.0) m.entries ≡ Some e.1) (λ e. s.since ≤ e.1) (λ e found.
-    let q : Stay = record { since = e.1; labels = e.0 } in
-    not_above s q (least q (tied.tied q ∙ ap (λ o. gave o e.1) found ∙ gave_itself e.1))) m.entries
-    (All-found labels_total m tied.rising))
-
--- a list that isn't longer than nothing
-pub none_there : (stays : List Stay) → (0 < length stays → ⊥) → stays ≡ []
-none_there [] h = refl
-none_there (s ∷ stays) h = absurd (h (omega arith))
-
--- where there is no stay there is no member
-pub least_none : (ms : List (List Label × ℕ)) (stays : List Stay) → AreTied ms stays → stays ≡ [] → least_of ms ≡ None
-least_none [] stays tied none = refl
-least_none (m ∷ ms) stays tied none =
-    let q : Stay = record { since = m.1; labels = m.0 } in
-    absurd (false≢true (ap (λ zs. has_stay zs q) (sym none) ∙ tied q ∙ rw (set-refl m.0) (gave_itself m.1)))
+-- where nothing is counted there is no member
+pub least_none : (sinces : List (List Label × ℕ)) (counts : List (ℕ × ℕ)) → IsTied sinces counts → (0 < length counts → ⊥) → least_of sinces ≡ None
+least_none [] counts tied none = refl
+least_none (m ∷ ms) [] tied none = absurd (omega (arith, held-first m ms, tied.counted m.1))
+least_none (m ∷ ms) (c ∷ counts) tied none = absurd (none (omega arith))

@@ -1,5 +1,5 @@
--- Names of groups, and what is listed under label sets and under names of groups.
-use Rattle.std.specs.Prelude.{Bool, not, List, filter}
+-- Names of groups, and what is listed under label sets, under moments and under names of groups.
+use Rattle.std.specs.Prelude.{ℕ, Bool, not, List, filter}
 use Rattle.std.specs.Ordering.{is_eq, nat_cmp, ordering_then}
 use Rattle.std.specs.declared.cmp.Ordering.{Ordering}
 use Rattle.am_labels.specs.declared.Label.{Label}
@@ -9,6 +9,10 @@ use Rattle.am_members.specs.declared.group.Group.{Group}
 -- groups in order: by route, then by labels
 abbrev pub group_cmp : Group → Group → Ordering
 group_cmp g h = ordering_then (nat_cmp g.route h.route) (labels_cmp g.labels h.labels)
+
+-- two moments are the same
+abbrev pub is_moment : ℕ → ℕ → Bool
+is_moment m n = is_eq (nat_cmp m n)
 
 -- two label sets are the same
 abbrev pub is_set : List Label → List Label → Bool

@@ -1,7 +1,8 @@
 ghost use Rattle.std.specs.Prelude.{◌≡◌, IfOk};
 
 use am_labels::LabelSet;
-use std::alloc::AllocError;
+use am_text::Listed;
+use std::alloc::{AllocError, Global};
 
 /// The name of a group of alerts: a route, and the labels that the route groups its members by.
 ///
@@ -24,4 +25,15 @@ impl Group {
             labels: self.labels.copy()?,
         })
     }
+}
+
+/// A copy of the names of groups.
+pub fn copy_groups(alloc: Global, groups: &[Group]) -> Result<Listed<Group>, AllocError>
+    ensures { IfOk result (λ copy. copy ≡ groups.now) }
+{
+    let mut copies = Vec::with_capacity(alloc, groups.len())?;
+    for group in groups {
+        copies.push(group.copy()?)?;
+    }
+    Ok(Listed::from_vec(copies))
 }

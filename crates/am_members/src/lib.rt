@@ -9,7 +9,7 @@ mod known;
 pub mod laws;
 mod members;
 
-pub use group::Group;
+pub use group::{Group, copy_groups};
 pub use groups::Groups;
 pub use known::Known;
 pub use members::Members;

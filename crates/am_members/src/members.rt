@@ -1,29 +1,23 @@
-ghost use Rattle.std.specs.Prelude.{◌≡◌, IfOk, IfSome, None, OnOk, []};
+ghost use Rattle.std.specs.Prelude.{◌≡◌, ◌+◌, ◌-◌, ◌<◌, ℕ, IfSome, OnErr, OnOk, [], if◌then◌else◌};
 ghost use Rattle.std.specs.BTreeMap.{insert_entry};
 ghost use Rattle.std.specs.List.Sorted.{IsStrictlySortedBy};
 ghost use Rattle.std.specs.Map.{keys_of, lookup};
 ghost use Rattle.am_labels.specs.Labels.{labels_cmp};
-ghost use Rattle.am_members.specs.Names.{is_set, without};
-ghost use Rattle.am_members.specs.Members.{IsTied, is_bare, least_of};
+ghost use Rattle.am_members.specs.Names.{is_moment, is_set, without};
+ghost use Rattle.am_members.specs.Members.{AreNonzero, IsTied, count_at, is_bare, least_of};
 
 use am_labels::LabelSet;
 use am_text::Moment;
 use std::alloc::{AllocError, Global};
-use std::collections::{BTreeMap, BTreeSet};
+use std::collections::BTreeMap;
 use std::marker::Model;
-
-// Since when an alert is held.
-#[derive(Debug, PartialEq, Eq, PartialOrd, Ord, Drop)]
-pub struct Stay {
-    pub since: Moment,
-    pub labels: LabelSet,
-}
 
 /// The members of a group: label sets in order, each with the moment since which its alert is held.
 #[derive(Drop)]
 pub struct Members {
     sinces: BTreeMap<LabelSet, Moment>,
-    stays: BTreeSet<Stay>,
+    // how many members are held since each moment; none is 0, so the first moment is the least
+    counts: BTreeMap<Moment, usize>,
 }
 
 impl Model for Members {
@@ -36,7 +30,7 @@ impl Model for Members {
 
     ghost view = { λ m. m.sinces.entries };
 
-    ghost invariant = { λ m. IsTied m.sinces.entries m.stays.keys };
+    ghost invariant = { λ m. IsTied m.sinces.entries m.counts.entries };
 }
 
 impl Members {
@@ -46,7 +40,7 @@ impl Members {
     {
         Members {
             sinces: BTreeMap::new(alloc),
-            stays: BTreeSet::new(alloc),
+            counts: BTreeMap::new(alloc),
         }
     }
 
@@ -54,7 +48,8 @@ impl Members {
     pub fn least_since(&self) -> Option<Moment>
         ensures { result ≡ least_of self.now }
     {
-        Some(self.stays.first()?.since)
+        let (since, _) = self.counts.first_key_value()?;
+        Some(*since)
     }
 
     /// Whether there are no members.
@@ -77,57 +72,82 @@ impl Members {
         requires { IfSome (lookup (is_set labels.now) self.old) (λ held. held ≡ since) }
         ensures { OnOk result (self.new ≡ insert_entry labels_cmp self.old labels.now since) }
     {
-        add_to(&mut self.sinces, &mut self.stays, labels, since)
+        add_to(&mut self.sinces, &mut self.counts, labels, since)
     }
 
     // Removes a member.
     pub(crate) fn remove(&mut self, labels: &LabelSet)
         ensures { self.new ≡ without labels.now self.old }
     {
-        remove_from(&mut self.sinces, &mut self.stays, labels);
+        remove_from(&mut self.sinces, &mut self.counts, labels);
     }
 }
 
-// Adds a member and its stay, or neither. A member since then stays as it is.
+// Adds a member and counts it, or neither. A member since then stays as it is.
 fn add_to(
     sinces: &mut BTreeMap<LabelSet, Moment>,
-    stays: &mut BTreeSet<Stay>,
+    counts: &mut BTreeMap<Moment, usize>,
     labels: &LabelSet,
     since: Moment,
 ) -> Result<(), AllocError>
-    requires tied { IsTied sinces.old.entries stays.old.keys }
+    requires tied { IsTied sinces.old.entries counts.old.entries }
     requires held { IfSome (lookup (is_set labels.now) sinces.old.entries) (λ held. held ≡ since) }
-    ensures tied { IsTied sinces.new.entries stays.new.keys }
+    ensures tied { IsTied sinces.new.entries counts.new.entries }
     ensures added { OnOk result (sinces.new.entries ≡ insert_entry labels_cmp sinces.old.entries labels.now since) }
 {
     let own = labels.copy()?;
-    let stay = Stay {
-        since,
-        labels: labels.copy()?,
-    };
     if sinces.insert(own, since)?.is_some() {
         return Ok(());
     }
-    match stays.insert(stay) {
-        Ok(_) => Ok(()),
-        Err(_) => {
+    // no count exceeds how many members there are
+    prove!(sinces.len() < usize::MAX);
+    match raise_count(counts, since) {
+        Ok(()) => Ok(()),
+        Err(error) => {
             sinces.remove(labels);
-            Err(AllocError)
+            Err(error)
         }
     }
 }
 
-// Removes a member and its stay.
+// Counts one member more since this moment. An error, which is out of memory, leaves all counts as they were.
+fn raise_count(counts: &mut BTreeMap<Moment, usize>, since: Moment) -> Result<(), AllocError>
+    requires { count_at since counts.old.entries < usize.MAX }
+    ensures counts { OnOk result ((m : ℕ) → count_at m counts.new.entries ≡ count_at m counts.old.entries + (if is_moment since m then 1 else 0)) }
+    ensures nonzero { OnOk result (AreNonzero counts.old.entries → AreNonzero counts.new.entries) }
+    ensures err { OnErr result (counts.new.entries ≡ counts.old.entries) }
+{
+    let count = counts.entry(since)?.or_insert(0);
+    *count += 1;
+    Ok(())
+}
+
+// Removes a member and counts it no longer.
 fn remove_from(
     sinces: &mut BTreeMap<LabelSet, Moment>,
-    stays: &mut BTreeSet<Stay>,
+    counts: &mut BTreeMap<Moment, usize>,
     labels: &LabelSet,
 )
-    requires { IsTied sinces.old.entries stays.old.keys }
-    ensures tied { IsTied sinces.new.entries stays.new.keys }
+    requires { IsTied sinces.old.entries counts.old.entries }
+    ensures tied { IsTied sinces.new.entries counts.new.entries }
     ensures removed { sinces.new.entries ≡ without labels.now sinces.old.entries }
 {
-    if let Some((labels, since)) = sinces.remove_entry(labels) {
-        stays.remove(&Stay { since, labels });
+    if let Some(since) = sinces.remove(labels) {
+        lower_count(counts, since);
+    }
+}
+
+// Counts one member less since this moment, where any is counted.
+fn lower_count(counts: &mut BTreeMap<Moment, usize>, since: Moment)
+    ensures counts { (m : ℕ) → count_at m counts.new.entries ≡ count_at m counts.old.entries - (if is_moment since m then 1 else 0) }
+    ensures nonzero { AreNonzero counts.old.entries → AreNonzero counts.new.entries }
+{
+    let Some(count) = counts.get_mut(&since) else {
+        return;
+    };
+    if *count > 1 {
+        *count -= 1;
+    } else {
+        counts.remove(&since);
     }
 }

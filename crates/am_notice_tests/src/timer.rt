@@ -2,7 +2,7 @@ use am_labels::{Label, LabelSet};
 use am_share::Shared;
 use am_tenant::TenantName;
 use am_text::{Moment, Text};
-use am_timer::{GroupKey, Timer, TimerKey, TimerName, TimerQueue};
+use am_timer::{FlushKey, Timer, TimerKey, TimerName, TimerQueue};
 use std::alloc::Global;
 use std::test::Fail;
 
@@ -24,7 +24,7 @@ fn group(alloc: Global, receiver: &str, value: &str, route: usize) -> Result<Tim
         name: Text::read(alloc, "a")?,
         value: Text::read(alloc, value)?,
     })?;
-    Ok(TimerKey::Group(GroupKey {
+    Ok(TimerKey::Group(FlushKey {
         receiver: Text::read(alloc, receiver)?,
         labels: LabelSet::from_pairs(alloc, labels)?,
         route,

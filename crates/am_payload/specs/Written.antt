@@ -30,17 +30,17 @@ abbrev pub print_of : List Label → List ℕ
 print_of labels = fingerprint_text (fingerprint labels)
 
 -- an alert that a silence or another alert mutes is suppressed, another is active
-abbrev pub state_of : List (List ℕ) → List (List Label) → List ℕ
-state_of [] [] = codes "active"
-state_of [] (labels ∷ inhibiting) = codes "suppressed"
-state_of (id ∷ silencing) inhibiting = codes "suppressed"
+abbrev pub alert_state : List (List ℕ) → List (List Label) → List ℕ
+alert_state [] [] = codes "active"
+alert_state [] (labels ∷ inhibiting) = codes "suppressed"
+alert_state (id ∷ silencing) inhibiting = codes "suppressed"
 
 -- which silences, by identifier, and which alerts, by label set, mute an alert
 abbrev pub status_data : List (List ℕ) → List (List Label) → Data
 status_data silencing inhibiting = object
     (member (codes "inhibitedBy") (texts_data (map print_of inhibiting))
     (member (codes "silencedBy") (texts_data (map id_text silencing))
-    (member (codes "state") (string (state_of silencing inhibiting)) no_members)))
+    (member (codes "state") (string (alert_state silencing inhibiting)) no_members)))
 
 -- an alert that is read, with the names of its receivers, the silences and the alerts that mute it; it was updated at its
 -- stamp's moment

@@ -4,7 +4,7 @@ ghost use Rattle.std.specs.Prelude.{◌≡◌, ◌++◌, ℕ, List, codes, map, 
 ghost use Rattle.am_json.specs.Written.{data_tokens, member_tokens, texts_data};
 ghost use Rattle.am_words.specs.Ids.{id_text};
 ghost use Rattle.am_payload.specs.Listed.{inhibiting_of, read_data, reads_data, reads_text};
-ghost use Rattle.am_payload.specs.Written.{print_of, state_of, status_data};
+ghost use Rattle.am_payload.specs.Written.{print_of, alert_state, status_data};
 
 use crate::receivers::put_places;
 use am_alert::HeldAlert;
@@ -92,7 +92,7 @@ fn put_status(alloc: Global, text: &mut JsonWriter, read: &ReadAlert<'_>) -> Res
     prints_member(alloc, text, "inhibitedBy", &read.inhibited_by)?;
     ids_member(text, "silencedBy", &read.silenced_by)?;
     text.key("state")?;
-    text.string(state_of(&read.silenced_by, &read.inhibited_by))?;
+    text.string(alert_state(&read.silenced_by, &read.inhibited_by))?;
     text.end_object()
 }
 
@@ -130,8 +130,8 @@ fn ids_member(text: &mut JsonWriter, name: &str, ids: &Listed<SilenceId>) -> Res
 }
 
 // The state of an alert that these silences and alerts mute.
-fn state_of(silencing: &Listed<SilenceId>, inhibiting: &Listed<&LabelSet>) -> &'static str
-    ensures { result.now ≡ state_of silencing.now (map (λ set. set.now) inhibiting.now) }
+fn alert_state(silencing: &Listed<SilenceId>, inhibiting: &Listed<&LabelSet>) -> &'static str
+    ensures { result.now ≡ alert_state silencing.now (map (λ set. set.now) inhibiting.now) }
 {
     if silencing.as_slice().is_empty() && inhibiting.as_slice().is_empty() {
         "active"

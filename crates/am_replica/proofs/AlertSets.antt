@@ -1,5 +1,5 @@
 -- The label sets of the alerts that are held, once items joined them.
-use Rattle.std.proofs.Common.{◌≡◌, ℕ, Bool, true, false, ◌||◌, cond, inl, inr, List, [], ◌∷◌, ◌++◌, map, Option, Some, None, refl, sym, ap, ◌∙◌, subst}
+use Rattle.std.proofs.Common.{◌≡◌, ℕ, Bool, true, false, ◌||◌, cond, inl, inr, List, [], ◌∷◌, Option, Some, None, refl, sym, ap, ◌∙◌, subst}
 use Rattle.std.specs.List.{AllByRecursion, list_any}
 use Rattle.std.specs.List.Sorted.{IsStrictlySortedBy}
 use Rattle.std.specs.Map.{keys_of, lookup}
@@ -7,21 +7,16 @@ use Rattle.std.specs.Option.{is_some}
 use Rattle.std.specs.Ordering.{is_eq}
 use Rattle.std.specs.declared.cmp.Ordering.TheVariants.{Less}
 use Rattle.std.proofs.lemmas.Bool.{cases_Bool}
-use Rattle.std.proofs.lemmas.List.{append-nil, map-append}
-use Rattle.std.proofs.lemmas.List.Elements.{filter_map-append}
-use Rattle.am_alert.specs.Held.{alerts_among, stamped}
 use Rattle.am_labels.specs.declared.Label.{Label}
 use Rattle.am_labels.specs.Labels.{labels_cmp, labels_total}
 use Rattle.am_labels.proofs.InOrder.{labels_exact}
 use Rattle.am_labels.proofs.Ordered.{eq_from_elements}
 use Rattle.am_item.specs.Best.{IsRising, all_joined, item_at, joined}
 use Rattle.am_item.specs.Key.{AlertKey, exceeds, has_key, key_cmp, key_in}
-use Rattle.am_item.specs.declared.item.Alert.{Alert}
 use Rattle.am_item.specs.declared.item.Item.{Item}
 use Rattle.am_item.specs.declared.item.Thing.{Thing}
 use Rattle.am_item.specs.declared.item.Thing.TheVariants as thing
 use Rattle.am_item.specs.declared.stamp.Stamp.{Stamp}
-use Rattle.am_item.specs.declared.stamp.Stamped.{Stamped}
 use Rattle.am_item.proofs.Greatest.{later}
 use Rattle.am_item.proofs.Joined.{at-joined, rising-joined}
 use Rattle.am_item.proofs.Rising.{AllAbove}
@@ -34,7 +29,7 @@ use Rattle.am_replica.proofs.Puts.{IsOrdered, any_key}
 -- ---- which label sets there are
 
 -- some item is an alert of the label set
-abbrev has_alert : List Label → List Item → Bool
+abbrev pub has_alert : List Label → List Item → Bool
 has_alert q items = is_some (item_at (AlertKey q) items)
 
 -- the label set is among those of one thing and of others
@@ -49,7 +44,7 @@ of_thing q stamp (thing.SentEntry entry) items = refl
 of_one : (q : List Label) (item : Item) (items : List Item) → list_any (is_set q) (alert_sets (item ∷ items)) ≡ (has_key (AlertKey q) item || list_any (is_set q) (alert_sets items))
 of_one q item items = of_thing q item.stamp item.thing items
 
-any_alert : (q : List Label) (items : List Item) → list_any (is_set q) (alert_sets items) ≡ has_alert q items
+pub any_alert : (q : List Label) (items : List Item) → list_any (is_set q) (alert_sets items) ≡ has_alert q items
 any_alert q [] = refl
 any_alert q (item ∷ items) = of_one q item items ∙ elim (cases_Bool (has_key (AlertKey q) item)) [
   | inl y ↦ rw y refl
@@ -57,7 +52,7 @@ any_alert q (item ∷ items) = of_one q item items ∙ elim (cases_Bool (has_key
 ]
 
 -- once one item joined
-one_joined : (q : List Label) (held : List Item) (item : Item) → IsRising held → has_alert q (joined held item) ≡ (has_key (AlertKey q) item || has_alert q held)
+pub one_joined : (q : List Label) (held : List Item) (item : Item) → IsRising held → has_alert q (joined held item) ≡ (has_key (AlertKey q) item || has_alert q held)
 one_joined q held item up = ap is_some (at-joined (AlertKey q) held item up) ∙ by_key (has_key (AlertKey q) item) (item_at (AlertKey q) held)
   where
     is_there : (b : Bool) (x : Item) → is_some (cond b (Some item) (Some x)) ≡ true
@@ -83,34 +78,6 @@ any_joined q held (item ∷ items) up =
     turned true false c = refl
     turned false true c = refl
     turned false false c = refl
-
--- ---- item by item
-
-one_more : (xs : List Item) (item : Item) → alert_sets (xs ++ item ∷ []) ≡ alert_sets xs ++ alert_sets (item ∷ [])
-one_more xs item =
-    let labels : Stamped Alert → List Label = λ alert. alert.value.labels in
-    ap (map labels) (filter_map-append (λ (i : Item). stamped i.stamp i.thing) xs (item ∷ []))
-    ∙ map-append labels (alerts_among xs) (alerts_among (item ∷ []))
-
-other_thing : (stamp : Stamp) (t : Thing) → ((alert : Alert) → t ≡ thing.Alert alert → ⊥) → alert_sets (record { stamp = stamp; thing = t } ∷ []) ≡ []
-other_thing stamp (thing.Alert alert) other = absurd (other alert refl)
-other_thing stamp (thing.Configuration text) other = refl
-other_thing stamp (thing.Silence silence) other = refl
-other_thing stamp (thing.SentEntry entry) other = refl
-
--- one more alert
-pub set_more : (xs : List Item) (item : Item) (alert : Alert) → item.thing ≡ thing.Alert alert → alert_sets (xs ++ item ∷ []) ≡ alert_sets xs ++ alert.labels ∷ []
-set_more xs item alert is =
-    one_more xs item ∙ ap (λ t. alert_sets xs ++ alert_sets (record { stamp = item.stamp; thing = t } ∷ [])) is
-
-pub set_next : (before after : List (List Label)) (labels : List Label) (xs more : List Item) (item : Item) (alert : Alert) → after ≡ before ++ labels ∷ [] → before ≡ alert_sets xs
-    → labels ≡ alert.labels → item.thing ≡ thing.Alert alert → more ≡ xs ++ item ∷ [] → after ≡ alert_sets more
-set_next before after labels xs more item alert pushed so_far copied is next =
-    pushed ∙ ap (λ sets. sets ++ labels ∷ []) so_far ∙ ap (λ l. alert_sets xs ++ l ∷ []) copied ∙ sym (set_more xs item alert is) ∙ ap alert_sets (sym next)
-
--- one more item that is none
-pub no_set_more : (xs : List Item) (item : Item) → ((alert : Alert) → item.thing ≡ thing.Alert alert → ⊥) → alert_sets (xs ++ item ∷ []) ≡ alert_sets xs
-no_set_more xs item other = one_more xs item ∙ ap (λ sets. alert_sets xs ++ sets) (other_thing item.stamp item.thing other) ∙ append-nil (alert_sets xs)
 
 -- ---- their order
 

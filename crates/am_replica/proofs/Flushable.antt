@@ -13,13 +13,13 @@ use Rattle.am_members.specs.Members.{is_bare, least_of}
 use Rattle.am_planning.specs.Planning.{pace_of, paces_of}
 use Rattle.am_planning.specs.declared.pace.Pace.{Pace}
 use Rattle.am_text.specs.declared.tree.Node.{Node}
-use Rattle.am_timer.specs.declared.key.GroupKey.{GroupKey}
+use Rattle.am_timer.specs.declared.key.FlushKey.{FlushKey}
 
 some_since : (pace : Pace) (ms : List (List Label × ℕ)) (flush : Option ℕ) (d : ℕ) → due_by pace (least_of ms) flush ≡ Some d → is_bare ms ≡ false
 some_since pace [] flush d due = cc
 some_since pace (m ∷ ms) flush d due = refl
 
-pub has_members : (paces : List Pace) (grouped : Grouped) (key : GroupKey) (d : ℕ) → flush_due paces grouped key ≡ Some d →
+pub has_members : (paces : List Pace) (grouped : Grouped) (key : FlushKey) (d : ℕ) → flush_due paces grouped key ≡ Some d →
     is_bare (members (group_in key) grouped.alerts) ≡ false
 unfolding flush_due
 has_members paces grouped key d due = by_pace (slice_get paces key.route) due
@@ -32,12 +32,12 @@ has_members paces grouped key d due = by_pace (slice_get paces key.route) due
     by_pace None is = cc
     by_pace (Some pace) is = by_receiver (bytes_eq pace.receiver key.receiver) pace is
 
-in_paces : (c : Configuration) (position : ℕ) (key : GroupKey) (pace : Pace) → slice_get (paces_of c position) key.route ≡ Some pace → key.route < length c.routes
+in_paces : (c : Configuration) (position : ℕ) (key : FlushKey) (pace : Pace) → slice_get (paces_of c position) key.route ≡ Some pace → key.route < length c.routes
 unfolding paces_of
 in_paces c position key pace is =
     subst (λ n. key.route < n) (length-map c.routes _) (slice_get_within (map (λ (node : Node Route). pace_of c position node.item.settings) c.routes) key.route pace is)
 
-pub has_route : (c : Configuration) (position : ℕ) (paces : List Pace) (grouped : Grouped) (key : GroupKey) (d : ℕ) → paces ≡ paces_of c position →
+pub has_route : (c : Configuration) (position : ℕ) (paces : List Pace) (grouped : Grouped) (key : FlushKey) (d : ℕ) → paces ≡ paces_of c position →
     flush_due paces grouped key ≡ Some d → key.route < length c.routes
 unfolding flush_due
 has_route c position paces grouped key d by_c due = by_pace (slice_get paces key.route) refl due

@@ -5,7 +5,7 @@ use Rattle.am_labels.specs.declared.Label.{Label}
 use Rattle.am_outlet.specs.Attempts.{is_due}
 use Rattle.am_tenant.specs.Names.{same}
 use Rattle.am_tenant.proofs.Same.{same_tells}
-use Rattle.am_timer.specs.declared.key.GroupKey.{GroupKey}
+use Rattle.am_timer.specs.declared.key.FlushKey.{FlushKey}
 use Rattle.am_timer.specs.declared.key.TimerKey.TheVariants.{Operation, Group, Retry, Push}
 use Rattle.am_replica.specs.declared.here.Here.{Here}
 use Rattle.am_replica.specs.declared.parts.Parts.{Parts}
@@ -34,12 +34,12 @@ pub due_some : (moment : ℕ) (o : Option ℕ) → is_due moment o ≡ true → 
 due_some moment None due = cc
 due_some moment (Some d) due = (d, refl)
 
-pub flushes : (here : Here) (muted : List (List Label)) (key : GroupKey) (l : Local) → is_due here.moment (flush_due l.plan.paces l.plan.grouped key) ≡ true →
+pub flushes : (here : Here) (muted : List (List Label)) (key : FlushKey) (l : Local) → is_due here.moment (flush_due l.plan.paces l.plan.grouped key) ≡ true →
     handled here muted (Group key) l ≡ flushed here muted (group_in key) l
 unfolding handled
 flushes here muted key l due = rw due refl
 
-pub passes_over : (here : Here) (muted : List (List Label)) (key : GroupKey) (l : Local) → is_due here.moment (flush_due l.plan.paces l.plan.grouped key) ≡ false →
+pub passes_over : (here : Here) (muted : List (List Label)) (key : FlushKey) (l : Local) → is_due here.moment (flush_due l.plan.paces l.plan.grouped key) ≡ false →
     handled here muted (Group key) l ≡ stays l
 unfolding handled
 passes_over here muted key l due = rw due refl

@@ -5,6 +5,7 @@ mod Changes
 mod Coming
 mod Counting
 mod Fates
+mod Flagged
 mod Flushable
 mod Flushes
 mod Followed

@@ -19,7 +19,7 @@ use Rattle.am_muting.specs.Failing.{HasUnanswered, patterns_muting}
 use Rattle.am_replica.specs.Held.{StopsFor}
 use Rattle.am_replica.specs.Retiring.{retired}
 use Rattle.am_replica.specs.Ticking.{done_by, due_keys, handled, muted_of, ticked}
-use Rattle.am_replica.specs.Ticks.{AreHandled, DoesDue, IsDone, StopsAt, StopsDoing, StopsHandling, TicksAll, done_for, has_flush, is_flush, keys_for, muted_for, said_of, some_flush}
+use Rattle.am_replica.specs.Ticks.{AreHandled, DoesDue, IsDone, StopsTicking, StopsDoing, StopsHandling, TicksAll, done_for, has_flush, is_flush, keys_for, muted_for, said_of, some_flush}
 use Rattle.am_replica.specs.Plans.{IsPlanned}
 use Rattle.am_replica.proofs.Kept.{each_keeps, handled_keeps, ticked_keeps}
 use Rattle.am_replica.proofs.Sequence.{each_more, past_among}
@@ -233,7 +233,7 @@ all_tick here old mid new all left due t =
     record { local = done.local; said = done.said; fits = done.fits }
 
 pub stops_tick : (here : List ℕ → Here) (old mid : List ℕ → Local) (refused : List (List ℕ)) → ((t : List ℕ) → mid t ≡ retired (here t).moment (old t)) → (fault : Fault) →
-    StopsDoing here mid refused fault → StopsAt here old refused fault
+    StopsDoing here mid refused fault → StopsTicking here old refused fault
 unfolding ticked
 stops_tick here old mid refused left OutOfMemory stops = tt
 stops_tick here old mid refused left CountsExhausted (t, past) = (t, ap (λ l. (done_by t (here t) l).fits) (sym (left t)) ∙ past)

@@ -1,14 +1,17 @@
 -- What becomes of items that an instance accepts.
-use Rattle.std.specs.Prelude.{◌≡◌, ℕ, ◌+◌, Bool, min, not, List, [], ◌∷◌, filter, length, map, Option, Some, None, is_some, unwrap_or, if◌then◌else◌}
+use Rattle.std.specs.Prelude.{◌≡◌, ℕ, ◌+◌, ◌&&◌, Bool, min, not, List, [], ◌∷◌, filter, length, map, Option, Some, None, is_some, unwrap_or, if◌then◌else◌}
 use Rattle.std.specs.BTreeMap.{insert_entry}
-use Rattle.std.specs.List.{list_any}
+use Rattle.std.specs.List.{filter_map, list_any, zip}
 use Rattle.std.specs.Map.{lookup}
+use Rattle.std.specs.Option.{option_map}
 use Rattle.am_config.specs.Configuration.{Configuration}
 use Rattle.am_current.specs.Current.{configuration_in}
 use Rattle.am_item.specs.Best.{all_joined}
 use Rattle.am_item.specs.declared.fault.Fault.{Fault}
 use Rattle.am_item.specs.declared.fault.Fault.TheVariants.{OutOfMemory, CountsExhausted, PatternNotBuilt}
 use Rattle.am_item.specs.declared.item.Item.{Item}
+use Rattle.am_item.specs.declared.item.Thing.{Thing}
+use Rattle.am_item.specs.declared.item.Thing.TheVariants.{Alert, Configuration as Stored, SentEntry, Silence}
 use Rattle.am_labels.specs.declared.Label.{Label}
 use Rattle.am_labels.specs.Labels.{labels_cmp}
 use Rattle.am_match.specs.Matchers.{patterns_of}
@@ -70,6 +73,25 @@ pub record IsPlannedBy (c : Configuration) (plan : Plan) : Type 0 where
 -- an alert of this label set is known
 abbrev pub is_known : List Label → List (List Label × Known) → Bool
 is_known labels alerts = is_some (lookup (is_set labels) alerts)
+
+-- the label set of a thing that is an alert
+abbrev pub set_in : Thing → Option (List Label)
+set_in (Alert alert) = Some alert.labels
+set_in (Stored text) = None
+set_in (Silence silence) = None
+set_in (SentEntry entry) = None
+
+-- .. and of an item
+abbrev pub set_of : Item → Option (List Label)
+set_of item = set_in item.thing
+
+-- the label sets of the alerts among items, each with whether it is new, as is told of the item in its place
+abbrev pub flagged : List (Option (List Label)) → List Bool → List (List Label × Bool)
+flagged sets new = filter_map (λ p. option_map (λ labels. (labels, p.1)) p.0) (zip sets new)
+
+-- an alert is known of one of the label sets that are new
+abbrev pub is_new_known : List (List Label × Bool) → List (List Label × Known) → Bool
+is_new_known came alerts = list_any (λ a. a.1 && is_known a.0 alerts) came
 
 -- what is kept of an alert that came at this moment, if it did: it is held since then at the latest
 abbrev pub sooner : ℕ → Bool → Known → Known

@@ -59,10 +59,10 @@ HasUnmuted refused moment flushes held =
 
 -- why it stops at a tick: a count of a tenant would have passed the greatest, a pattern that may mute alerts of one that has a
 -- group to flush gave no answer, or memory ran out
-abbrev pub StopsAt : (List ℕ → Here) → (before : List ℕ → Local) → (refused : List (List ℕ)) → Fault → Type 0
-StopsAt here before refused OutOfMemory = Unit {0}
-StopsAt here before refused CountsExhausted = (t : List ℕ) × ((ticked t (here t) (before t)).fits ≡ false)
-StopsAt here before refused PatternNotBuilt =
+abbrev pub StopsTicking : (List ℕ → Here) → (before : List ℕ → Local) → (refused : List (List ℕ)) → Fault → Type 0
+StopsTicking here before refused OutOfMemory = Unit {0}
+StopsTicking here before refused CountsExhausted = (t : List ℕ) × ((ticked t (here t) (before t)).fits ≡ false)
+StopsTicking here before refused PatternNotBuilt =
     (t : List ℕ) × (has_flush t (here t).moment (retired (here t).moment (before t)).plan ≡ true)
     × HasUnanswered refused (patterns_muting (configuration_in (retired (here t).moment (before t)).held)
     (here t).moment (retired (here t).moment (before t)).held)

@@ -1,6 +1,6 @@
 //! Items that are accepted.
 
-ghost use Rattle.std.specs.Prelude.{◌≡◌, ◌+◌, ◌<◌, ◌≤◌, ℕ, List, [], ◌∷◌, false, length, IfErr, IfOk, OnOk, if◌then◌else◌, unwrap_or};
+ghost use Rattle.std.specs.Prelude.{◌≡◌, ◌+◌, ◌<◌, ◌≤◌, ℕ, List, [], ◌∷◌, false, length, IfErr, IfOk, OnOk, if◌then◌else◌, map, unwrap_or};
 ghost use Rattle.std.specs.List.{list_any};
 ghost use Rattle.std.specs.List.Sorted.{IsStrictlySortedBy};
 ghost use Rattle.std.specs.Map.{keys_of};
@@ -11,14 +11,13 @@ ghost use Rattle.am_labels.specs.Labels.{labels_cmp};
 ghost use Rattle.am_match.specs.Matchers.{patterns_of};
 ghost use Rattle.am_members.specs.Grouped.{put_all};
 ghost use Rattle.am_muting.specs.Failing.{HasUnanswered};
-ghost use Rattle.am_muting.specs.Muting.{alert_sets};
 ghost use Rattle.am_pattern.specs.Asking.{Asked};
 ghost use Rattle.am_planning.specs.Planning.{planned_alerts};
 ghost use Rattle.am_route.specs.Asked.{route_matchers};
 ghost use Rattle.am_tenant.specs.Names.{same};
 ghost use Rattle.am_text.specs.Outcome.{ForRefused};
 ghost use Rattle.am_words.specs.Places.{place_of};
-ghost use Rattle.am_replica.specs.Accepting.{IsPlannedBy, StopsAccepting, accepted, all_sooner, followed, is_known, kept, unknown_of, with_met};
+ghost use Rattle.am_replica.specs.Accepting.{IsPlannedBy, StopsAccepting, accepted, all_sooner, flagged, followed, is_known, is_new_known, kept, set_of, unknown_of, with_met};
 ghost use Rattle.am_replica.specs.Held.{Makes, local_of};
 ghost use Rattle.am_replica.specs.Plans.{IsPlanned, planned_by, sinces_in};
 
@@ -28,11 +27,11 @@ use am_config::Config;
 use am_current::is_replaced;
 use am_item::{Fault, Item, Thing};
 use am_labels::LabelSet;
-use am_members::{Group, Known};
+use am_members::{Known, copy_groups};
 use am_pattern::{PatternCache, PatternRefusal};
 use am_planning::{paces_of, plan_alerts};
 use am_tenant::TenantName;
-use am_text::{Failure, Listed, Moment};
+use am_text::{Failure, Moment};
 use am_words::{Place, Places};
 use std::alloc::{AllocError, Global};
 
@@ -56,12 +55,13 @@ impl Parts {
         ensures asked { Asked result cache.old cache.new }
         ensures fault { IfErr result (StopsAccepting cache.new.refused items.items (local_of tenant.now self.old)) }
     {
-        let sets = alert_sets(alloc, &items)?;
+        let sets = label_sets(alloc, &items)?;
         let is_new = is_replaced(self.holdings.held(tenant), &items);
-        self.holdings.put_all(alloc, tenant, items)?;
+        let are_new = self.holdings.put_all(alloc, tenant, items)?;
+        let came = flagged(alloc, sets, are_new)?;
         let (_, config) = self.holdings.in_use(alloc, tenant)?;
         let agenda = &mut self.agenda;
-        match follow(alloc, agenda, tenant, moment, sets, config, is_new, cache) {
+        match follow(alloc, agenda, tenant, moment, came, config, is_new, cache) {
             Ok(()) => Ok(()),
             Err(Failure::Refused(_)) => Err(Fault::PatternNotBuilt),
             Err(Failure::OutOfMemory) => Err(Fault::OutOfMemory),
@@ -115,40 +115,63 @@ fn keep_place(
     }
 }
 
-// The label sets of the alerts among items, copied.
-fn alert_sets(alloc: Global, items: &[Item]) -> Result<Vec<LabelSet>, AllocError>
-    ensures { IfOk result (λ v. v.items ≡ alert_sets items.now) }
+// The label sets of items that are alerts, copied, each in the place of its item.
+fn label_sets(alloc: Global, items: &[Item]) -> Result<Vec<Option<LabelSet>>, AllocError>
+    ensures { IfOk result (λ v. v.items ≡ map set_of items.now) }
 {
     let mut sets = Vec::new(alloc);
     for item in items {
-        if let Thing::Alert(alert) = &item.thing {
-            sets.push(alert.labels.copy()?)?;
-        }
+        sets.push(label_set(item)?)?;
     }
     Ok(sets)
 }
 
-// What is planned of a tenant once alerts of these label sets came at a moment, where this configuration is in use: where it is
-// new, all is planned anew.
+// The label set of an item that is an alert, copied.
+fn label_set(item: &Item) -> Result<Option<LabelSet>, AllocError>
+    ensures { IfOk result (λ set. set ≡ set_of item.now) }
+{
+    match &item.thing {
+        Thing::Alert(alert) => Ok(Some(alert.labels.copy()?)),
+        _ => Ok(None),
+    }
+}
+
+// The label sets of the alerts that came, each with whether it is new, which is told of each item in its place.
+fn flagged(
+    alloc: Global,
+    sets: Vec<Option<LabelSet>>,
+    are_new: Vec<bool>,
+) -> Result<Vec<(LabelSet, bool)>, AllocError>
+    ensures { IfOk result (λ v. v.items ≡ flagged sets.items are_new.items) }
+{
+    sets.into_iter()
+        .zip(are_new)
+        .filter_map(|(set, is_new)| Some((set?, is_new)))
+        .collect(alloc)
+}
+
+// What is planned of a tenant once alerts of these label sets came at a moment, each with whether it is new, where this
+// configuration is in use: where the configuration is new, all is planned anew.
 fn follow(
     alloc: Global,
     agenda: &mut Agenda,
     tenant: &TenantName,
     moment: Moment,
-    sets: Vec<LabelSet>,
+    came: Vec<(LabelSet, bool)>,
     config: &Config,
     is_new: bool,
     cache: &mut PatternCache,
 ) -> Result<(), Failure<PatternRefusal>>
     requires rising { IsStrictlySortedBy labels_cmp (keys_of (plan_of tenant.now agenda.old).grouped.alerts) }
+    requires new { is_new_known came.items (plan_of tenant.now agenda.old).grouped.alerts ≡ false }
     requires planned { is_new ≡ false → IsPlannedBy config.now (plan_of tenant.now agenda.old) }
     ensures plans { OnOk result ((t : List ℕ) → plan_of t agenda.new ≡
-        (if same t tenant.now then followed config.now moment sets.items (plan_of t agenda.old) else plan_of t agenda.old)) }
+        (if same t tenant.now then followed config.now moment (keys_of came.items) (plan_of t agenda.old) else plan_of t agenda.old)) }
     ensures asked { Asked result cache.old cache.new }
     ensures failure { IfErr result (λ failure. ForRefused failure
         (λ refusal. HasUnanswered cache.new.refused (patterns_of (route_matchers config.now.routes)))) }
 {
-    meet(alloc, agenda, tenant, moment, sets, config, cache)?;
+    meet(alloc, agenda, tenant, moment, came, config, cache)?;
     if is_new {
         plan_all(alloc, agenda, tenant, config, cache)
     } else {
@@ -163,39 +186,41 @@ fn meet(
     agenda: &mut Agenda,
     tenant: &TenantName,
     moment: Moment,
-    sets: Vec<LabelSet>,
+    came: Vec<(LabelSet, bool)>,
     config: &Config,
     cache: &mut PatternCache,
 ) -> Result<(), Failure<PatternRefusal>>
     requires rising { IsStrictlySortedBy labels_cmp (keys_of (plan_of tenant.now agenda.old).grouped.alerts) }
+    requires new { is_new_known came.items (plan_of tenant.now agenda.old).grouped.alerts ≡ false }
     ensures plans { OnOk result ((t : List ℕ) → plan_of t agenda.new ≡
-        (if same t tenant.now then with_met config.now moment sets.items (plan_of t agenda.old) else plan_of t agenda.old)) }
+        (if same t tenant.now then with_met config.now moment (keys_of came.items) (plan_of t agenda.old) else plan_of t agenda.old)) }
     ensures asked { Asked result cache.old cache.new }
     ensures failure { IfErr result (λ failure. ForRefused failure
         (λ refusal. HasUnanswered cache.new.refused (patterns_of (route_matchers config.now.routes)))) }
 {
-    let unknown = meet_known(alloc, agenda, tenant, moment, sets)?;
+    let unknown = meet_known(alloc, agenda, tenant, moment, came)?;
     plan_new(alloc, agenda, tenant, config, unknown, cache)
 }
 
 // Of these label sets whose alerts came at a moment, gives those that aren't known; the alerts of the others are held since then
-// at the latest.
+// at the latest. One that is new isn't looked up.
 fn meet_known(
     alloc: Global,
     agenda: &mut Agenda,
     tenant: &TenantName,
     moment: Moment,
-    sets: Vec<LabelSet>,
+    came: Vec<(LabelSet, bool)>,
 ) -> Result<Vec<(LabelSet, Moment)>, AllocError>
     requires rising { IsStrictlySortedBy labels_cmp (keys_of (plan_of tenant.now agenda.old).grouped.alerts) }
+    requires new { is_new_known came.items (plan_of tenant.now agenda.old).grouped.alerts ≡ false }
     ensures plans { OnOk result ((t : List ℕ) → plan_of t agenda.new ≡ (if same t tenant.now
-        then with_alerts (all_sooner moment sets.items (plan_of t agenda.old).grouped.alerts) (plan_of t agenda.old)
+        then with_alerts (all_sooner moment (keys_of came.items) (plan_of t agenda.old).grouped.alerts) (plan_of t agenda.old)
         else plan_of t agenda.old)) }
-    ensures unknown { IfOk result (λ v. v.items ≡ unknown_of moment sets.items (plan_of tenant.now agenda.old).grouped.alerts) }
+    ensures unknown { IfOk result (λ v. v.items ≡ unknown_of moment (keys_of came.items) (plan_of tenant.now agenda.old).grouped.alerts) }
 {
     let mut unknown = Vec::new(alloc);
-    for labels in sets {
-        if !meet_one(alloc, agenda, tenant, moment, &labels)? {
+    for (labels, is_new) in came {
+        if is_new || !meet_one(alloc, agenda, tenant, moment, &labels)? {
             unknown.push((labels, moment))?;
         }
     }
@@ -228,17 +253,6 @@ fn meet_one(
         agenda.put(alloc, tenant, labels, known)?;
     }
     Ok(true)
-}
-
-// A copy of groups.
-fn copy_groups(alloc: Global, groups: &[Group]) -> Result<Listed<Group>, AllocError>
-    ensures { IfOk result (λ copy. copy ≡ groups.now) }
-{
-    let mut copies = Vec::with_capacity(alloc, groups.len())?;
-    for group in groups {
-        copies.push(group.copy()?)?;
-    }
-    Ok(Listed::from_vec(copies))
 }
 
 // Puts alerts that aren't known, in their groups by the configuration. Where there are none, no pattern is asked.

@@ -12,7 +12,7 @@ ghost use Rattle.am_replica.specs.Accepting.{StopsAccepting, kept};
 ghost use Rattle.am_replica.specs.Delivery.{is_awaited, outcome};
 ghost use Rattle.am_replica.specs.Held.{Does, Makes, StopsFor, local_of};
 ghost use Rattle.am_replica.specs.Local.{blank};
-ghost use Rattle.am_replica.specs.Ticks.{StopsAt, TicksAll, here_for};
+ghost use Rattle.am_replica.specs.Ticks.{StopsTicking, TicksAll, here_for};
 
 use crate::dispatch::Dispatch;
 use crate::here::Here;
@@ -155,7 +155,7 @@ impl Replica {
         ensures ticks { IfOk result (λ all. TicksAll (here_for instance incarnation moment limits.now) (λ t. local_of t self.old) (λ t. local_of t self.new) all.items) }
         ensures lost { OnErr result ((t : List ℕ) → local_of t self.new ≡ blank) }
         ensures asked { Asked result cache.old cache.new }
-        ensures fault { IfErr result (StopsAt (here_for instance incarnation moment limits.now) (λ t. local_of t self.old) cache.new.refused) }
+        ensures fault { IfErr result (StopsTicking (here_for instance incarnation moment limits.now) (λ t. local_of t self.old) cache.new.refused) }
     {
         let parts = &mut self.parts;
         match parts.tick(alloc, instance, incarnation, moment, limits, cache) {

@@ -11,7 +11,7 @@ ghost use Rattle.am_replica.specs.Held.{Does, StopsFor, local_of};
 ghost use Rattle.am_replica.specs.Local.{Tells};
 ghost use Rattle.am_replica.specs.Plans.{IsPlanned};
 ghost use Rattle.am_replica.specs.Ticking.{due_keys, handled};
-ghost use Rattle.am_replica.specs.Ticks.{AreHandled, DoesDue, StopsAt, StopsDoing, StopsHandling, StopsMuting, TicksAll, has_flush, here_for, keys_for, muted_at, muted_for, said_of, some_flush};
+ghost use Rattle.am_replica.specs.Ticks.{AreHandled, DoesDue, StopsTicking, StopsDoing, StopsHandling, StopsMuting, TicksAll, has_flush, here_for, keys_for, muted_at, muted_for, said_of, some_flush};
 
 use crate::dispatch::Dispatch;
 use crate::here::Here;
@@ -24,7 +24,7 @@ use am_outlet::Sending;
 use am_pattern::PatternCache;
 use am_tenant::TenantName;
 use am_text::{Moment, Text};
-use am_timer::{GroupKey, Timer, TimerKey};
+use am_timer::{FlushKey, Timer, TimerKey};
 use std::alloc::{AllocError, Global};
 
 impl Parts {
@@ -46,7 +46,7 @@ impl Parts {
         requires planned { (t : List ℕ) → IsPlanned (local_of t self.old) }
         ensures ticks { IfOk result (λ all. TicksAll (here_for instance incarnation moment limits.now) (λ t. local_of t self.old) (λ t. local_of t self.new) all.items) }
         ensures asked { Asked result cache.old cache.new }
-        ensures fault { IfErr result (StopsAt (here_for instance incarnation moment limits.now) (λ t. local_of t self.old) cache.new.refused) }
+        ensures fault { IfErr result (StopsTicking (here_for instance incarnation moment limits.now) (λ t. local_of t self.old) cache.new.refused) }
     {
         self.retire(alloc, moment)?;
         self.do_due(alloc, instance, incarnation, moment, limits, cache)
@@ -153,7 +153,7 @@ impl Parts {
         alloc: Global,
         tenant: &TenantName,
         here: &Here,
-        key: &GroupKey,
+        key: &FlushKey,
         muted: &Muted,
     ) -> Result<Vec<Sending>, Fault>
         requires planned { IsPlanned (local_of tenant.now self.old) }

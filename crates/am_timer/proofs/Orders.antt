@@ -8,9 +8,9 @@ use Rattle.std.proofs.lemmas.Map.Lookups.{CmpEqualImpliesEq, exact_bytes, exact_
 use Rattle.am_labels.specs.declared.Label.{Label}
 use Rattle.am_labels.specs.Labels.{labels_cmp}
 use Rattle.am_labels.proofs.InOrder.{labels_exact}
-use Rattle.am_timer.specs.Timer.{Key, Name, Timer, group_cmp, key_cmp, name_cmp, timer_cmp}
+use Rattle.am_timer.specs.Timer.{Key, Name, Timer, flush_key_cmp, key_cmp, name_cmp, timer_cmp}
 use Rattle.am_timer.specs.KeyTotal.{keys_total}
-use Rattle.am_timer.specs.declared.key.GroupKey.{GroupKey}
+use Rattle.am_timer.specs.declared.key.FlushKey.{FlushKey}
 use Rattle.am_timer.specs.declared.key.TimerKey.TheVariants.{Operation, Group, Retry, Push}
 
 -- two comparisons, one after the other, are `Equal` only where both are
@@ -19,13 +19,13 @@ then_equal Less b h = absurd (cc)
 then_equal Equal b h = (refl, h)
 then_equal Greater b h = absurd (cc)
 
-groups_exact : (a b : GroupKey) → group_cmp a b ≡ Equal → a ≡ b
+groups_exact : (a b : FlushKey) → flush_key_cmp a b ≡ Equal → a ≡ b
 groups_exact a b h =
     let first = then_equal (slice_cmp nat_cmp a.receiver b.receiver) (ordering_then (labels_cmp a.labels b.labels) (nat_cmp a.route b.route)) h in
     let rest = then_equal (labels_cmp a.labels b.labels) (nat_cmp a.route b.route) first.1 in
-    ap (λ (r : List ℕ). let g : GroupKey = record { receiver = r; labels = a.labels; route = a.route } in g) (exact_bytes a.receiver b.receiver first.0)
-    ∙ ap (λ (l : List Label). let g : GroupKey = record { receiver = b.receiver; labels = l; route = a.route } in g) (labels_exact a.labels b.labels rest.0)
-    ∙ ap (λ (n : ℕ). let g : GroupKey = record { receiver = b.receiver; labels = b.labels; route = n } in g) (exact_unsigned a.route b.route rest.1)
+    ap (λ (r : List ℕ). let g : FlushKey = record { receiver = r; labels = a.labels; route = a.route } in g) (exact_bytes a.receiver b.receiver first.0)
+    ∙ ap (λ (l : List Label). let g : FlushKey = record { receiver = b.receiver; labels = l; route = a.route } in g) (labels_exact a.labels b.labels rest.0)
+    ∙ ap (λ (n : ℕ). let g : FlushKey = record { receiver = b.receiver; labels = b.labels; route = n } in g) (exact_unsigned a.route b.route rest.1)
 
 pub keys_exact : (a b : Key) → key_cmp a b ≡ Equal → a ≡ b
 unfolding key_cmp

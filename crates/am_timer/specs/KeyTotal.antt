@@ -7,14 +7,14 @@ use Rattle.std.specs.declared.cmp.Ordering.{Ordering}
 use Rattle.std.specs.declared.cmp.Ordering.TheVariants.{Less, Equal, Greater}
 use Rattle.std.proofs.Common.{refl, sym, subst}
 use Rattle.am_labels.specs.Labels.{labels_cmp, labels_total}
-use Rattle.am_timer.specs.Timer.{Key, group_cmp, key_cmp, kind_of}
-use Rattle.am_timer.specs.declared.key.GroupKey.{GroupKey}
+use Rattle.am_timer.specs.Timer.{Key, flush_key_cmp, key_cmp, kind_of}
+use Rattle.am_timer.specs.declared.key.FlushKey.{FlushKey}
 use Rattle.am_timer.specs.declared.key.TimerKey.TheVariants.{Operation, Group, Retry, Push}
 
-pub groups_total : IsTotalOrder group_cmp
+pub groups_total : IsTotalOrder flush_key_cmp
 groups_total =
-    then_total (on_total (λ (g : GroupKey). g.receiver) nat_list_cmp_total)
-    (then_total (on_total (λ (g : GroupKey). g.labels) labels_total) (on_total (λ (g : GroupKey). g.route) nat_cmp_total))
+    then_total (on_total (λ (g : FlushKey). g.receiver) nat_list_cmp_total)
+    (then_total (on_total (λ (g : FlushKey). g.labels) labels_total) (on_total (λ (g : FlushKey). g.route) nat_cmp_total))
 
 -- the number and the group that a key has, each the least at other kinds
 number_in : Key → ℕ
@@ -23,10 +23,10 @@ number_in (Group group) = 0
 number_in (Retry number) = number
 number_in (Push instance) = instance
 
-no_group : GroupKey
+no_group : FlushKey
 no_group = record { receiver = []; labels = []; route = 0 }
 
-group_in : Key → GroupKey
+group_in : Key → FlushKey
 group_in (Operation number) = no_group
 group_in (Group group) = group
 group_in (Retry number) = no_group
@@ -35,7 +35,7 @@ group_in (Push instance) = no_group
 -- keys by kind, then number, then group
 by_parts : Key → Key → Ordering
 by_parts a b =
-    ordering_then (nat_cmp (kind_of a) (kind_of b)) (ordering_then (nat_cmp (number_in a) (number_in b)) (group_cmp (group_in a) (group_in b)))
+    ordering_then (nat_cmp (kind_of a) (kind_of b)) (ordering_then (nat_cmp (number_in a) (number_in b)) (flush_key_cmp (group_in a) (group_in b)))
 
 by_parts_total : IsTotalOrder by_parts
 unfolding by_parts

@@ -7,9 +7,9 @@ use am_text::Text;
 use std::alloc::{AllocError, Global};
 use std::cmp::Ordering;
 
-/// What names a group of alerts within its tenant. Groups are ordered by receiver, then labels, then route.
+/// What names the flush of a group of alerts within its tenant. Flushes are ordered by receiver, then labels, then route.
 #[derive(Debug, PartialEq, Eq, PartialOrd, Ord, Drop)]
-pub struct GroupKey {
+pub struct FlushKey {
     /// The name of the receiver of the group's route.
     pub receiver: Text,
     /// The labels by which the route groups, with the values that the group's alerts share.
@@ -18,12 +18,12 @@ pub struct GroupKey {
     pub route: usize,
 }
 
-impl GroupKey {
+impl FlushKey {
     /// A copy of the key.
-    pub fn copy(&self, alloc: Global) -> Result<GroupKey, AllocError>
+    pub fn copy(&self, alloc: Global) -> Result<FlushKey, AllocError>
         ensures { IfOk result (λ key. key ≡ self.now) }
     {
-        Ok(GroupKey {
+        Ok(FlushKey {
             receiver: self.receiver.copy(alloc)?,
             labels: self.labels.copy()?,
             route: self.route,
@@ -37,7 +37,7 @@ pub enum TimerKey {
     /// The deadline of the operation with this number.
     Operation(u64),
     /// The flush of this group.
-    Group(GroupKey),
+    Group(FlushKey),
     /// The next try of the attempt with this number.
     Retry(u64),
     /// The next message to the instance with this number, to which a state is pushed or which is asked for one.

@@ -6,6 +6,6 @@ pub mod laws;
 mod queue;
 mod timer;
 
-pub use key::{GroupKey, TimerKey};
+pub use key::{FlushKey, TimerKey};
 pub use queue::TimerQueue;
 pub use timer::{Timer, TimerName};

@@ -12,7 +12,7 @@ use Rattle.am_world.specs.declared.world.World.{World}
 use Rattle.am_world.specs.Moments.{clock_after, last_moment}
 use Rattle.am_world.specs.Outputs.{front_told}
 use Rattle.am_world.specs.Places.{IsReadOnce, SameElsewhere, bytes_at, incarnation_at, local_at, refused_at, roster_of, up_at}
-use Rattle.am_world.specs.PrivateCluster.{AreAllBuilt, Course, Happening, IsBuilt, Limited, PrivateCluster, Ticked, after_all, course, fits_all, ticks, told_all, unchanged}
+use Rattle.am_world.specs.PrivateCluster.{AreAllBuilt, Course, Happening, AsksBuilt, Limited, PrivateCluster, Ticked, after_all, course, fits_all, ticks, told_all, unchanged}
 use Rattle.am_world.specs.Roster.{IsSameRoster, Roster, roster_after}
 use Rattle.am_limit.specs.Books.{limits_of}
 use Rattle.am_limit.specs.declared.limits.Limits as limit
@@ -139,7 +139,7 @@ kept_late_bytes w c m piece late = kept_nothing w (Bytes c m piece) (λ v f. rw 
     (same_again (roster_of w.instances)) refl (λ t limits. refl)
 
 -- what is no request brings no pattern
-pub none_asked : (b : Bool) (p : PrivateCluster) (h : Happening) → IsBuilt p h → AreAllBuilt p (if b then h ∷ [] else [])
+pub none_asked : (b : Bool) (p : PrivateCluster) (h : Happening) → AsksBuilt p h → AreAllBuilt p (if b then h ∷ [] else [])
 none_asked true p h built = (built, tt)
 none_asked false p h built = tt
 

@@ -10,7 +10,7 @@ use Rattle.am_world.specs.Places.{AreNumbered, HasMore, awaits_at, cause_at, her
 use Rattle.am_limit.specs.declared.limits.Limits.{Limits}
 use Rattle.am_replica.specs.Delivery.{is_awaited, outcome}
 use Rattle.am_replica.specs.Local.{Local}
-use Rattle.am_replica.specs.Ticks.{StopsAt as StopsTicking, here_for}
+use Rattle.am_replica.specs.Ticks.{StopsTicking, here_for}
 use Rattle.am_tenant.specs.Names.{same}
 use Rattle.am_world.specs.declared.event.AttemptName.{AttemptName}
 use Rattle.am_world.specs.Reaction.{Here, IsCause, Terms, in_replica}

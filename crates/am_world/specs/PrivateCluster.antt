@@ -149,17 +149,17 @@ fits_all p (h ∷ hs) = fits p h && fits_all (after p h) hs
 -- ---- the texts that the tenant has as patterns
 
 -- where a request that happens is accepted, a regex was built of each pattern that it brings
-abbrev pub IsBuilt : PrivateCluster → Happening → Type 0
-IsBuilt p (Asked connection i moment request) =
+abbrev pub AsksBuilt : PrivateCluster → Happening → Type 0
+AsksBuilt p (Asked connection i moment request) =
     AcceptsBuilt request (decision_at (here_at p (effective moment p.clock) i) request (p.at i))
-IsBuilt p (Limited limits) = Unit {0}
-IsBuilt p (Ticked moment) = Unit {0}
-IsBuilt p (Tried i k number tries moment status) = Unit {0}
+AsksBuilt p (Limited limits) = Unit {0}
+AsksBuilt p (Ticked moment) = Unit {0}
+AsksBuilt p (Tried i k number tries moment status) = Unit {0}
 
 -- .. of all that happens
 abbrev pub AreAllBuilt : PrivateCluster → List Happening → Type 0
 AreAllBuilt p [] = Unit {0}
-AreAllBuilt p (h ∷ hs) = IsBuilt p h × AreAllBuilt (after p h) hs
+AreAllBuilt p (h ∷ hs) = AsksBuilt p h × AreAllBuilt (after p h) hs
 
 -- those that a happening brings
 abbrev pub patterns_brought : Happening → List (List ℕ)

@@ -14,7 +14,7 @@ use Rattle.am_limit.specs.declared.limits.Limits.{Limits}
 use Rattle.am_muting.specs.Failing.{AddsAmong}
 use Rattle.am_replica.specs.Delivery.{outcome}
 use Rattle.am_replica.specs.Held.{StopsFor as StopsReacting}
-use Rattle.am_replica.specs.Ticks.{StopsAt as StopsTicking, here_for}
+use Rattle.am_replica.specs.Ticks.{StopsTicking, here_for}
 use Rattle.am_tenant.specs.Names.{same}
 use Rattle.am_world.specs.Moments.{clock_after, effective}
 use Rattle.am_world.specs.Outputs.{outputs_of, front_outputs, front_told, are_owned}

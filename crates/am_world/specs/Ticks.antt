@@ -5,7 +5,7 @@ use Rattle.am_item.specs.declared.fault.Fault.{Fault}
 use Rattle.am_limit.specs.declared.limits.Limits.{Limits}
 use Rattle.am_replica.specs.declared.dispatch.Dispatch.{Dispatch}
 use Rattle.am_replica.specs.Local.{blank}
-use Rattle.am_replica.specs.Ticks.{IsDone, StopsAt as StopsTicking, here_for, said_of}
+use Rattle.am_replica.specs.Ticks.{IsDone, StopsTicking, here_for, said_of}
 use Rattle.am_world.specs.declared.event.Output.{Output}
 use Rattle.am_world.specs.declared.instance.Instance.{Instance}
 use Rattle.am_world.specs.Places.{IsDownAt, KeepRefused, SameElsewhere, bytes_at, cause_at, incarnation_at, instance_at, local_at, local_in, refused_at, up_at}

@@ -42,7 +42,7 @@ impl Instance {
     ghost use Rattle.am_replica.specs.Delivery.{is_awaited, outcome};
     ghost use Rattle.am_replica.specs.Held.{StopsFor as StopsReacting};
     ghost use Rattle.am_replica.specs.Local.{Local, Reaction, blank};
-    ghost use Rattle.am_replica.specs.Ticks.{IsDone, StopsAt, TicksAll, here_for, said_of};
+    ghost use Rattle.am_replica.specs.Ticks.{IsDone, StopsTicking, TicksAll, here_for, said_of};
     ghost use Rattle.am_world.specs.Places.{HasMore, here_of, local_in};
     ghost use Rattle.am_world.specs.Reaction.{AcceptsBuilt, IsCause, MayDecide, StopsFor, Terms, asked_for, decision_at, in_replica, terms_of, terms_with};
     ghost use Rattle.am_world.specs.Taking.{Brings};
@@ -169,7 +169,7 @@ impl Instance {
             × TicksAll (here_for self.old.number self.old.incarnation moment limits.now)
             (λ t. local_in t self.old) (λ t. local_in t self.new) all) }
         ensures silent { OnErr result (outputs.new.items ≡ outputs.old.items) }
-        ensures cause { IfErr result (StopsAt (here_for self.old.number self.old.incarnation moment limits.now)
+        ensures cause { IfErr result (StopsTicking (here_for self.old.number self.old.incarnation moment limits.now)
             (λ t. local_in t self.old) self.new.cache.refused) }
         ensures front { self.new.front ≡ self.old.front }
         ensures up { self.new.up ≡ self.old.up }

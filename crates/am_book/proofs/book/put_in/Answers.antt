@@ -12,14 +12,14 @@ use Rattle.am_book.proofs.RowLemmas.{none_stands, some_stands}
 use Rattle.am_book.proofs.Told.{told_after_adding, told_after_replacing}
 use Rattle.am_book.proofs.book.put_in.Goals as goal
 
-pub returns-in-None-clause-told : goal.returns-in-None-clause-told
-returns-in-None-clause-told c =
+pub returns-in_ok-add-in-None-clause-told : goal.returns-in_ok-add-in-None-clause-told
+returns-in_ok-add-in-None-clause-told c =
     let key = c.in_ok-key.key in
     told_after_adding c.args.tenant.now key c.args.item c.args.held.now c.add.new.held c.in-None.ensures.rising (sym c.in_ok-key.ensures) (has_row c.args.rows.now) (has_row c.add.new.rows) c.requires
     c.add.result (none_stands (item_at key c.args.held.now) c.in-None.ensures.standing) c.add.ensures.joined c.add.ensures.err c.add.ensures.row c.add.ensures.rows
 
-pub returns-in-Some-clause-told : goal.returns-in-Some-clause-told
-returns-in-Some-clause-told c =
+pub returns-in_ok-replace-in-Some-clause-told : goal.returns-in_ok-replace-in-Some-clause-told
+returns-in_ok-replace-in-Some-clause-told c =
     let key = c.in_ok-key.key in
     let t = c.args.tenant.now in
     let stood = some_stands c.in-Some.old (item_at key c.args.held.now) c.in-Some.ensures.standing in

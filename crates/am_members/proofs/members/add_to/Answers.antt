@@ -1,16 +1,26 @@
-use Rattle.std.proofs.Common.{◌≡◌, sym, ap, ◌∙◌, None, true}
+use Rattle.std.proofs.Common.{◌≡◌, arith, sym, ap, ◌∙◌, None, true}
 use Rattle.std.specs.BTreeMap.{insert_entry}
 use Rattle.std.specs.Map.{lookup}
 use Rattle.std.specs.Option.{is_some}
 use Rattle.am_labels.specs.Labels.{labels_cmp}
-use Rattle.am_members.specs.declared.members.Stay.{Stay}
 use Rattle.am_members.specs.Names.{is_set}
 use Rattle.am_members.proofs.Changes.{put_again}
 use Rattle.am_members.proofs.Orders.{set-refl}
 use Rattle.am_members.proofs.Tables.{come_and_gone, none_if}
-use Rattle.am_members.proofs.Ties.{tied_added}
+use Rattle.am_members.proofs.Ties.{held-le-length, tied_added}
 use Rattle.am_members.proofs.members.add_to.Goals as goal
-use Rattle.am_members.proofs.members.add_to.Goals.{in-Ok, in-Err}
+use Rattle.am_members.proofs.members.add_to.Goals.{After-raise_count}
+
+-- the member was not there
+not_there : (c : After-raise_count) → lookup (is_set c.args.labels.now) c.args.sinces.now.entries ≡ None
+not_there c =
+    let l = c.args.labels.now in
+    let held = c.args.sinces.now.entries in
+    none_if (lookup (is_set l) held) (ap (λ k. is_some (lookup (is_set k) held)) (sym c.in_ok-own.ensures) ∙ ap is_some (sym c.in_ok-insert.ensures.old) ∙ sym c.is_some.ensures ∙ c.if-is_some.false)
+
+-- it was put in
+put_in : (c : After-raise_count) → c.insert.new.self.entries ≡ insert_entry labels_cmp c.args.sinces.now.entries c.args.labels.now c.args.since
+put_in c = c.in_ok-insert.ensures.entries ∙ ap (λ k. insert_entry labels_cmp c.args.sinces.now.entries k c.args.since) c.in_ok-own.ensures
 
 pub returns-then-is_some-clause-tied : goal.returns-then-is_some-clause-tied
 returns-then-is_some-clause-tied c =
@@ -23,22 +33,18 @@ returns-then-is_some-clause-tied c =
     ∙ sym (put_again l c.args.since held c.requires.tied.rising found c.requires.held) in
     rw same c.requires.tied
 
-pub returns-clause-tied : goal.returns-clause-tied
-returns-clause-tied c =
+pub raise_count-requires : goal.raise_count-requires
+raise_count-requires c =
+    omega (arith, c.requires.tied.counted c.args.since, held-le-length c.args.since c.args.sinces.now.entries, c.len.ensures.small, c.len.ensures.len, c.in_ok-insert.ensures.len)
+
+pub returns-in-Ok-clause-tied : goal.returns-in-Ok-clause-tied
+returns-in-Ok-clause-tied c =
+    let at_count = (goal.at.returns-in-Ok-clause-tied c).After-raise_count in
+    rw (put_in at_count) (tied_added c.args.sinces.now.entries c.args.counts.now.entries c.raise_count.new.counts.entries c.args.labels.now c.args.since
+    c.requires.tied (not_there at_count) (rw (put_in at_count) at c.in_ok-insert.ensures.ordered) c.in-Ok.ensures.counts c.in-Ok.ensures.nonzero)
+
+pub returns-in-Err-clause-tied : goal.returns-in-Err-clause-tied
+returns-in-Err-clause-tied c =
+    let at_count = (goal.at.returns-in-Err-clause-tied c).After-raise_count in
     let l = c.args.labels.now in
-    let held = c.args.sinces.now.entries in
-    let absent : lookup (is_set l) held ≡ None =
-    none_if (lookup (is_set l) held) (ap (λ k. is_some (lookup (is_set k) held)) (sym c.in_ok-own.ensures) ∙ ap is_some (sym c.in_ok-insert.ensures.old) ∙ sym c.is_some.ensures ∙ c.if-is_some.false) in
-    elim c.match-insert.branch [
-      | in-Ok w ↦
-          let stay : Stay = record { since = c.args.since; labels = l } in
-          rw w.sinces-is (record {
-            rising = c.in_ok-insert.ensures.ordered;
-            tied = tied_added held c.insert.new.self.entries c.args.stays.now.keys c.insert-2.new.self.keys stay
-                c.requires.tied.tied absent
-                (rw c.in_ok-own.ensures at c.in_ok-insert.ensures.updates.0)
-                (rw c.in_ok-copy.ensures at w.in-Ok.ensures.updates.0);
-          })
-      | in-Err w ↦
-          rw (w.sinces-is, w.remove.ensures.entries, c.in_ok-insert.ensures.entries, c.in_ok-own.ensures, w.in-Err.ensures.err, come_and_gone labels_cmp l c.args.since (set-refl l) held absent) c.requires.tied
-    ]
+    rw (c.remove.ensures.entries, put_in at_count, c.in-Err.ensures.err, come_and_gone labels_cmp l c.args.since (set-refl l) c.args.sinces.now.entries (not_there at_count)) c.requires.tied

@@ -10,4 +10,4 @@ returns c =
     after c.begin_object.new.self _ _ c.in_ok-prints_member.ensures (
     after c.prints_member.new.text _ _ c.in_ok-ids_member.ensures (
     after c.ids_member.new.text _ _ c.in_ok-key-2.ensures (
-    after c.key-2.new.self _ _ (rw c.state_of.ensures at c.in_ok-string.ensures) e)))))) c.end_object.ensures
+    after c.key-2.new.self _ _ (rw c.alert_state.ensures at c.in_ok-string.ensures) e)))))) c.end_object.ensures

@@ -1,4 +1,5 @@
 use Rattle.std.proofs.Common.{ap, ◌∙◌}
+use Rattle.std.specs.Map.{keys_of}
 use Rattle.std.proofs.lemmas.Result.{on_ok_weaker}
 use Rattle.am_agenda.specs.Plan.{Plan}
 use Rattle.am_agenda.specs.Planned.{plan_of}
@@ -14,7 +15,7 @@ returns-then-is_new-clause-plans c =
     let s = c.args.tenant.now in
     let m = c.args.moment in
     let k = c.args.config.now in
-    let sets = c.args.sets.items in
+    let sets = keys_of c.args.came.items in
     let plan = plan_of s c.args.agenda.now in
     on_ok_weaker c.plan_all.result
     (λ all.
@@ -28,7 +29,7 @@ returns-else-is_new-clause-plans c =
     let s = c.args.tenant.now in
     let m = c.args.moment in
     let k = c.args.config.now in
-    let sets = c.args.sets.items in
+    let sets = keys_of c.args.came.items in
     let plan = plan_of s c.args.agenda.now in
     one_changes s (followed k m sets) (λ t. plan_of t c.args.agenda.now) (λ t. plan_of t c.meet.new.agenda)
     (own s _ _ _ (c.in_ok-meet.ensures.plans s) ∙ met_by k m sets plan c.requires.rising (c.requires.planned c.if-is_new.false))

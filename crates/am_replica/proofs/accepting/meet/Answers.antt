@@ -1,5 +1,6 @@
 use Rattle.std.proofs.Common.{◌≡◌, ℕ, List, false, sym, ap, ◌∙◌, subst}
 use Rattle.std.specs.List.{list_any}
+use Rattle.std.specs.Map.{keys_of}
 use Rattle.std.proofs.lemmas.Result.{on_ok_weaker}
 use Rattle.am_labels.specs.declared.Label.{Label}
 use Rattle.am_members.specs.Grouped.{put_all}
@@ -16,7 +17,7 @@ pub plan_new-requires : goal.plan_new-requires
 plan_new-requires c =
     let s = c.args.tenant.now in
     let m = c.args.moment in
-    let sets = c.args.sets.items in
+    let sets = keys_of c.args.came.items in
     let plan = plan_of s c.args.agenda.now in
     let after : plan_of s c.meet_known.new.agenda ≡ with_alerts (all_sooner m sets plan.grouped.alerts) plan = own s _ _ _ (c.in_ok-unknown.ensures.plans s) in
     subst (λ (p : Plan). list_any (λ a. is_known a.0 p.grouped.alerts) c.in_ok-unknown.unknown.items ≡ false) (sym after)
@@ -29,7 +30,7 @@ returns-clause-plans c =
     let s = c.args.tenant.now in
     let m = c.args.moment in
     let k = c.args.config.now in
-    let sets = c.args.sets.items in
+    let sets = keys_of c.args.came.items in
     let plan = plan_of s c.args.agenda.now in
     let known = all_sooner m sets plan.grouped.alerts in
     let after : plan_of s c.meet_known.new.agenda ≡ with_alerts known plan = own s _ _ _ (c.in_ok-unknown.ensures.plans s) in

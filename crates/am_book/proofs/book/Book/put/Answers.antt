@@ -1,10 +1,10 @@
-use Rattle.std.proofs.Common.{◌≡◌, ◌∙◌, ap, cond, rules, unwrap_or}
+use Rattle.std.proofs.Common.{◌≡◌, ◌∙◌, IfOk, ap, cond, rules, subst, unwrap_or}
 use Rattle.std.specs.BTreeMap.Entry.{map_with_value}
 use Rattle.std.proofs.lemmas.Result.{on_err_weaker, on_ok_weaker}
 use Rattle.am_tenant.specs.Names.{same}
 use Rattle.am_item.specs.Best.{IsRising, joined}
-use Rattle.am_book.specs.Book.{items_of}
-use Rattle.am_book.proofs.Lists.{held_after, items_after, items_put_back, items_same, items_unchanged, at_error, held_unchanged, rising_after, rising_found, told_found, told_put, told_unchanged, whole_same}
+use Rattle.am_book.specs.Book.{is_new, items_of}
+use Rattle.am_book.proofs.Lists.{held_after, items_after, items_found, items_put_back, items_same, items_unchanged, at_error, held_unchanged, rising_after, rising_found, told_found, told_put, told_unchanged, whole_same}
 use Rattle.am_book.proofs.book.Book.put.Goals as goal
 
 pub invariant_of-self-2 : goal.invariant_of-self-2
@@ -68,3 +68,13 @@ returns-clause-err c =
     ∙ ap (items_of t) c.self.view_is)
     (search rules))
     c.put_in.ensures.err
+
+pub returns-clause-new : goal.returns-clause-new
+returns-clause-new c =
+    let entry = c.in_ok-self-inside.ensures in
+    let t = c.args.tenant.now in
+    let was = c.or_insert-held.result.now in
+    let held : was ≡ items_of t c.args.self.now =
+    items_found c.self.inside.tenants t was c.new.result c.self.invariant.0 c.new.ensures (c.or_insert-held.ensures.value ∙ ap (λ o. unwrap_or o c.new.result) entry.value)
+    ∙ ap (items_of t) c.self.view_is in
+    subst (λ xs. IfOk c.put_in.result (λ new. new ≡ is_new xs c.args.item)) held c.put_in.ensures.new

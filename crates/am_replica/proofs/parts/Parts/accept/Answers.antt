@@ -1,7 +1,8 @@
-use Rattle.std.proofs.Common.{◌≡◌, refl, sym, ap, ◌∙◌, subst}
+use Rattle.std.proofs.Common.{◌≡◌, map, refl, sym, ap, ◌∙◌, subst}
 use Rattle.std.specs.List.{list_any}
+use Rattle.std.specs.Map.{keys_of}
 use Rattle.am_agenda.specs.Planned.{plan_of}
-use Rattle.am_book.specs.Book.{items_of}
+use Rattle.am_book.specs.Book.{are_new, items_of}
 use Rattle.am_config.specs.Configuration.{Configuration}
 use Rattle.am_current.specs.Current.{configuration_in}
 use Rattle.am_current.specs.Replacing.{replaces}
@@ -9,11 +10,11 @@ use Rattle.am_item.specs.Best.{all_joined, item_at}
 use Rattle.am_item.specs.Counts.{count_of}
 use Rattle.am_item.specs.declared.key.ThingKey.TheVariants.{Configuration as ConfigurationKey}
 use Rattle.am_limit.specs.Allowances.{allowance_of}
-use Rattle.am_muting.specs.Muting.{alert_sets}
 use Rattle.am_words.specs.Places.{place_of}
-use Rattle.am_replica.specs.Accepting.{IsPlannedBy, accepted}
+use Rattle.am_replica.specs.Accepting.{IsPlannedBy, accepted, flagged, is_new_known, set_of}
 use Rattle.am_replica.specs.Held.{local_of}
 use Rattle.am_replica.proofs.Accepted.{parts_accepted, plan_rises, still_by, stops}
+use Rattle.am_replica.proofs.Flagged.{keys_flagged, new_unknown}
 use Rattle.am_replica.proofs.Locals.{other, own, parts}
 use Rattle.am_replica.proofs.Changes.{one_changes}
 use Rattle.am_replica.proofs.parts.Parts.accept.Goals as goal
@@ -29,11 +30,23 @@ follow-requires-clause-planned c = λ old.
     let r = c.args.self.now in
     let items = c.args.items.items in
     let held = items_of s r.holdings in
-    let joined : items_of s c.put_all.new.self ≡ all_joined held items = own s _ _ _ (c.in_ok-put_all.ensures.joined s) in
+    let joined : items_of s c.put_all.new.self ≡ all_joined held items = own s _ _ _ (c.in_ok-are_new.ensures.joined s) in
     let used : c.in_ok-config.config.now ≡ configuration_in (all_joined held items) = c.in_ok-config.ensures.configuration ∙ ap configuration_in joined in
     let none = ap (λ xs. list_any (replaces (item_at ConfigurationKey held)) xs) (sym c.deref-2.ensures.value)
     ∙ ap (λ xs. list_any (replaces (item_at ConfigurationKey xs)) c.deref-2.result.now) (sym c.held.ensures.items) ∙ sym c.is_replaced-is_new.ensures ∙ old in
     subst (λ (k : Configuration). IsPlannedBy k (plan_of s r.agenda)) (sym used) (still_by items (local_of s r) c.requires.planned none)
+
+pub follow-requires-clause-new : goal.follow-requires-clause-new
+unfolding local_of
+follow-requires-clause-new c =
+    let s = c.args.tenant.now in
+    let r = c.args.self.now in
+    let items = c.args.items.items in
+    let held = items_of s r.holdings in
+    let came : c.in_ok-came.came.items ≡ flagged (map set_of items) (are_new held items) =
+    c.in_ok-came.ensures ∙ ap (λ sets. flagged sets c.in_ok-are_new.are_new.items) (c.in_ok-sets.ensures ∙ ap (map set_of) c.deref.ensures.value)
+    ∙ ap (flagged (map set_of items)) c.in_ok-are_new.ensures.new in
+    ap (λ xs. is_new_known xs (plan_of s r.agenda).grouped.alerts) came ∙ new_unknown (local_of s r) items c.requires.planned
 
 pub returns-in-Ok-clause-does : goal.returns-in-Ok-clause-does
 unfolding local_of
@@ -44,17 +57,20 @@ returns-in-Ok-clause-does c =
     let held = items_of s r.holdings in
     let plan = plan_of s r.agenda in
     let stays = c.in_use.follows.holds-at-none in
-    let joined : items_of s c.put_all.new.self ≡ all_joined held items = own s _ _ _ (c.in_ok-put_all.ensures.joined s) in
+    let joined : items_of s c.put_all.new.self ≡ all_joined held items = own s _ _ _ (c.in_ok-are_new.ensures.joined s) in
+    let came : c.in_ok-came.came.items ≡ flagged (map set_of items) (are_new held items) =
+    c.in_ok-came.ensures ∙ ap (λ sets. flagged sets c.in_ok-are_new.are_new.items) (c.in_ok-sets.ensures ∙ ap (map set_of) c.deref.ensures.value)
+    ∙ ap (flagged (map set_of items)) c.in_ok-are_new.ensures.new in
     one_changes s (accepted c.args.moment items) (λ t. local_of t r) _
-    (parts_accepted c.args.moment items _ c.in_ok-sets.sets.items c.in_ok-config.config.now (plan_of s c.follow.new.agenda) (local_of s r) (ap (items_of s) stays ∙ joined)
-    (c.in_ok-config.ensures.configuration ∙ ap (λ book. configuration_in (items_of s book)) (sym stays)) (c.in_ok-sets.ensures ∙ ap alert_sets c.deref.ensures.value)
+    (parts_accepted c.args.moment items _ (keys_of c.in_ok-came.came.items) c.in_ok-config.config.now (plan_of s c.follow.new.agenda) (local_of s r) (ap (items_of s) stays ∙ joined)
+    (c.in_ok-config.ensures.configuration ∙ ap (λ book. configuration_in (items_of s book)) (sym stays)) (ap keys_of came ∙ keys_flagged held items)
     (own s _ _ _ (c.in-Ok.ensures.plans s)))
     (λ t apart. parts _ (items_of t r.holdings) (plan_of t c.follow.new.agenda) _ (allowance_of t r.allowances) _ (count_of t r.counts) _ (place_of t r.places)
-    (ap (items_of t) stays ∙ other t s _ _ _ apart (c.in_ok-put_all.ensures.joined t)) (other t s _ _ _ apart (c.in-Ok.ensures.plans t)) refl refl)
+    (ap (items_of t) stays ∙ other t s _ _ _ apart (c.in_ok-are_new.ensures.joined t)) (other t s _ _ _ apart (c.in-Ok.ensures.plans t)) refl refl)
 
 pub returns-in-Err-Refused-clause-fault : goal.returns-in-Err-Refused-clause-fault
 unfolding local_of
 returns-in-Err-Refused-clause-fault c =
     let s = c.args.tenant.now in
     stops c.follow.new.cache.refused c.args.moment c.args.items.items (items_of s c.put_all.new.self) c.in_ok-config.config.now (local_of s c.args.self.now)
-    (own s _ _ _ (c.in_ok-put_all.ensures.joined s)) c.in_ok-config.ensures.configuration (rw c.in-Err-Refused.field-0-is at c.in-Err-Refused.ensures.failure)
+    (own s _ _ _ (c.in_ok-are_new.ensures.joined s)) c.in_ok-config.ensures.configuration (rw c.in-Err-Refused.field-0-is at c.in-Err-Refused.ensures.failure)
