@@ -1,7 +1,5 @@
 pub mod BreakLemmas
-pub mod LineLemmas
 pub mod NamesLemmas
-pub mod NumberLemmas
 pub mod PlayingLemmas
 pub mod ScenarioLemmas
 pub mod TraceLemmas

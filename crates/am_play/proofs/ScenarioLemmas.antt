@@ -5,12 +5,12 @@ use Rattle.std.specs.List.{onto_first}
 use Rattle.std.specs.Io.BufRead.{take_through, drop_through, strip_last, first_piece, DropsThrough}
 use Rattle.std.specs.Io.KnownBytes.{IsAtEnd}
 use Rattle.std.proofs.lemmas.Bool.Decides.{nat_tests}
-use Rattle.am_play.specs.Line.{command_of}
+use Rattle.am_scenario.specs.Line.{command_of}
 use Rattle.am_play.specs.Link.{Answers, Carries}
 use Rattle.am_play.specs.Playing.{Does, Plays}
 use Rattle.am_play.specs.Scenario.{Course, lines_of}
 use Rattle.am_play.specs.Trace.{Happened}
-use Rattle.am_play.specs.declared.command.Command.{Command}
+use Rattle.am_scenario.specs.declared.command.Command.{Command}
 use Rattle.am_play.specs.declared.play.Played.{Played}
 use Rattle.am_play.specs.declared.play.Played.TheVariants.{All, BadLine}
 use Rattle.am_play.specs.declared.play.Player.{Player}

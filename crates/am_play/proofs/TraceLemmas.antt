@@ -11,14 +11,14 @@ use Rattle.am_world.specs.Simulation.{Step, fault_count, put_out, refused_by}
 use Rattle.am_world.specs.Ticks.{Either}
 use Rattle.am_world.specs.View.{first_watch, names_once}
 use Rattle.am_world.proofs.Steps.{Steps, alone}
-use Rattle.am_play.specs.Line.{command_of}
+use Rattle.am_scenario.specs.Line.{command_of}
 use Rattle.am_play.specs.Link.{Answers, Carries}
 use Rattle.am_play.specs.Playing.{Happens, Come, Gives, Calls, Obeys, Settles, Does, Plays, IsStart, goes_on}
 use Rattle.am_play.specs.Scenario.{Course, AloneUntilFault}
 use Rattle.am_play.specs.Trace.{Happened, events, outputs, no_fault, unbuilt, unbuilt_after}
 use Rattle.am_play.specs.Tries.{tries_in}
-use Rattle.am_play.specs.declared.command.Command.{Command}
-use Rattle.am_play.specs.declared.command.Command.TheVariants.{Skip, At, Tick, Open, Bytes, Call, Limits, Pump, Hook}
+use Rattle.am_scenario.specs.declared.command.Command.{Command}
+use Rattle.am_scenario.specs.declared.command.Command.TheVariants.{Skip, At, Tick, Open, Bytes, Call, Limits, Pump, Hook}
 use Rattle.am_play.specs.declared.play.Played.{Played}
 use Rattle.am_play.specs.declared.play.Played.TheVariants.{BadLine}
 use Rattle.am_play.specs.declared.play.Player.{Player}

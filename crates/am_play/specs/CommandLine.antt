@@ -8,8 +8,8 @@ use Rattle.clap.specs.Kinds.{Kinds}
 use Rattle.clap.specs.declared.error.kind.ErrorKind.{ErrorKind}
 use Rattle.clap.specs.declared.error.kind.ErrorKind.TheVariants.{DisplayHelp, DisplayVersion, OutOfMemory}
 use Rattle.hex.specs.Hex.{decode_sized}
-use Rattle.am_play.specs.Line.{◌>>=◌}
-use Rattle.am_play.specs.Number.{number_of}
+use Rattle.am_scenario.specs.Line.{◌>>=◌}
+use Rattle.am_scenario.specs.Number.{number_of}
 use Rattle.am_play.specs.declared.options.CommandLine.{CommandLine}
 use Rattle.am_play.specs.declared.options.Serving.{Serving}
 use Rattle.am_play.specs.declared.options.CommandLine.TheVariants.{Run, Serve, Help, Bad}

@@ -1,12 +1,9 @@
 pub mod CommandLine
 pub mod Ending
-pub mod Line
 pub mod Link
 pub mod Names
-pub mod Number
 pub mod Output
 pub mod Playing
-pub mod Request
 pub mod Scenario
 pub mod Trace
 pub mod Tries

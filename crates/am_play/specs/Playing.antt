@@ -9,17 +9,17 @@ use Rattle.am_world.specs.Setup.{Origin}
 use Rattle.am_world.specs.Refusal.{refusal}
 use Rattle.am_world.specs.Simulation.{Opens, Step, fault_count, put_out, refused_by}
 use Rattle.am_world.specs.Ticks.{Either}
-use Rattle.am_play.specs.declared.command.Command.{Command}
-use Rattle.am_play.specs.declared.command.Command.TheVariants.{Skip, At, Tick, Open, Bytes, Call, Limits, Pump, Hook}
+use Rattle.am_scenario.specs.declared.command.Command.{Command}
+use Rattle.am_scenario.specs.declared.command.Command.TheVariants.{Skip, At, Tick, Open, Bytes, Call, Limits, Pump, Hook}
 use Rattle.am_play.specs.declared.play.Played.{Played}
 use Rattle.am_play.specs.declared.play.Played.TheVariants.{All, BadLine}
 use Rattle.am_play.specs.declared.play.Player.{Player}
 use Rattle.am_play.specs.declared.report.Try.{Try}
-use Rattle.am_play.specs.Line.{command_of}
+use Rattle.am_scenario.specs.Line.{command_of}
 use Rattle.am_play.specs.Link.{Answers, Carries}
 use Rattle.am_play.specs.Names.{place_of, with_name}
 use Rattle.am_play.specs.Output.{is_answered}
-use Rattle.am_play.specs.Request.{request_text}
+use Rattle.am_scenario.specs.Request.{request_text}
 use Rattle.am_play.specs.Trace.{Happened, outputs}
 use Rattle.am_play.specs.Tries.{tries_in}
 

@@ -1,13 +1,10 @@
 //! What the program does: reads a command line, plays a scenario against a world or serves one, tells how it ended.
 #![tactic(auto)]
 
-mod command;
 mod connections;
 pub mod ending;
-mod line;
 pub mod link;
 pub mod loopback;
-mod number;
 pub mod options;
 pub mod play;
 mod report;

@@ -4,7 +4,7 @@ ghost use Rattle.clap.specs.Words.{app_of, found_of, has_subcommand, kind_of, ro
 ghost use Rattle.clap.specs.Simple.{subcommand_rows_of};
 ghost use Rattle.am_play.specs.CommandLine.{Asks, Tells, asked_by, asked_of, command_line, count_in, key_in, number_in, option, option_or, serving_in, settings_in};
 
-use crate::number::number;
+use am_scenario::number;
 use am_world::setup::Setup;
 use clap::error::ErrorKind;
 use clap::{Arg, ArgMatches, Command, Error};

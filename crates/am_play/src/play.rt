@@ -12,14 +12,13 @@ ghost use Rattle.am_play.specs.Trace.{Happened, Reports, events, outputs, printe
 ghost use Rattle.am_play.specs.Tries.{tries_in, try_of};
 ghost use Rattle.am_play.specs.Writing.{AppendsPart};
 
-use crate::command::{Command, Request};
 use crate::connections::Connections;
-use crate::line::{LineFault, read_command};
 use crate::link::Link;
 use crate::report::{Report, Try};
 use crate::stops::Stops;
 use crate::writing::write_whole;
 use am_http::ConnectionId;
+use am_scenario::{Command, LineFault, Request, read_command};
 use am_text::{Octets, Text};
 use am_world::event::{Event, Output};
 use am_world::setup::Setup;

@@ -6,11 +6,11 @@ use am_gateway::Gateway;
 use am_server::{Server, listen};
 use am_world::World;
 use mio::net::TcpListener;
-use std::io;
 use std::io::Write;
 use std::net::{Ipv4Addr, Net, SocketAddr};
 use std::process::ExitCode;
 use std::time::Clock;
+use std::{io, mem};
 
 /// The instance that all connections are opened to: the lowest of the ring.
 const SERVING: u8 = 1;
@@ -46,10 +46,13 @@ pub fn serve<R: Net + Clock + Print + AllocGlobal, E: Write>(
     Stops::none().tell(&world, errors)?;
     let faults = world.faults();
     print!(rt; "faults {faults}\n")?;
-    Ok(match world.cause(SERVING) {
+    let status = match world.cause(SERVING) {
         None => ExitCode::SUCCESS,
         Some(_) => ExitCode::FAILURE,
-    })
+    };
+    // The process ends: what the world holds need not be given back piece by piece.
+    mem::forget(world);
+    Ok(status)
 }
 
 /// Serves the clients of a listener until all is done, or the instance stopped.

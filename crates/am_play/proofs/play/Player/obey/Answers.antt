@@ -1,7 +1,7 @@
 use Rattle.std.proofs.Common.{◌≡◌, Some, ◌∙◌}
 use Rattle.std.proofs.lemmas.Result.{on_ok_weaker}
 use Rattle.am_play.specs.Names.{place_of, with_name}
-use Rattle.am_play.specs.Request.{request_text}
+use Rattle.am_scenario.specs.Request.{request_text}
 use Rattle.am_play.proofs.play.Player.obey.Goals as goal
 
 pub returns-in_ok-text-in-Call : goal.returns-in_ok-text-in-Call

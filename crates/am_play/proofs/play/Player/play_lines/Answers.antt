@@ -5,7 +5,7 @@ use Rattle.std.specs.Io.Iter.{split_known_bytes, pieces_left_to_read}
 use Rattle.am_play.proofs.BreakLemmas.{course_breaks, trace_later, upto_breaks}
 use Rattle.am_play.proofs.ScenarioLemmas.{upto_first, upto_more, upto_bad, upto_end}
 use Rattle.am_play.proofs.WritingLemmas.{none_written, on_err, part_later, whole}
-use Rattle.am_play.specs.Line.{command_of}
+use Rattle.am_scenario.specs.Line.{command_of}
 use Rattle.am_play.specs.Trace.{text_of, printed}
 use Rattle.am_play.specs.declared.play.Played.TheVariants.{All}
 use Rattle.am_play.proofs.play.Player.play_lines.Goals as goal

@@ -1,6 +1,6 @@
 //! Numbers as the program's user writes them.
 ghost use Rattle.std.specs.Prelude.{◌≡◌};
-ghost use Rattle.am_play.specs.Number.{number_of};
+ghost use Rattle.am_scenario.specs.Number.{number_of};
 
 /// The number that a text of decimal digits says, at most 2^64 - 1. Leading zeros are taken, a sign isn't. `None` for any
 /// other text.

@@ -4,7 +4,7 @@ use Rattle.std.specs.Str.{all_ascii_digits}
 use Rattle.std.specs.Str.Parse.{digits_value, ParsesUnsigned}
 use Rattle.std.proofs.lemmas.Bool.Decides.{nat_tests}
 use Rattle.std.proofs.lemmas.Str.Parse.{IsNumeralModel, numerals_by_value, tells_all_ascii_digits, parse_plain}
-use Rattle.am_play.specs.Number.{number_of}
+use Rattle.am_scenario.specs.Number.{number_of}
 
 -- digits, and the number that they write
 own : IsNumeralModel (λ ds. all_ascii_digits ds ≡ true) (digits_value 10)

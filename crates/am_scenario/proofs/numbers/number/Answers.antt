@@ -1,6 +1,6 @@
 use Rattle.std.proofs.Common.{◌≢◌, get_or, rules, sym}
-use Rattle.am_play.proofs.NumberLemmas.{not_plus, number_of-parse, number_of-no_parse}
-use Rattle.am_play.proofs.number.number.Goals as goal
+use Rattle.am_scenario.proofs.NumberLemmas.{not_plus, number_of-parse, number_of-no_parse}
+use Rattle.am_scenario.proofs.numbers.number.Goals as goal
 
 pub returns-in-Ok : goal.returns-in-Ok
 returns-in-Ok c =

@@ -1,5 +1,5 @@
 ghost use Rattle.std.specs.Prelude.{◌≡◌, IfOk, string_bytes};
-ghost use Rattle.am_play.specs.Request.{request_text, tenant_line};
+ghost use Rattle.am_scenario.specs.Request.{request_text, tenant_line};
 
 use am_limit::Limits;
 use am_tenant::TenantName;

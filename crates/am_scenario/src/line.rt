@@ -1,9 +1,11 @@
 ghost use Rattle.std.specs.Prelude.{◌≡◌, option_map};
-ghost use Rattle.am_play.specs.Number.{number_of};
-ghost use Rattle.am_play.specs.Line.{Reads, split, both, word_of, word_then, string_of, command_of, text_command, lone_command, named_command, at_of, open_of, bytes_of, call_of, limits_of, hook_of, status_in, number_then, request_of, target_of, tenant_named};
+ghost use Rattle.serde_json.specs.Find.{as_str};
+ghost use Rattle.serde_json.specs.View.{view};
+ghost use Rattle.am_scenario.specs.Number.{number_of};
+ghost use Rattle.am_scenario.specs.Line.{Reads, split, both, word_of, word_then, string_of, command_of, text_command, lone_command, named_command, at_of, open_of, bytes_of, call_of, limits_of, hook_of, status_in, number_then, request_of, target_of, tenant_named};
 
 use crate::command::{Command, Request};
-use crate::number::number;
+use crate::numbers::number;
 use am_limit::Limits;
 use am_tenant::TenantName;
 use am_text::Text;
@@ -20,7 +22,7 @@ pub enum LineFault {
 }
 
 impl From<AllocError> for LineFault {
-    ghost use Rattle.am_play.specs.declared.line.LineFault.TheVariants.{OutOfMemory};
+    ghost use Rattle.am_scenario.specs.declared.line.LineFault.TheVariants.{OutOfMemory};
 
     ghost from_gives = { λ _ e. e ≡ OutOfMemory };
 
@@ -290,11 +292,18 @@ fn json_string(alloc: Global, text: &str) -> Result<Text, LineFault>
     ensures { Reads (λ t. t) result (string_of text.now) }
 {
     match Value::from_str(alloc, text) {
-        Ok(value) => match value.as_str() {
-            Some(string) => Ok(Text::read(alloc, string)?),
-            None => Err(LineFault::NotACommand),
-        },
+        Ok(value) => string_in(value),
         Err(error) if error.is_memory() => Err(LineFault::OutOfMemory),
-        Err(_) => Err(LineFault::NotACommand),
+        Err(_error) => Err(LineFault::NotACommand),
+    }
+}
+
+/// The string that a JSON value is.
+fn string_in(value: Value) -> Result<Text, LineFault>
+    ensures { Reads (λ t. t) result (as_str (view value)) }
+{
+    match value {
+        Value::String(string) => Ok(Text::from_string(string)),
+        _other => Err(LineFault::NotACommand),
     }
 }

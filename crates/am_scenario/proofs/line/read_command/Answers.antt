@@ -1,8 +1,8 @@
 use Rattle.std.proofs.Common.{◌≡◌, ◌≢◌, length, arith}
 use Rattle.std.proofs.lemmas.Bool.Decides.{nat_tests}
-use Rattle.am_play.proofs.LineLemmas.{command_of-text, command_of-bytes}
-use Rattle.am_play.specs.Line.{text_command, command_of}
-use Rattle.am_play.proofs.line.read_command.Goals as goal
+use Rattle.am_scenario.proofs.LineLemmas.{command_of-text, command_of-bytes}
+use Rattle.am_scenario.specs.Line.{text_command, command_of}
+use Rattle.am_scenario.proofs.line.read_command.Goals as goal
 
 pub returns-in-Ok : goal.returns-in-Ok
 returns-in-Ok c =

@@ -1,6 +1,6 @@
 -- The request of a `call` line, as it is sent.
 use Rattle.std.specs.Prelude.{ℕ, List, [], ◌∷◌, ◌++◌, Option, None, Some, length, codes, decimal}
-use Rattle.am_play.specs.declared.command.Request.{Request}
+use Rattle.am_scenario.specs.declared.command.Request.{Request}
 
 -- the end of a line: CR and LF
 abbrev pub line_end : List ℕ

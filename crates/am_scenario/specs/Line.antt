@@ -5,12 +5,12 @@ use Rattle.std.specs.List.{position_or_len, before_first, after_first}
 use Rattle.serde_json.specs.Find.{as_str}
 use Rattle.serde_json.specs.Read.{read}
 use Rattle.am_tenant.specs.Names.{is_tenant_name}
-use Rattle.am_play.specs.Number.{number_of}
-use Rattle.am_play.specs.declared.line.LineFault.{LineFault}
-use Rattle.am_play.specs.declared.line.LineFault.TheVariants.{NotACommand, OutOfMemory}
-use Rattle.am_play.specs.declared.command.Command.{Command}
-use Rattle.am_play.specs.declared.command.Command.TheVariants.{Skip, At, Tick, Open, Bytes, Call, Limits, Pump, Hook}
-use Rattle.am_play.specs.declared.command.Request.{Request}
+use Rattle.am_scenario.specs.Number.{number_of}
+use Rattle.am_scenario.specs.declared.line.LineFault.{LineFault}
+use Rattle.am_scenario.specs.declared.line.LineFault.TheVariants.{NotACommand, OutOfMemory}
+use Rattle.am_scenario.specs.declared.command.Command.{Command}
+use Rattle.am_scenario.specs.declared.command.Command.TheVariants.{Skip, At, Tick, Open, Bytes, Call, Limits, Pump, Hook}
+use Rattle.am_scenario.specs.declared.command.Request.{Request}
 use denote.Ref.{Bor}
 
 infixl 10 ◌>>=◌
