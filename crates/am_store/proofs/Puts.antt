@@ -1,5 +1,5 @@
 -- The items of a list that are stored, one more at a time.
-use Rattle.std.proofs.Common.{◌≡◌, ◌⊎◌, inl, inr, ℕ, ◌+◌, ◌<◌, List, [], ◌∷◌, ◌++◌, length, map, take, drop, get_or, All, Option, Some, None, Result, Ok, Err, IfErr, refl, sym, ap, subst, ◌∙◌}
+use Rattle.std.proofs.Common.{◌≡◌, ◌⊎◌, inl, inr, ℕ, ◌+◌, ◌<◌, List, [], ◌∷◌, ◌++◌, length, map, take, drop, get_or, All, Option, Some, None, Result, Ok, Err, IfErr, refl, false, IsTrue, sym, ap, subst, ◌∙◌}
 use Rattle.std.specs.List.{cons_option, filter}
 use Rattle.std.specs.List.Sorted.{IsPermutation}
 use Rattle.std.specs.Option.{option_to_list}
@@ -14,11 +14,13 @@ use Rattle.sqlite.specs.State.{HasCleanDisk, IsUnchanged, State, Survives}
 use Rattle.sqlite.specs.Term.{eval_all}
 use Rattle.sqlite.specs.Tree.{Trees}
 use Rattle.am_item.specs.declared.item.Item.{Item}
-use Rattle.am_store.specs.Failing.{IsExcused, IsPutExcused, IsReady, MakesRoom, PutsEach, RefusesPut, RefusesRow, fields_for, table_for}
+use Rattle.am_store.specs.Failing.{IsExcused, IsPutExcused, IsReady, MakesRoom, PutsEach, RefusesPut, RefusesRow, fields_for, is_reached, is_replaced, table_for}
 use Rattle.am_store.specs.Reading.{IsStamped}
 use Rattle.am_store.specs.Rows.{IsConfig, IsSilenceRow, IsStore}
+use Rattle.am_store.specs.Steps.{TakesOut}
 use Rattle.am_store.specs.Stored.{Stored, stored_item, stored_items}
 use Rattle.am_store.specs.Where.{config_stamp, hit, of_silence, of_tenant, silence_stamp}
+use Rattle.am_store.proofs.Calls.{both_survive}
 use Rattle.am_store.proofs.Failing.{excused_after, excused_before}
 use Rattle.am_store.proofs.RowLists.{all_filter, all_weaker}
 
@@ -72,11 +74,6 @@ module _ (a b c : State) (P Q : Trees → Type 0) (clean : HasCleanDisk b) (s : 
   put_excused_within xs ys zs e puts (inl excused) = inl (excused_after a b c P Q clean s s2 e excused)
   put_excused_within xs ys zs e puts (inr refused) = inr (refused_within t xs ys zs a.now b.now puts refused)
 
-  -- a row that isn't put in, where room was made for it
-  pub row_excused : (x : Stored) (e : Error) → MakesRoom t x a.now b.now → IsExcused b c e ⊎ RefusesRow (table_for x.value) (fields_for t x.stamp x.value) b.now.trees → IsPutExcused t (x ∷ []) a c e
-  row_excused x e room (inl excused) = inl (excused_after a b c P Q clean s s2 e excused)
-  row_excused x e room (inr refused) = inr (record { before = []; x = x; after = []; is = refl; there = a.now; puts = refl; cleared = b.now; room = room; refused = refused })
-
 -- a put before others
 pub put_excused_before : (a b c : State) (Q : Trees → Type 0) (t : List ℕ) (xs : List Stored) → Survives b c Q → {X : Type 0} (r : Result X Error) → IfErr r (IsPutExcused t xs a b) → IfErr r (IsPutExcused t xs a c)
 put_excused_before a b c Q t xs s (Ok x) h = tt
@@ -90,6 +87,42 @@ ready_still a b same ready = record {
   sound = subst IsDatabase (sym same.0.now_is) ready.sound;
   inside = same.0.mode ∙ ready.inside;
 }
+
+-- ---- a row is put in where room was made for it
+
+-- the rows under a key were read and taken out, for what is put there
+pub record Clears (t : List ℕ) (x : Stored) (old mid : State) : Type 0 where
+  pub clean : HasCleanDisk mid
+  pub survives : Survives old mid (λ _. ⊥)
+  pub room : MakesRoom t x old.now mid.now
+  pub inside : IsTrue old.in_transaction → IsTrue mid.in_transaction
+  pub ready : IsReady old → IsReady mid
+
+-- what was stored under the key is taken out
+abbrev TakesOutAt : List ℕ → Stored → Database → Database → Type 0
+TakesOutAt t x = TakesOut (table_for x.value).tree (is_replaced t x.value)
+
+-- a query and then a removal make room for what isn't reached
+pub clears : {t : List ℕ} {x : Stored} {old read mid : State} → HasCleanDisk mid → Survives old read (λ _. ⊥) → Survives read mid (λ _. ⊥)
+    → IsStore old.now → IsUnchanged old read → is_reached t x old.now ≡ false
+    → (IsStore read.now → TakesOutAt t x read.now mid.now) → (TakesOutAt t x old.now mid.now → IsStore mid.now)
+    → (IsTrue read.in_transaction → IsTrue mid.in_transaction) → (IsReady read → IsDatabase mid.now) → Clears t x old mid
+clears {t = t} {x = x} {old = old} {read = read} {mid = mid} clean one two store same unreached takes left inside sound =
+    let out = subst (λ db. TakesOutAt t x db mid.now) same.0.now_is (takes (subst IsStore (sym same.0.now_is) store)) in
+    record {
+      clean = clean;
+      survives = both_survive old read mid one two;
+      room = record { exceeds = unreached; out = out };
+      inside = λ was. inside (same.0.mode ∙ was);
+      ready = λ ready. record { store = left out; sound = sound (ready_still old read same ready); inside = inside (same.0.mode ∙ ready.inside) };
+    }
+
+-- a row that isn't put in there
+pub excused_cleared : {t : List ℕ} {x : Stored} {old mid new : State} {Q : Trees → Type 0} → Clears t x old mid → Survives mid new Q → (e : Error)
+    → IsExcused mid new e ⊎ RefusesRow (table_for x.value) (fields_for t x.stamp x.value) mid.now.trees → IsPutExcused t (x ∷ []) old new e
+excused_cleared {old = old} {mid = mid} {new = new} cleared survives e (inl excused) = inl (excused_after old mid new _ _ cleared.clean cleared.survives survives e excused)
+excused_cleared {x = x} {old = old} {mid = mid} cleared survives e (inr refused) =
+    inr (record { before = []; x = x; after = []; is = refl; there = old.now; puts = refl; cleared = mid.now; room = cleared.room; refused = refused })
 
 -- ---- the rows of stamps
 

@@ -30,8 +30,9 @@ any_map p f (x ∷ xs) = ap (λ b. p (f x) || b) (any_map p f xs)
 module _ (says : Row → Pair) (shown : Row → Row) (test : Row → Bool) (t : List ℕ) (key : Key) (stamp : Stamp) (all : List Row)
     (same_stamp : (r : Row) → reached stamp (shown r) ≡ not (above stamp (says r).1.stamp))
     (tells : AllByRecursion (λ r. test r ≡ is_at t key (says r)) all) where
-  told : (rows : List Row) → IsPermutation (map shown (filter test all)) rows → any_reaches (map (λ (p : Pair). p.1) (filter (is_at t key) (map says all))) stamp ≡ list_any (reached stamp) rows
-  told rows same =
+  told : (rows given : List Row) (answer : Bool) → IsPermutation (map shown (filter test all)) rows → given ≡ rows → answer ≡ list_any (reached stamp) given
+      → any_reaches (map (λ (p : Pair). p.1) (filter (is_at t key) (map says all))) stamp ≡ answer
+  told rows given answer same is answered =
       any_map (λ (y : Stored). not (above stamp y.stamp)) (λ (p : Pair). p.1) (filter (is_at t key) (map says all))
       ∙ ap (list_any (λ (p : Pair). not (above stamp p.1.stamp))) (filter-map (is_at t key) says all)
       ∙ any_map (λ (p : Pair). not (above stamp p.1.stamp)) says (filter (λ r. is_at t key (says r)) all)
@@ -39,10 +40,13 @@ module _ (says : Row → Pair) (shown : Row → Row) (test : Row → Bool) (t : 
       ∙ ap (list_any (λ r. reached stamp (shown r))) (sym (filter_within test (λ r. is_at t key (says r)) all tells))
       ∙ sym (any_map (reached stamp) shown (filter test all))
       ∙ list_any-IsPermutation (reached stamp) _ rows same
+      ∙ ap (list_any (reached stamp)) (sym is)
+      ∙ sym answered
 
-module _ (db : Database) (store : IsStore db) (t : List ℕ) (stamp : Stamp) (rows : List Row) where
+-- what is answered of a list that is the rows
+module _ (db : Database) (store : IsStore db) (t : List ℕ) (stamp : Stamp) (rows given : List Row) (answer : Bool) (is : given ≡ rows) (answered : answer ≡ list_any (reached stamp) given) where
   pub config_reached : IsPermutation (map (λ r. eval_all config_stamp ((Text t ∷ []) ∷ r ∷ [])) (filter (hit of_tenant (Text t ∷ [])) (db.trees 1))) rows
-      → any_reaches (of_key ConfigurationKey (things_of t (pairs_in db.trees))) stamp ≡ list_any (reached stamp) rows
+      → any_reaches (of_key ConfigurationKey (things_of t (pairs_in db.trees))) stamp ≡ answer
   unfolding pairs_in
   config_reached same =
       let none : filter (is_at t ConfigurationKey) (map silence_in (db.trees 3)) ≡ [] =
@@ -51,11 +55,11 @@ module _ (db : Database) (store : IsStore db) (t : List ℕ) (stamp : Stamp) (ro
       filter-append (is_at t ConfigurationKey) (map config_in (db.trees 1)) (map silence_in (db.trees 3)) ∙ ap (λ xs. filter (is_at t ConfigurationKey) (map config_in (db.trees 1)) ++ xs) none ∙ append-nil _ in
       ap (λ xs. any_reaches xs stamp) (of_key-things t ConfigurationKey (map config_in (db.trees 1) ++ map silence_in (db.trees 3)) ∙ ap (map (λ (p : Pair). p.1)) front)
       ∙ told config_in (λ r. eval_all config_stamp ((Text t ∷ []) ∷ r ∷ [])) (hit of_tenant (Text t ∷ [])) t ConfigurationKey stamp (db.trees 1) (λ r. refl)
-      (all_weaker IsConfig _ (λ r is. config_at r is t) (db.trees 1) store.configs) rows same
+      (all_weaker IsConfig _ (λ r is. config_at r is t) (db.trees 1) store.configs) rows given answer same is answered
 
   pub silence_reached : (id : List ℕ) → parsed (id_text id) ≡ Some id
       → IsPermutation (map (λ r. eval_all silence_stamp ((Text t ∷ Text (id_text id) ∷ []) ∷ r ∷ [])) (filter (hit of_silence (Text t ∷ Text (id_text id) ∷ [])) (db.trees 3))) rows
-      → any_reaches (of_key (SilenceKey id) (things_of t (pairs_in db.trees))) stamp ≡ list_any (reached stamp) rows
+      → any_reaches (of_key (SilenceKey id) (things_of t (pairs_in db.trees))) stamp ≡ answer
   unfolding pairs_in
   silence_reached id back_again same =
       let none : filter (is_at t (SilenceKey id)) (map config_in (db.trees 1)) ≡ [] =
@@ -64,4 +68,4 @@ module _ (db : Database) (store : IsStore db) (t : List ℕ) (stamp : Stamp) (ro
       filter-append (is_at t (SilenceKey id)) (map config_in (db.trees 1)) (map silence_in (db.trees 3)) ∙ ap (λ xs. xs ++ filter (is_at t (SilenceKey id)) (map silence_in (db.trees 3))) none in
       ap (λ xs. any_reaches xs stamp) (of_key-things t (SilenceKey id) (map config_in (db.trees 1) ++ map silence_in (db.trees 3)) ∙ ap (map (λ (p : Pair). p.1)) back)
       ∙ told silence_in (λ r. eval_all silence_stamp ((Text t ∷ Text (id_text id) ∷ []) ∷ r ∷ [])) (hit of_silence (Text t ∷ Text (id_text id) ∷ [])) t (SilenceKey id) stamp (db.trees 3) (λ r. refl)
-      (all_weaker IsSilenceRow _ (λ r is. silence_at r is t id back_again) (db.trees 3) store.silences) rows same
+      (all_weaker IsSilenceRow _ (λ r is. silence_at r is t id back_again) (db.trees 3) store.silences) rows given answer same is answered
