@@ -1,7 +1,9 @@
-//! Worked examples: timers, groups, attempts and what an instance has planned.
+//! Worked examples: timers, attempts, clients and calls.
 #![tactic(auto)]
 
 #[cfg(test)]
 mod outlet;
+#[cfg(test)]
+mod serving;
 #[cfg(test)]
 mod timer;

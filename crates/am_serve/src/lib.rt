@@ -12,8 +12,6 @@ mod lanes;
 mod outgoing;
 mod socket;
 mod status;
-#[cfg(test)]
-mod tests;
 
 pub use calls::{Calls, Progress};
 pub use client::{OWN_BYTES, Turn};

@@ -1,6 +1,6 @@
 //! Clients and calls over sockets in memory, and the turns of tenants.
 
-use crate::{
+use am_serve::{
     Calls, Clients, Dialed, Host, Lanes, Moved, Progress, Socket, Turn, Verdict, read_from,
 };
 use am_tenant::TenantName;
