@@ -7,13 +7,12 @@ use Rattle.std.specs.Ordering.{is_eq}
 use Rattle.std.proofs.lemmas.Bool.{cond-false, cond-true, false≢true, not_from_false, not_from_true}
 use Rattle.am_item.specs.declared.item.Item.{Item}
 use Rattle.am_item.specs.declared.key.ThingKey.{ThingKey}
-use Rattle.am_item.specs.Best.{IsRising, item_at, joined}
+use Rattle.am_item.specs.Best.{IsRising, item_at}
 use Rattle.am_item.specs.Key.{has_key, key_cmp, key_of}
-use Rattle.am_item.proofs.Greatest.{by_cases, later, some_same}
-use Rattle.am_item.proofs.Joined.{at-joined, rising-joined, with_item}
+use Rattle.am_item.proofs.Greatest.{by_cases, some_same}
 use Rattle.am_item.proofs.Keys.{key_itself, key_same}
 use Rattle.am_item.proofs.Removed.{kept_above, lacks_key}
-use Rattle.am_item.proofs.Rising.{AllAbove, first_at, here_at, later_at, none_above, rising_same}
+use Rattle.am_item.proofs.Rising.{AllAbove, first_at, here_at, later_at, none_above}
 
 -- what a test leaves in is above what all are above
 pub above_filter : (p : Item → Bool) (k : ThingKey) (xs : List Item) → AllAbove k xs → AllAbove k (filter p xs)
@@ -85,15 +84,3 @@ filter_found p (y ∷ ys) up h =
     by_cases (has_key k y)
     (λ e. absurd (false≢true (ap is_some (sym (none_above k ys (subst (λ q. AllAbove q ys) (sym (key_same k (key_of y) e)) up.0)) ∙ at))))
     (λ e. h k x (later_at k y ys e ∙ at))))
-
--- an item that came under a new key and went again leaves what was there
-pub filter-joined : (k : ThingKey) (xs : List Item) (item : Item) → IsRising xs → key_of item ≡ k → item_at k xs ≡ None → filter (lacks_key k) (joined xs item) ≡ xs
-filter-joined k xs item up named none =
-    rising_same (filter (lacks_key k) (joined xs item)) xs (rising-filter (lacks_key k) (joined xs item) (rising-joined xs item)) up
-    (λ q.
-    at-lacking q k (joined xs item) ∙ ap (cond (is_eq (key_cmp q k)) None) (at-joined q xs item up)
-    ∙ by_cases (is_eq (key_cmp q k))
-    (λ e. cond-true _ None (with_item q (item_at q xs) item) e ∙ sym (ap (λ r. item_at r xs) (key_same q k e) ∙ none))
-    (λ e.
-    cond-false _ None (with_item q (item_at q xs) item) e
-    ∙ cond-false _ (later (item_at q xs) (Some item)) (item_at q xs) (ap (λ r. is_eq (key_cmp q r)) named ∙ e)))

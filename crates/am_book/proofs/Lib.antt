@@ -2,6 +2,7 @@ pub mod Dropping
 pub mod Sifting
 pub mod RowLemmas
 pub mod Told
+pub mod Putting
 pub mod Lists
 pub mod Retiring
 pub mod Fewer

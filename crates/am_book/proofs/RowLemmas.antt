@@ -4,7 +4,7 @@ use Rattle.std.specs.BTreeSet.{BTreeSet}
 use Rattle.std.specs.Cmp.{Equal-is, nat_cmp_is}
 use Rattle.std.specs.Cmp.Lexicographic.{slice_cmp}
 use Rattle.std.specs.List.{list_any, slice_get}
-use Rattle.std.specs.Option.{IfSome, option_map, option_map_or, is_some}
+use Rattle.std.specs.Option.{IfSome, option_map_or}
 use Rattle.std.specs.Ordering.{is_eq, is_gt, nat_cmp, ordering_then}
 use Rattle.std.specs.declared.cmp.Ordering.TheVariants.{Equal, Greater}
 use Rattle.std.proofs.lemmas.Bool.{false≢true, leb-false, leb-true}
@@ -94,6 +94,13 @@ module _ (t : List ℕ) (k : ThingKey) (row : Row) where
   pub other_key : (s : Standing) → is_eq (key_cmp row.key k) ≡ false → is_row_of t k s row ≡ false
   other_key s h = by_cases (is_row_of t k s row) (λ e. absurd (false≢true (sym h ∙ ap (λ n. is_eq (key_cmp n k)) (is_made s e).key_is ∙ key_itself k))) (λ e. e)
 
+-- the row of what stands is the one that is made of it
+pub row_of_standing : (t : List ℕ) (k : ThingKey) (s : Standing) (at : ℕ) → s.retires_at ≡ Some at → (row : Row) → is_row_of t k s row ≡ true
+    → row ≡ (let made : Row = record { retires_at = at; stamp = s.stamp; tenant = t; key = k } in made)
+row_of_standing t k s at retires row h =
+    let is = is_made t k row s h in
+    same_parts row (record { retires_at = at; stamp = s.stamp; tenant = t; key = k }) (some_same row.retires_at at (sym is.at ∙ retires)) is.stamp_is is.tenant_is is.key_is
+
 -- ---- the row of what a look-up finds
 
 -- the row is of the item that was found
@@ -119,20 +126,6 @@ own_row t k x at h =
     let row : Row = record { retires_at = at; stamp = x.stamp; tenant = t; key = k } in
     ap (λ o. option_map_or (λ n. same_row (let r : Row = record { retires_at = n; stamp = x.stamp; tenant = t; key = k } in r) row) o false) h
     ∙ row_itself row row refl
-
--- what stands tells whether an item was found, and which
-pub none_stands : (o : Option Item) → None ≡ option_map standing_of o → o ≡ None
-none_stands None h = refl
-none_stands (Some x) h = absurd (false≢true (ap is_some h))
-
-pub record Stands (s : Standing) (o : Option Item) : Type 0 where
-  pub item : Item
-  pub found : o ≡ Some item
-  pub is : s ≡ standing_of item
-
-pub some_stands : (s : Standing) (o : Option Item) → Some s ≡ option_map standing_of o → Stands s o
-some_stands s None h = absurd (false≢true (sym (ap is_some h)))
-some_stands s (Some x) h = record { item = x; found = refl; is = ap (λ o. option_map_or (λ v. v) o s) h }
 
 -- ---- the first row
 

@@ -1,5 +1,5 @@
 -- The rows tell what is held: after an item was put, and after one was dropped.
-use Rattle.std.proofs.Common.{◌≡◌, ℕ, Bool, true, false, cond, not, List, Option, Some, None, OnErr, OnOk, Result, Ok, Err, nat_le, refl, sym, ap, ◌∙◌}
+use Rattle.std.proofs.Common.{◌≡◌, ℕ, Bool, true, false, cond, not, List, Option, Some, None, nat_le, refl, sym, ap, ◌∙◌}
 use Rattle.std.specs.List.{filter}
 use Rattle.std.specs.Option.{option_map_or}
 use Rattle.std.specs.Ordering.{is_eq, is_gt}
@@ -116,13 +116,15 @@ module _ (t : List ℕ) (k : ThingKey) (item : Item) (old : List Item) (up : IsR
         ∙ cond-false _ true (has0 row) (other_tenant t k row (standing_of item) h)
         ∙ sym (cond-false _ (tells row (joined old item)) (has0 row) h))
 
--- nothing was put
-pub told_still : (t : List ℕ) (old : List Item) (has0 : Row → Bool) → ((row : Row) → same row.tenant t ≡ true → has0 row ≡ tells row old)
-    → (row : Row) → has0 row ≡ cond (same row.tenant t) (tells row old) (has0 row)
-told_still t old has0 told row =
-    by_cases (same row.tenant t)
+-- nothing was put: the rows that were there tell what was there
+pub told_still : (t : List ℕ) (old new : List Item) (has0 has1 : Row → Bool) → ((row : Row) → same row.tenant t ≡ true → has0 row ≡ tells row old) → new ≡ old → ((row : Row) → has1 row ≡ has0 row)
+    → (row : Row) → has1 row ≡ cond (same row.tenant t) (tells row new) (has0 row)
+told_still t old new has0 has1 told still rows row =
+    rows row
+    ∙ by_cases (same row.tenant t)
     (λ h. told row h ∙ sym (cond-true _ (tells row old) (has0 row) h))
     (λ h. sym (cond-false _ (tells row old) (has0 row) h))
+    ∙ ap (λ xs. cond (same row.tenant t) (tells row xs) (has0 row)) (sym still)
 
 -- ---- an item was dropped
 
@@ -196,26 +198,3 @@ module _ (held0 : List ℕ → List Item) (has0 : Row → Bool) (told : (row : R
         ∙ filter-lacking (stays moment) first.key of_first.item (held0 t) up (ap (λ n. item_at first.key (held0 n)) (eq_from_same t first.tenant h) ∙ of_first.found)
         (retired_at moment first.retires_at of_first.item of_first.at due))
         (λ h. ap (filter (stays moment)) (lists t ∙ cond-false _ (filter (lacks_key first.key) (held0 t)) (held0 t) h))
-
--- ---- whatever a call returned
-
--- the rows that were there tell what was there
-stayed : (t : List ℕ) (old new : List Item) (has0 has1 : Row → Bool) → ((row : Row) → same row.tenant t ≡ true → has0 row ≡ tells row old) → new ≡ old → ((row : Row) → has1 row ≡ has0 row)
-    → (row : Row) → has1 row ≡ cond (same row.tenant t) (tells row new) (has0 row)
-stayed t old new has0 has1 told still rows row = rows row ∙ told_still t old has0 told row ∙ ap (λ xs. cond (same row.tenant t) (tells row xs) (has0 row)) (sym still)
-
-module _ {T E : Type 0} (t : List ℕ) (k : ThingKey) (item : Item) (old new : List Item) (up : IsRising old) (named : key_of item ≡ k) (has0 has1 : Row → Bool)
-    (told : (row : Row) → same row.tenant t ≡ true → has0 row ≡ tells row old) where
-  pub told_after_adding : (r : Result T E) → item_at k old ≡ None → OnOk r (new ≡ joined old item) → OnErr r (new ≡ old)
-      → OnOk r ((row : Row) → has1 row ≡ cond (is_row_of t k (standing_of item) row) true (has0 row)) → OnErr r ((row : Row) → has1 row ≡ has0 row)
-      → (row : Row) → has1 row ≡ cond (same row.tenant t) (tells row new) (has0 row)
-  told_after_adding (Ok _) none joins _ row_came _ row =
-      told_added t k item old up named has0 has1 told none row_came row ∙ ap (λ xs. cond (same row.tenant t) (tells row xs) (has0 row)) (sym joins)
-  told_after_adding (Err _) none _ still _ rows row = stayed t old new has0 has1 told still rows row
-
-  pub told_after_replacing : (r : Result T E) (o : Item) → item_at k old ≡ Some o → exceeds item o ≡ true → OnOk r (new ≡ joined old item) → OnErr r (new ≡ old)
-      → OnOk r ((row : Row) → has1 row ≡ cond (is_row_of t k (standing_of o) row) false (cond (is_row_of t k (standing_of item) row) true (has0 row))) → OnErr r ((row : Row) → has1 row ≡ has0 row)
-      → (row : Row) → has1 row ≡ cond (same row.tenant t) (tells row new) (has0 row)
-  told_after_replacing (Ok _) o there greater joins _ row_came _ row =
-      told_replaced t k item old up named has0 has1 told o there greater row_came row ∙ ap (λ xs. cond (same row.tenant t) (tells row xs) (has0 row)) (sym joins)
-  told_after_replacing (Err _) o there greater _ still _ rows row = stayed t old new has0 has1 told still rows row

@@ -1,4 +1,4 @@
-ghost use Rattle.std.specs.Prelude.{◌≡◌, ◌+◌, ℕ, List, [], None, length, true, false, not, filter, IsSome, nat_le, IfErr, IfNone, IfOk, IfSome, OnErr, OnOk, if◌then◌else◌};
+ghost use Rattle.std.specs.Prelude.{◌≡◌, ◌+◌, ℕ, List, [], length, true, false, not, filter, IsSome, nat_le, IfNone, IfOk, IfSome, OnErr, OnOk, if◌then◌else◌};
 ghost use Rattle.std.specs.BTreeMap.{IsOrdered};
 ghost use Rattle.std.specs.BTreeSet.{btree_set_len};
 ghost use Rattle.std.specs.Cmp.Lexicographic.{slice_cmp};
@@ -6,17 +6,17 @@ ghost use Rattle.std.specs.Option.{option_map_or};
 ghost use Rattle.std.specs.Ordering.{nat_cmp};
 ghost use Rattle.am_tenant.specs.Names.{same};
 ghost use Rattle.am_item.specs.Best.{IsRising, all_joined, item_at, joined};
-ghost use Rattle.am_item.specs.Key.{has_key, key_of};
-ghost use Rattle.am_item.specs.Retirement.{is_retired, standing_of};
+ghost use Rattle.am_item.specs.Key.{has_key};
+ghost use Rattle.am_item.specs.Retirement.{is_retired};
 ghost use Rattle.am_book.specs.Book.{AreHeld, IsPartlyJoined, are_new, held_of, is_new, items_of, pairs_of};
 ghost use Rattle.am_book.specs.Row.{has_row, is_row_of, same_row, tells};
 ghost use Rattle.am_book.specs.declared.row.Row.{Row};
 
 use crate::row::Row;
-use am_item::{Held, Item, Standing, ThingKey};
+use am_item::{Held, Item, Put, Standing, ThingKey};
 use am_tenant::TenantName;
 use am_text::Moment;
-use std::alloc::{AllocError, AllocFailed, Global};
+use std::alloc::{AllocError, Global};
 use std::collections::{BTreeMap, BTreeSet};
 use std::marker::Model;
 
@@ -158,83 +158,44 @@ fn put_in(
     ensures told { (row : Row) → has_row rows.new row ≡ (if same row.tenant tenant.now then tells row held.new else has_row rows.old row) }
 {
     let key = item.thing.key(alloc)?;
-    match held.standing(&key) {
-        None => {
-            add(held, rows, tenant, key, item)?;
-            Ok(true)
-        }
-        Some(old) if item.stamp.exceeds(&old.stamp) => {
-            replace(alloc, held, rows, tenant, key, old, item)?;
+    let own = item.thing.key(alloc)?;
+    let standing = item.standing();
+    // The row comes first: nothing that is held has to be taken back where memory runs out for it.
+    let added = remember(rows, tenant, &standing, key)?;
+    match held.put(item) {
+        Ok(Put::New) => Ok(true),
+        Ok(Put::Replaced(old)) => {
+            forget(rows, tenant, &old, own);
             Ok(false)
         }
-        Some(_) => Ok(false),
-    }
-}
-
-// Puts an item whose key has none.
-fn add(
-    held: &mut Held,
-    rows: &mut BTreeSet<Row>,
-    tenant: &TenantName,
-    key: ThingKey,
-    item: Item,
-) -> Result<(), AllocError>
-    requires key { key ≡ key_of item }
-    requires absent { item_at key held.old ≡ None }
-    requires rising { IsRising held.old }
-    ensures joined { OnOk result (held.new ≡ joined held.old item) }
-    ensures err { OnErr result (held.new ≡ held.old) }
-    ensures row { OnOk result ((row : Row) → has_row rows.new row ≡ (if is_row_of tenant.now key (standing_of item) row then true else has_row rows.old row)) }
-    ensures rows { OnErr result ((row : Row) → has_row rows.new row ≡ has_row rows.old row) }
-{
-    let standing = item.standing();
-    held.put(item)?;
-    match remember(rows, tenant, standing, key) {
-        Ok(()) => Ok(()),
+        Ok(Put::Older) => {
+            // A row that was there before is that of the held item.
+            if added {
+                forget(rows, tenant, &standing, own);
+            }
+            Ok(false)
+        }
         Err(refused) => {
-            held.remove(&refused.value.key);
-            Err(AllocError)
+            forget(rows, tenant, &standing, own);
+            Err(refused)
         }
     }
 }
 
-// Puts an item in the place of one with a smaller stamp, whose row is found by a key of its own. Once the new row is
-// there it doesn't fail.
-fn replace(
-    alloc: Global,
-    held: &mut Held,
-    rows: &mut BTreeSet<Row>,
-    tenant: &TenantName,
-    key: ThingKey,
-    old: Standing,
-    item: Item,
-) -> Result<(), AllocError>
-    requires key { key ≡ key_of item }
-    requires there { IsSome (item_at key held.old) }
-    ensures joined { OnOk result (held.new ≡ joined held.old item) }
-    ensures err { OnErr result (held.new ≡ held.old) }
-    ensures row { OnOk result ((row : Row) → has_row rows.new row ≡ (if is_row_of tenant.now key old row then false else (if is_row_of tenant.now key (standing_of item) row then true else has_row rows.old row))) }
-    ensures rows { OnErr result ((row : Row) → has_row rows.new row ≡ has_row rows.old row) }
-{
-    let own = item.thing.key(alloc)?;
-    remember(rows, tenant, item.standing(), key)?;
-    forget(rows, tenant, old, own);
-    held.put(item)
-}
-
-// Adds the row of what stands at a tenant's key. Where memory runs out no row is added, and the key comes back.
+// Adds the row of what stands at a tenant's key, and answers whether there is one and it wasn't there. Where memory
+// runs out no row is added.
 fn remember(
     rows: &mut BTreeSet<Row>,
     tenant: &TenantName,
-    standing: Standing,
+    standing: &Standing,
     key: ThingKey,
-) -> Result<(), AllocFailed<Row>>
-    ensures row { OnOk result ((row : Row) → has_row rows.new row ≡ (if is_row_of tenant.now key standing row then true else has_row rows.old row)) }
+) -> Result<bool, AllocError>
+    ensures row { OnOk result ((row : Row) → has_row rows.new row ≡ (if is_row_of tenant.now key standing.now row then true else has_row rows.old row)) }
+    ensures added { IfOk result (λ added. (row : Row) → is_row_of tenant.now key standing.now row ≡ true → has_row rows.old row ≡ not added) }
     ensures err { OnErr result (rows.new.keys ≡ rows.old.keys) }
-    ensures key { IfErr result (λ refused. refused.value.key ≡ key) }
 {
     let Some(retires_at) = standing.retires_at else {
-        return Ok(());
+        return Ok(false);
     };
     let row = Row {
         retires_at,
@@ -242,15 +203,12 @@ fn remember(
         tenant: *tenant,
         key,
     };
-    match rows.insert(row) {
-        Ok(_) => Ok(()),
-        Err(refused) => Err(refused),
-    }
+    Ok(rows.insert(row)?)
 }
 
 // Removes the row of what stood at a tenant's key.
-fn forget(rows: &mut BTreeSet<Row>, tenant: &TenantName, standing: Standing, key: ThingKey)
-    ensures { (row : Row) → has_row rows.new row ≡ (if is_row_of tenant.now key standing row then false else has_row rows.old row) }
+fn forget(rows: &mut BTreeSet<Row>, tenant: &TenantName, standing: &Standing, key: ThingKey)
+    ensures { (row : Row) → has_row rows.new row ≡ (if is_row_of tenant.now key standing.now row then false else has_row rows.old row) }
 {
     if let Some(retires_at) = standing.retires_at {
         let row = Row {

@@ -1,18 +1,28 @@
--- What a map holds of its keys, once a value stands under one of them.
-use Rattle.std.proofs.Common.{◌≡◌, Bool, true, false, cond, List, Option, Some, Ordering, refl, sym, ap, ◌∙◌}
+-- What a map holds of its keys, once a value stands under one of them, and what the put of it did.
+use Rattle.std.proofs.Common.{◌≡◌, ℕ, Bool, true, false, cond, List, Option, Some, Ordering, refl, sym, ap, ◌∙◌}
 use Rattle.std.specs.BTreeMap.{BTreeMap, get, is_at}
 use Rattle.std.specs.Map.{lookup}
 use Rattle.std.specs.Cmp.{Equal-is, IsTotalOrder}
+use Rattle.std.specs.Option.{option_map_or}
 use Rattle.std.specs.Ordering.{is_eq, is_gt}
 use Rattle.std.proofs.lemmas.Bool.{cond-true}
 use Rattle.am_item.specs.Newest.{newest}
+use Rattle.am_item.specs.Retirement.{held_standing, put_over}
 use Rattle.am_item.specs.Stamp.{stamp_cmp}
+use Rattle.am_item.specs.declared.held.Put.TheVariants.{Older, Replaced}
+use Rattle.am_item.specs.declared.stamp.Stamp.{Stamp}
 use Rattle.am_item.specs.declared.stamp.Stamped.{Stamped}
 use Rattle.am_item.proofs.Tallies.{lookup_agree}
 
 -- a value with a greater stamp takes the place of the one that is held
 pub newest_exceeds : {V : Type 0} (held value : Stamped V) → is_gt (stamp_cmp value.stamp held.stamp) ≡ true → newest (Some held) value ≡ Some value
 newest_exceeds held value exceeds = cond-true _ (Some value) (Some held) exceeds
+
+-- a put of an item with a greater stamp replaces the one that is held
+pub replaced_over : {V : Type 0} (retires : ℕ → V → ℕ) (held old : Stamped V) (stamp : Stamp) → Some held ≡ Some old → is_gt (stamp_cmp stamp held.stamp) ≡ true
+    → Replaced (held_standing retires old) ≡ put_over (Some (held_standing retires old)) stamp
+replaced_over retires held old stamp same exceeds =
+    sym (cond-true _ (Replaced (held_standing retires old)) Older (ap (λ o. option_map_or (λ v. is_gt (stamp_cmp stamp v.stamp)) o true) (sym same) ∙ exceeds))
 
 module _ {K V : Type 0} {cmp : K → K → Ordering} (total : IsTotalOrder cmp) where
   under : (b : Bool) (x y z : Option (Stamped V)) → (b ≡ true → x ≡ y) → cond b x z ≡ cond b y z

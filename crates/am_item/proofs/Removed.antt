@@ -1,34 +1,29 @@
--- What is held without a key, kind by kind, and counts of what is held.
-use Rattle.std.proofs.Common.{◌≡◌, ℕ, suc, Bool, nat_lt, true, false, not, List, [], ◌∷◌, ◌++◌, Option, Some, None, Ordering, length, count_by, refl, sym, ap, ◌∙◌, subst}
-use Rattle.std.specs.BTreeMap.{is_at, values}
+-- What is held without a key, kind by kind.
+use Rattle.std.proofs.Common.{◌≡◌, ℕ, Bool, false, not, List, [], ◌∷◌, ◌++◌, Option, Some, None, Ordering, refl, sym, ap, ◌∙◌, subst}
+use Rattle.std.specs.BTreeMap.{is_at}
 use Rattle.std.specs.Cmp.{Equal-is, IsTotalOrder}
 use Rattle.std.specs.Cmp.Lexicographic.{nat_list_cmp_total}
 use Rattle.std.specs.List.{AllByRecursion, filter}
 use Rattle.std.specs.List.Sorted.{IsStrictlySortedBy}
-use Rattle.std.specs.Map.{keys_of, remove_entry, values_of}
-use Rattle.std.specs.Option.{option_map}
+use Rattle.std.specs.Map.{keys_of, remove_entry}
 use Rattle.std.specs.Ordering.{is_eq}
 use Rattle.std.specs.declared.cmp.Ordering.TheVariants.{Less}
 use Rattle.std.proofs.lemmas.Bool.{cond-false, cond-true, not_from_false, not_from_true}
-use Rattle.std.proofs.lemmas.List.{append-nil}
-use Rattle.std.proofs.lemmas.List.Sums.{length-filter}
 use Rattle.std.proofs.lemmas.Map.Lookups.{CmpEqualImpliesEq, exact_bytes}
 use Rattle.am_labels.specs.declared.Label.{Label}
 use Rattle.am_labels.specs.Labels.{labels_cmp, labels_total}
 use Rattle.am_item.specs.EntryKey.{entry_cmp, entry_total}
 use Rattle.am_item.specs.Held.{AreOrdered, alert_item, configuration_item, configuration_items, entry_item, items_by, items_in, silence_item}
 use Rattle.am_item.specs.Key.{Key, ConfigurationKey, SilenceKey, AlertKey, SentEntryKey, has_key, key_cmp, key_of}
-use Rattle.am_item.specs.Kinds.{is_unexpired_silence}
 use Rattle.am_item.specs.declared.entry.EntryKey.{EntryKey}
 use Rattle.am_item.specs.declared.held.Held.TheInside.{Inside}
 use Rattle.am_item.specs.declared.item.Item.{Item}
-use Rattle.am_item.specs.declared.silence.SilenceDetails.{SilenceDetails}
 use Rattle.am_item.specs.declared.stamp.Stamped.{Stamped}
-use Rattle.am_item.proofs.ByName.{above_by, has_name, names_above, failed_by, passed_by}
+use Rattle.am_item.proofs.ByName.{above_by, has_name, names_above, passed_by}
 use Rattle.am_item.proofs.Greatest.{by_cases}
 use Rattle.am_item.proofs.Order.{entries_exact, labels_exact}
 use Rattle.am_item.proofs.Rising.{AllAbove}
-use Rattle.am_item.proofs.Whole.{alerts_like, entries_like, ids_cmp, no_configuration, passed, silences_like}
+use Rattle.am_item.proofs.Whole.{alerts_like, entries_like, ids_cmp, passed, silences_like}
 
 -- the item has another key
 abbrev pub lacks_key : Key → Item → Bool
@@ -131,38 +126,3 @@ removed_entry h n key are configuration silences alerts sent =
     (other_configuration (SentEntryKey key) refl h.configuration) (passed_by silence_item (lacks_key (SentEntryKey key)) (λ k v. refl) h.silences.entries)
     (passed_by alert_item (lacks_key (SentEntryKey key)) (λ k v. refl) h.alerts.entries)
     (removed_by entry_cmp entry_total entries_exact SentEntryKey entry_item (λ k v. refl) (λ k v. refl) entries_like key h.sent.entries are.sent))
-
--- ---- counts
-
--- as many items as entries
-pub length-items_by : {K V : Type 0} (item : K → V → Item) (es : List (K × V)) → length (items_by item es) ≡ length es
-length-items_by item [] = refl
-length-items_by item (e ∷ es) = ap suc (length-items_by item es)
-
--- as many items pass a test as values that they were made of
-passed_values : {K V : Type 0} (item : K → V → Item) (p : Item → Bool) (q : V → Bool) → ((k : K) (v : V) → p (item k v) ≡ q v) → (es : List (K × V)) → length (filter p (items_by item es)) ≡ length (filter q (values_of es))
-passed_values item p q h [] = refl
-passed_values item p q h (e ∷ es) =
-    let items = filter p (items_by item es) in
-    let values_left = filter q (values_of es) in
-    by_cases (q e.1)
-    (λ t. ap length (cond-true _ (item e.0 e.1 ∷ items) items (h e.0 e.1 ∙ t)) ∙ ap suc (passed_values item p q h es) ∙ sym (ap length (cond-true _ (e.1 ∷ values_left) values_left t)))
-    (λ f. ap length (cond-false _ (item e.0 e.1 ∷ items) items (h e.0 e.1 ∙ f)) ∙ passed_values item p q h es ∙ sym (ap length (cond-false _ (e.1 ∷ values_left) values_left f)))
-
--- silences alone are counted
-pub count_unexpired-whole : (moment : ℕ) (h : Inside) → count_by (λ (x : Item). is_unexpired_silence moment x.thing) (items_in h) ≡ count_by (λ (v : Stamped SilenceDetails). nat_lt moment v.value.ends_at) (values h.silences)
-unfolding items_in
-count_unexpired-whole moment h =
-    let p : Item → Bool = λ (x : Item). is_unexpired_silence moment x.thing in
-    let silences = items_by silence_item h.silences.entries in
-    sym (length-filter p (items_in h))
-    ∙ ap length (passed p (configuration_items h.configuration) silences (items_by alert_item h.alerts.entries) (items_by entry_item h.sent.entries)
-    [] (filter p silences) [] [] (no_configuration p (λ v. refl) h.configuration) refl (failed_by alert_item p (λ k v. refl) h.alerts.entries) (failed_by entry_item p (λ k v. refl) h.sent.entries)
-    ∙ append-nil (filter p silences))
-    ∙ passed_values silence_item p (λ (v : Stamped SilenceDetails). nat_lt moment v.value.ends_at) (λ k v. refl) h.silences.entries
-    ∙ length-filter (λ (v : Stamped SilenceDetails). nat_lt moment v.value.ends_at) (values h.silences)
-
--- a look-up that is mapped twice
-pub mapped_twice : {A B C : Type 0} (f : B → C) (g : A → B) (o : Option A) → option_map (λ x. f (g x)) o ≡ option_map f (option_map g o)
-mapped_twice f g None = refl
-mapped_twice f g (Some x) = refl

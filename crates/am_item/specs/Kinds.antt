@@ -1,5 +1,5 @@
 -- The items of one kind.
-use Rattle.std.specs.Prelude.{ℕ, Bool, true, false, List, filter, nat_lt}
+use Rattle.std.specs.Prelude.{Bool, true, false, List, filter}
 use Rattle.am_item.specs.declared.item.Item.{Item}
 use Rattle.am_item.specs.declared.item.Thing.{Thing}
 use Rattle.am_item.specs.declared.item.Thing.TheVariants.{Configuration, Silence, Alert, SentEntry}
@@ -24,13 +24,6 @@ is_sent_entry (SentEntry entry) = true
 is_sent_entry (Configuration text) = false
 is_sent_entry (Silence silence) = false
 is_sent_entry (Alert alert) = false
-
--- the thing is a silence that ends after the moment
-abbrev pub is_unexpired_silence : ℕ → Thing → Bool
-is_unexpired_silence moment (Silence silence) = nat_lt moment silence.ends_at
-is_unexpired_silence moment (Configuration text) = false
-is_unexpired_silence moment (Alert alert) = false
-is_unexpired_silence moment (SentEntry entry) = false
 
 -- the silences, alerts and sent entries of a list, in its order
 abbrev pub silences_of : List Item → List Item

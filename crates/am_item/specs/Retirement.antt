@@ -1,11 +1,17 @@
 -- When things retire.
-use Rattle.std.specs.Prelude.{ℕ, Bool, false, ◌+◌, ◌*◌, min, max, nat_le, Option, Some, None}
+use Rattle.std.specs.Prelude.{ℕ, Bool, false, ◌+◌, ◌*◌, min, max, nat_le, Option, Some, None, if◌then◌else◌}
 use Rattle.std.specs.Option.{option_map_or}
+use Rattle.std.specs.Ordering.{is_gt}
 use Rattle.am_text.specs.Moment.{greatest_moment}
+use Rattle.am_item.specs.Stamp.{stamp_cmp}
+use Rattle.am_item.specs.declared.held.Put.{Put}
+use Rattle.am_item.specs.declared.held.Put.TheVariants.{New, Older, Replaced}
 use Rattle.am_item.specs.declared.held.Standing.{Standing}
 use Rattle.am_item.specs.declared.item.Item.{Item}
 use Rattle.am_item.specs.declared.item.Thing.{Thing}
 use Rattle.am_item.specs.declared.item.Thing.TheVariants.{Configuration, Silence, Alert, SentEntry}
+use Rattle.am_item.specs.declared.stamp.Stamp.{Stamp}
+use Rattle.am_item.specs.declared.stamp.Stamped.{Stamped}
 
 -- the milliseconds of an hour
 abbrev pub hour : ℕ
@@ -34,3 +40,12 @@ is_retired moment item = option_map_or (λ at. nat_le at moment) (retires_at ite
 -- the stamp of an item, and from when on it is retired
 abbrev pub standing_of : Item → Standing
 standing_of item = record { stamp = item.stamp; retires_at = retires_at item }
+
+-- the same of what is held of it beside its key, where that tells from when on it is retired
+abbrev pub held_standing : {V : Type 0} → (ℕ → V → ℕ) → Stamped V → Standing
+held_standing retires held = record { stamp = held.stamp; retires_at = Some (retires held.stamp.moment held.value) }
+
+-- what a put of an item with the stamp does, where this stands at the item's key
+abbrev pub put_over : Option Standing → Stamp → Put
+put_over None stamp = New
+put_over (Some old) stamp = if is_gt (stamp_cmp stamp old.stamp) then Replaced old else Older

@@ -1,5 +1,5 @@
-ghost use Rattle.std.specs.Prelude.{◌≡◌, ◌++◌, ℕ, List, [], None, count_by, nat_lt, OnErr, OnOk, if◌then◌else◌};
-ghost use Rattle.std.specs.BTreeMap.{IsOrdered, IsUnchanged, get, is_at, values};
+ghost use Rattle.std.specs.Prelude.{◌≡◌, ◌++◌, ℕ, List, [], None, IfOk, OnErr, OnOk, if◌then◌else◌};
+ghost use Rattle.std.specs.BTreeMap.{IsOrdered, IsUnchanged, get, is_at};
 ghost use Rattle.std.specs.Cmp.Lexicographic.{slice_cmp};
 ghost use Rattle.std.specs.Option.{option_copied, option_map};
 ghost use Rattle.std.specs.Ordering.{nat_cmp};
@@ -8,14 +8,13 @@ ghost use Rattle.am_labels.specs.Labels.{labels_cmp};
 ghost use Rattle.am_item.specs.EntryKey.{entry_cmp};
 ghost use Rattle.std.specs.Map.{remove_entry};
 ghost use Rattle.am_item.specs.Held.{alert_item, configuration_item, entry_item, items_by, silence_item};
-ghost use Rattle.am_item.specs.Kinds.{is_unexpired_silence};
 ghost use Rattle.am_item.specs.Newest.{newer, newest};
-ghost use Rattle.am_item.specs.Retirement.{standing_of};
+ghost use Rattle.am_item.specs.Retirement.{held_standing, put_over, standing_of};
 
 use crate::entry::{EntryDetails, EntryKey};
 use crate::item::{AlertDetails, Item, Thing};
 use crate::key::ThingKey;
-use crate::retirement::{alert_retires_at, entry_retires_at, silence_retires_at};
+use crate::retirement::Retiring;
 use crate::silence::{SilenceDetails, SilenceId};
 use crate::stamp::{Stamp, Stamped};
 use am_labels::LabelSet;
@@ -32,6 +31,17 @@ pub struct Standing {
     pub stamp: Stamp,
     /// From when on it is retired; `None` for a configuration, which never is.
     pub retires_at: Option<Moment>,
+}
+
+/// What a put did.
+#[derive(Clone, Copy, Debug)]
+pub enum Put {
+    /// No item of its key was held: it is held now.
+    New,
+    /// It took the place of one with a smaller stamp, of which this stood.
+    Replaced(Standing),
+    /// One whose stamp is no smaller was held, and stays.
+    Older,
 }
 
 /// What is held of one tenant: of each key the item with the greatest stamp, kind by kind, each kind in the
@@ -74,7 +84,7 @@ impl Model for Held {
 }
 
 impl Held {
-    ghost use Rattle.std.specs.Prelude.{filter, length, not};
+    ghost use Rattle.std.specs.Prelude.{filter, not};
     ghost use Rattle.am_item.specs.Best.{IsRising, item_at, joined, merged};
     ghost use Rattle.am_item.specs.Held.{configuration_items};
     ghost use Rattle.am_item.specs.Key.{AlertKey, ConfigurationKey, SentEntryKey, SilenceKey, has_key, key_of};
@@ -130,33 +140,6 @@ impl Held {
         &self.alerts
     }
 
-    /// How many alerts are held.
-    pub fn count_alerts(&self) -> usize
-        ensures { result ≡ length (alerts_of self.now) }
-    {
-        self.alerts.len()
-    }
-
-    /// How many silences are held that end after the moment.
-    pub fn count_unexpired(&self, moment: Moment) -> usize
-        ensures { result ≡ count_by (λ item. is_unexpired_silence moment item.thing) self.now }
-    {
-        count_unexpired(&self.silences, moment)
-    }
-
-    /// What stands at a key: the stamp of its item and from when on that is retired, where one is held.
-    pub fn standing(&self, key: &ThingKey) -> Option<Standing>
-        ensures standing { result ≡ option_map standing_of (item_at key.now self.now) }
-        ensures rising { IsRising self.now }
-    {
-        match key {
-            ThingKey::Configuration => configuration_standing(&self.configuration),
-            ThingKey::Silence(id) => silence_standing(&self.silences, id),
-            ThingKey::Alert(labels) => alert_standing(&self.alerts, labels),
-            ThingKey::SentEntry(key) => entry_standing(&self.sent, key),
-        }
-    }
-
     /// Removes the item of a key, where one is held. It takes no memory.
     pub fn remove(&mut self, key: &ThingKey)
         ensures { self.new ≡ filter (λ item. not (has_key key.now item)) self.old }
@@ -169,18 +152,21 @@ impl Held {
         }
     }
 
-    /// Puts an item: it takes its key's place, unless an item of that key is held whose stamp is no smaller. An
-    /// error, which is out of memory, leaves all items as they were; it comes only where no item of that key is held.
-    pub fn put(&mut self, item: Item) -> Result<(), AllocError>
+    /// Puts an item: it takes its key's place, unless an item of that key is held whose stamp is no smaller. Answers
+    /// which of these it was. An error, which is out of memory, leaves all items as they were; it comes only where no
+    /// item of that key is held.
+    pub fn put(&mut self, item: Item) -> Result<Put, AllocError>
         ensures joined { OnOk result (self.new ≡ joined self.old item) }
+        ensures put { IfOk result (λ put. put ≡ put_over (option_map standing_of (item_at (key_of item) self.old)) item.stamp) }
         ensures err { OnErr result (self.new ≡ self.old) }
         ensures absent { OnErr result (item_at (key_of item) self.old ≡ None) }
+        ensures rising { IsRising self.old }
     {
         let Item { stamp, thing } = item;
         match thing {
             Thing::Configuration(value) => {
-                put_configuration(&mut self.configuration, Stamped { stamp, value });
-                Ok(())
+                let configuration = Stamped { stamp, value };
+                Ok(put_configuration(&mut self.configuration, configuration))
             }
             Thing::Silence(silence) => {
                 let (id, value) = silence.into_parts();
@@ -216,84 +202,6 @@ impl Held {
     }
 }
 
-// What stands of a configuration.
-#[tactic(auto, unfolding(crate::specs::Retirement::retires_at))]
-fn configuration_standing(held: &Option<Stamped<Option<Text>>>) -> Option<Standing>
-    ensures { result ≡ option_map (λ stamped. standing_of (configuration_item stamped)) held.now }
-{
-    match held {
-        None => None,
-        Some(held) => Some(Standing {
-            stamp: held.stamp,
-            retires_at: None,
-        }),
-    }
-}
-
-// What stands of the silence of an identifier.
-#[tactic(auto, unfolding(crate::specs::Retirement::retires_at))]
-fn silence_standing(
-    held: &BTreeMap<SilenceId, Stamped<SilenceDetails>>,
-    id: &SilenceId,
-) -> Option<Standing>
-    ensures { result ≡ option_map (λ stamped. standing_of (silence_item id.now stamped)) (get (slice_cmp nat_cmp) held.now id.now) }
-{
-    match held.get(id) {
-        None => None,
-        Some(held) => Some(Standing {
-            stamp: held.stamp,
-            retires_at: Some(silence_retires_at(held.value.kept_until)),
-        }),
-    }
-}
-
-// What stands of the alert of a label set.
-#[tactic(auto, unfolding(crate::specs::Retirement::retires_at))]
-fn alert_standing(
-    held: &BTreeMap<LabelSet, Stamped<AlertDetails>>,
-    labels: &LabelSet,
-) -> Option<Standing>
-    ensures { result ≡ option_map (λ stamped. standing_of (alert_item labels.now stamped)) (get labels_cmp held.now labels.now) }
-{
-    match held.get(labels) {
-        None => None,
-        Some(held) => Some(Standing {
-            stamp: held.stamp,
-            retires_at: Some(alert_retires_at(held.value.ends_at, held.stamp.moment)),
-        }),
-    }
-}
-
-// What stands of the sent entry of a key.
-#[tactic(auto, unfolding(crate::specs::Retirement::retires_at))]
-fn entry_standing(
-    held: &BTreeMap<EntryKey, Stamped<EntryDetails>>,
-    key: &EntryKey,
-) -> Option<Standing>
-    ensures { result ≡ option_map (λ stamped. standing_of (entry_item key.now stamped)) (get entry_cmp held.now key.now) }
-{
-    match held.get(key) {
-        None => None,
-        Some(held) => Some(Standing {
-            stamp: held.stamp,
-            retires_at: Some(entry_retires_at(held.value.ends_at)),
-        }),
-    }
-}
-
-// How many of the silences end after the moment.
-fn count_unexpired(silences: &BTreeMap<SilenceId, Stamped<SilenceDetails>>, moment: Moment) -> usize
-    ensures { result ≡ count_by (λ held. nat_lt moment held.value.ends_at) (values silences.now) }
-{
-    let mut count = 0;
-    for (_, held) in silences {
-        if held.value.ends_at > moment {
-            count += 1;
-        }
-    }
-    count
-}
-
 // Removes what is held under a key.
 fn remove_key<K: Ord + Drop, V: Drop>(held: &mut BTreeMap<K, V>, key: &K)
     ensures entries { held.new.entries ≡ remove_entry (is_at (K.cmp key.now)) held.old.entries }
@@ -310,23 +218,40 @@ fn remove_configuration(held: &mut Option<Stamped<Option<Text>>>)
 }
 
 // Puts a configuration, unless one is held whose stamp is no smaller.
-fn put_configuration(held: &mut Option<Stamped<Option<Text>>>, configuration: Stamped<Option<Text>>)
-    ensures { held.new ≡ newest held.old configuration }
+#[tactic(auto, unfolding(crate::specs::Retirement::retires_at))]
+fn put_configuration(
+    held: &mut Option<Stamped<Option<Text>>>,
+    configuration: Stamped<Option<Text>>,
+) -> Put
+    ensures held { held.new ≡ newest held.old configuration }
+    ensures put { result ≡ put_over (option_map (λ stamped. standing_of (configuration_item stamped)) held.old) configuration.stamp }
 {
     match held {
-        Some(other) if !configuration.stamp.exceeds(&other.stamp) => {}
-        _ => *held = Some(configuration),
+        None => {
+            *held = Some(configuration);
+            Put::New
+        }
+        Some(old) if configuration.stamp.exceeds(&old.stamp) => {
+            let old = Standing {
+                stamp: old.stamp,
+                retires_at: None,
+            };
+            *held = Some(configuration);
+            Put::Replaced(old)
+        }
+        Some(_) => Put::Older,
     }
 }
 
 // Puts a value under its key, unless one is held there whose stamp is no smaller.
-fn put_newest<K: Ord + Drop, V: Drop>(
+fn put_newest<K: Ord + Drop, V: Retiring + Drop>(
     held: &mut BTreeMap<K, Stamped<V>>,
     key: K,
     value: Stamped<V>,
-) -> Result<(), AllocError>
+) -> Result<Put, AllocError>
     requires { IsOrdered K.cmp held.old }
-    ensures put { OnOk result ((q : K) → get K.cmp held.new q ≡ (if is_at (K.cmp key) q then newest (get K.cmp held.old q) value else get K.cmp held.old q)) }
+    ensures put { IfOk result (λ put. put ≡ put_over (option_map (held_standing V.retires) (get K.cmp held.old key)) value.stamp) }
+    ensures newest { OnOk result ((q : K) → get K.cmp held.new q ≡ (if is_at (K.cmp key) q then newest (get K.cmp held.old q) value else get K.cmp held.old q)) }
     ensures err { OnErr result (IsUnchanged held.old held.new) }
     ensures absent { OnErr result (get K.cmp held.old key ≡ None) }
     ensures ordered { IsOrdered K.cmp held.new }
@@ -334,14 +259,17 @@ fn put_newest<K: Ord + Drop, V: Drop>(
     match held.entry(key)? {
         Entry::Vacant(place) => {
             place.insert(value);
+            Ok(Put::New)
         }
         Entry::Occupied(mut place) => {
             if value.stamp.exceeds(&place.get().stamp) {
-                place.insert(value);
+                let old = place.insert(value);
+                Ok(Put::Replaced(old.standing()))
+            } else {
+                Ok(Put::Older)
             }
         }
     }
-    Ok(())
 }
 
 // Puts another configuration, where there is one.
@@ -357,7 +285,7 @@ fn merge_configuration(
 }
 
 // Puts other values under their keys.
-fn merge_newest<K: Ord + Drop, V: Drop>(
+fn merge_newest<K: Ord + Drop, V: Retiring + Drop>(
     held: &mut BTreeMap<K, Stamped<V>>,
     others: BTreeMap<K, Stamped<V>>,
 ) -> Result<(), AllocError>

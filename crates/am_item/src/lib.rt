@@ -17,7 +17,7 @@ mod stamp;
 pub use counts::{Counts, GREATEST_COUNT};
 pub use entry::{EntryDetails, EntryKey, SentEntry};
 pub use fault::Fault;
-pub use held::{Held, Standing};
+pub use held::{Held, Put, Standing};
 pub use item::{Alert, AlertDetails, Item, Thing};
 pub use key::ThingKey;
 pub use label_sets::LabelSets;

@@ -95,12 +95,11 @@ fn alerts_told(alloc: Global, held: &Held) -> Result<String, AllocError> {
     Ok(told)
 }
 
-// How much is held of each other kind, and how many silences haven't expired at the moment.
-fn counts_told(alloc: Global, held: &Held, moment: Moment) -> Result<String, AllocError> {
+// How much is held of each other kind.
+fn counts_told(alloc: Global, held: &Held) -> Result<String, AllocError> {
     let configured = held.configuration().is_some();
     let (sent, silences) = (held.sent_entries().len(), held.silences().len());
-    let unexpired = held.count_unexpired(moment);
-    format!(in alloc; "{configured} {sent} {silences} {unexpired}")
+    format!(in alloc; "{configured} {sent} {silences}")
 }
 
 const THINGS: [(&str, u64); 8] = [
@@ -117,9 +116,8 @@ const THINGS: [(&str, u64); 8] = [
 #[test]
 fn of_each_key_the_greater_stamp_stays(rt: HostRuntime) -> Result<(), Fail> {
     let held = held_of(rt.alloc(), THINGS.as_slice())?;
-    let moment = Moment::from_milliseconds(5).ok_or("no moment")?;
-    let counts = counts_told(rt.alloc(), &held, moment)?;
-    assert_eq!(rt; counts.as_str(), "true 1 2 1");
+    let counts = counts_told(rt.alloc(), &held)?;
+    assert_eq!(rt; counts.as_str(), "true 1 2");
     let alerts = alerts_told(rt.alloc(), &held)?;
     assert_eq!(rt; alerts.as_str(), "a1 6;a2 5;");
     Ok(())

@@ -83,37 +83,20 @@ follows_open v w w' c i up reading same f = rw (sym (f.roster.up i) ∙ up) (rec
   roster = roster_then _ _ _ same f.roster;
 })
 
-pub kept_open : (w w' : World) (c i : ℕ) → up_at i w.instances ≡ true →
-    (IsReadOnce c w.instances → (d j : ℕ) → bytes_at d j w'.instances ≡ (if d == c then (if j == i then Some [] else None) else bytes_at d j w.instances)) →
-    SameParts w w' → put_out w' ≡ put_out w → fault_count w' ≡ fault_count w → Kept w (Open c i) w'
-unfolding adds front_told
-kept_open w w' c i up reading same outputs faults = record {
-  follows = λ v f. follows_open v w w' c i up reading same.roster f;
-  outs = [];
-  appended = outputs ∙ sym (append-nil (put_out w));
-  tenants = λ t v p given. inl (record { stands = stands_same t w w' p same given.stands; told = λ u later. refl; fits = refl; built = tt });
-  front = λ v f u later. refl;
-  owned = λ v f u later. refl;
-  roster = same.roster;
-  clock = same.clock;
-  limits = λ t. ap (limits_of t) same.limits;
-  service_key = same.service_key;
-  refused = λ i. adds_none [] _ _ (same.refused i);
-  faults = faults;
-}
-
--- an event that adds nothing to any view, and is no change to what is known of any world
-pub kept_nothing : (w : World) (e : Event) → ((v : Watch) → Follows v w → watch v e ≡ v) →
+-- An event that changes nothing of what a world has of any tenant, is nothing to any cluster and puts nothing out. What is
+-- read may change.
+pub kept_quiet : (w w' : World) (e : Event) → ((v : Watch) → Follows v w → Follows (watch v e) w') →
     ((t : List ℕ) (v : Watch) (p : PrivateCluster) → Premises t v p w →
     (after_all p (adds t v e) ≡ p) × (told_all p (adds t v e) ≡ []) × (fits_all p (adds t v e) ≡ true) × AreAllBuilt p (adds t v e)) →
-    ((v : Watch) → Follows v w → front_told v e ≡ []) → IsSameRoster (roster_of w.instances) (roster_after e (roster_of w.instances)) →
-    w.clock ≡ clock_after e w.clock → ((t : List ℕ) (limits : limit.Limits) → limits ≡ limits_after e t limits) → Kept w e w
-kept_nothing w e unchanged nothing unsaid roster clock limits = record {
-  follows = λ v f. rw (unchanged v f) f;
+    ((v : Watch) → Follows v w → front_told v e ≡ []) → IsSameRoster (roster_of w'.instances) (roster_after e (roster_of w.instances)) →
+    w'.clock ≡ clock_after e w.clock → ((t : List ℕ) → limits_of t w'.limits ≡ limits_after e t (limits_of t w.limits)) →
+    SameParts w w' → put_out w' ≡ put_out w → fault_count w' ≡ fault_count w → Kept w e w'
+kept_quiet w w' e follows nothing unsaid roster clock limits same outputs faults = record {
+  follows = follows;
   outs = [];
-  appended = sym (append-nil (put_out w));
+  appended = outputs ∙ sym (append-nil (put_out w));
   tenants = λ t v p given. inl (record {
-    stands = rw ((nothing t v p given).0) given.stands;
+    stands = rw ((nothing t v p given).0) (stands_same t w w' p same given.stands);
     told = λ u later. sym ((nothing t v p given).1);
     fits = (nothing t v p given).2;
     built = (nothing t v p given).3;
@@ -122,11 +105,27 @@ kept_nothing w e unchanged nothing unsaid roster clock limits = record {
   owned = λ v f u later. refl;
   roster = roster;
   clock = clock;
-  limits = λ t. limits t (limits_of t w.limits);
-  service_key = refl;
-  refused = λ i. adds_none (asked_at w e i) _ _ refl;
-  faults = refl;
+  limits = limits;
+  service_key = same.service_key;
+  refused = λ i. adds_none (asked_at w e i) _ _ (same.refused i);
+  faults = faults;
 }
+
+pub kept_open : (w w' : World) (c i : ℕ) → up_at i w.instances ≡ true →
+    (IsReadOnce c w.instances → (d j : ℕ) → bytes_at d j w'.instances ≡ (if d == c then (if j == i then Some [] else None) else bytes_at d j w.instances)) →
+    SameParts w w' → put_out w' ≡ put_out w → fault_count w' ≡ fault_count w → Kept w (Open c i) w'
+unfolding watch adds front_told
+kept_open w w' c i up reading same = kept_quiet w w' (Open c i) (λ v f. follows_open v w w' c i up reading same.roster f)
+    (λ t v p given. (refl, refl, refl, tt)) (λ v f. refl) same.roster same.clock (λ t. ap (limits_of t) same.limits) same
+
+-- an event that adds nothing to any view, and is no change to what is known of any world
+pub kept_nothing : (w : World) (e : Event) → ((v : Watch) → Follows v w → watch v e ≡ v) →
+    ((t : List ℕ) (v : Watch) (p : PrivateCluster) → Premises t v p w →
+    (after_all p (adds t v e) ≡ p) × (told_all p (adds t v e) ≡ []) × (fits_all p (adds t v e) ≡ true) × AreAllBuilt p (adds t v e)) →
+    ((v : Watch) → Follows v w → front_told v e ≡ []) → IsSameRoster (roster_of w.instances) (roster_after e (roster_of w.instances)) →
+    w.clock ≡ clock_after e w.clock → ((t : List ℕ) (limits : limit.Limits) → limits ≡ limits_after e t limits) → Kept w e w
+kept_nothing w e unchanged nothing unsaid roster clock limits = kept_quiet w w e (λ v f. rw (unchanged v f) f) nothing unsaid roster clock
+    (λ t. limits t (limits_of t w.limits)) (same_itself w) refl refl
 
 pub kept_not_up : (w : World) (c i : ℕ) → up_at i w.instances ≡ false → Kept w (Open c i) w
 unfolding watch adds front_told

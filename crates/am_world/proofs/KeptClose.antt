@@ -1,6 +1,5 @@
 -- a client that left keeps the simulation
 use Rattle.std.proofs.Common.{◌≡◌, ◌∙◌, inl, inr, ℕ, ◌==◌, nat_eq, List, [], ◌∷◌, Option, None, Some, refl, sym, ap, arith, if◌then◌else◌}
-use Rattle.std.proofs.lemmas.List.{append-nil}
 use Rattle.std.proofs.lemmas.Bool.{cases_Bool}
 use Rattle.std.proofs.lemmas.Bool.Decides.{nat_tests}
 use Rattle.am_limit.specs.Books.{limits_of}
@@ -10,8 +9,7 @@ use Rattle.am_world.specs.Outputs.{front_told}
 use Rattle.am_world.specs.Places.{bytes_at, roster_of}
 use Rattle.am_world.specs.Simulation.{Follows, Kept, bytes_read, fault_count, put_out}
 use Rattle.am_world.specs.View.{AskedAs, FrontAnswered, Reading, Seen, Shut, Table, Watch, adds, left, look, watch}
-use Rattle.am_world.proofs.Built.{adds_none}
-use Rattle.am_world.proofs.Kept.{SameParts, kept_nothing, roster_then, same_again, stands_same}
+use Rattle.am_world.proofs.Kept.{SameParts, kept_nothing, kept_quiet, roster_then, same_again}
 use Rattle.am_world.proofs.KeptBytes.{read_itself, seen_reading, unread_anywhere}
 
 -- a connection that no instance reads is left as it is
@@ -59,22 +57,11 @@ pub kept_close : (w w' : World) (n c : ℕ) (before : List ℕ) → bytes_at c n
     ((d j : ℕ) → bytes_at d j w'.instances ≡ (if j == n then (if d == c then None else bytes_at d j w.instances) else bytes_at d j w.instances)) →
     SameParts w w' → put_out w' ≡ put_out w → fault_count w' ≡ fault_count w → Kept w (Close c) w'
 unfolding watch adds front_told
-kept_close w w' n c before here reading same outputs faults = record {
-  follows = λ v f.
+kept_close w w' n c before here reading same = kept_quiet w w' (Close c)
+    (λ v f.
       let seen = seen_reading v w n c before f here in
       rw seen (record {
         reading = λ d j. shut_at d c j n v before _ _ (reading d j) (f.reading d j) seen;
         roster = roster_then _ _ _ same.roster f.roster;
-      });
-  outs = [];
-  appended = outputs ∙ sym (append-nil (put_out w));
-  tenants = λ t v p given. inl (record { stands = stands_same t w w' p same given.stands; told = λ u later. refl; fits = refl; built = tt });
-  front = λ v f u later. refl;
-  owned = λ v f u later. refl;
-  roster = same.roster;
-  clock = same.clock;
-  limits = λ t. ap (limits_of t) same.limits;
-  service_key = same.service_key;
-  refused = λ i. adds_none [] _ _ (same.refused i);
-  faults = faults;
-}
+      }))
+    (λ t v p given. (refl, refl, refl, tt)) (λ v f. refl) same.roster same.clock (λ t. ap (limits_of t) same.limits) same

@@ -1,38 +1,35 @@
-use Rattle.std.proofs.Common.{OnOk, ap, cond, false, subst, sym, true, ◌≡◌, ◌∙◌}
-use Rattle.std.specs.Ordering.{is_gt}
-use Rattle.am_item.specs.Best.{item_at}
-use Rattle.am_item.specs.Key.{exceeds}
-use Rattle.am_item.specs.Retirement.{standing_of}
-use Rattle.am_item.specs.Stamp.{stamp_cmp}
-use Rattle.am_item.specs.declared.held.Standing.{Standing}
-use Rattle.am_item.proofs.Joining.{joined_stays}
-use Rattle.am_book.specs.Row.{has_row, is_row_of}
-use Rattle.am_book.specs.declared.row.Row.{Row}
-use Rattle.am_book.proofs.RowLemmas.{none_stands, some_stands}
-use Rattle.am_book.proofs.Told.{told_after_adding, told_after_replacing}
+use Rattle.std.proofs.Common.{sym, ◌∙◌}
+use Rattle.am_book.specs.Row.{has_row}
+use Rattle.am_book.proofs.Putting.{told_again, told_in_place, told_new, told_older, told_refused}
 use Rattle.am_book.proofs.book.put_in.Goals as goal
 
-pub returns-in_ok-add-in-None-clause-told : goal.returns-in_ok-add-in-None-clause-told
-returns-in_ok-add-in-None-clause-told c =
-    let key = c.in_ok-key.key in
-    told_after_adding c.args.tenant.now key c.args.item c.args.held.now c.add.new.held c.in-None.ensures.rising (sym c.in_ok-key.ensures) (has_row c.args.rows.now) (has_row c.add.new.rows) c.requires
-    c.add.result (none_stands (item_at key c.args.held.now) c.in-None.ensures.standing) c.add.ensures.joined c.add.ensures.err c.add.ensures.row c.add.ensures.rows
+pub returns-in-Ok-New-clause-told : goal.returns-in-Ok-New-clause-told
+returns-in-Ok-New-clause-told c =
+    told_new c.args.tenant.now c.args.item c.in_ok-key.key c.in_ok-own.own c.standing-standing.result c.in_ok-key.ensures c.in_ok-own.ensures c.standing-standing.ensures
+    c.args.held.now c.put.new.self c.put.ensures.rising (has_row c.args.rows.now) (has_row c.remember.new.rows) c.requires c.in_ok-added.ensures.row
+    (sym c.in-Ok-New.field-0-is ∙ c.in-Ok-New.ensures.put) c.in-Ok-New.ensures.joined
 
-pub returns-in_ok-replace-in-Some-clause-told : goal.returns-in_ok-replace-in-Some-clause-told
-returns-in_ok-replace-in-Some-clause-told c =
-    let key = c.in_ok-key.key in
-    let t = c.args.tenant.now in
-    let stood = some_stands c.in-Some.old (item_at key c.args.held.now) c.in-Some.ensures.standing in
-    let greater : exceeds c.args.item stood.item ≡ true =
-    ap (λ (s : Standing). is_gt (stamp_cmp c.args.item.stamp s.stamp)) (sym stood.is) ∙ sym c.exceeds.ensures ∙ c.if-exceeds.true in
-    told_after_replacing t key c.args.item c.args.held.now c.replace.new.held c.in-Some.ensures.rising (sym c.in_ok-key.ensures) (has_row c.args.rows.now) (has_row c.replace.new.rows) c.requires
-    c.replace.result stood.item stood.found greater c.replace.ensures.joined c.replace.ensures.err
-    (subst (λ (s : Standing). OnOk c.replace.result ((row : Row) → has_row c.replace.new.rows row ≡ cond (is_row_of t key s row) false (cond (is_row_of t key (standing_of c.args.item) row) true (has_row c.args.rows.now row)))) stood.is c.replace.ensures.row)
-    c.replace.ensures.rows
+pub returns-in-Ok-Replaced-clause-told : goal.returns-in-Ok-Replaced-clause-told
+returns-in-Ok-Replaced-clause-told c =
+    told_in_place c.args.tenant.now c.args.item c.in_ok-key.key c.in_ok-own.own c.standing-standing.result c.in_ok-key.ensures c.in_ok-own.ensures c.standing-standing.ensures
+    c.args.held.now c.put.new.self c.put.ensures.rising (has_row c.args.rows.now) (has_row c.remember.new.rows) c.requires c.in_ok-added.ensures.row
+    (has_row c.forget.new.rows) c.in-Ok-Replaced.old (sym c.in-Ok-Replaced.field-0-is ∙ c.in-Ok-Replaced.ensures.put) c.in-Ok-Replaced.ensures.joined c.forget.ensures
 
-pub returns-in-Some-2-clause-joined : goal.returns-in-Some-2-clause-joined
-returns-in-Some-2-clause-joined c =
-    let stood = some_stands c.in-Some.old (item_at c.in_ok-key.key c.args.held.now) c.in-Some.ensures.standing in
-    let no_greater : exceeds c.args.item stood.item ≡ false =
-    ap (λ (s : Standing). is_gt (stamp_cmp c.args.item.stamp s.stamp)) (sym stood.is) ∙ sym c.exceeds.ensures ∙ c.if-exceeds.false in
-    sym (joined_stays c.args.held.now stood.item c.args.item c.in-Some.ensures.rising (ap (λ k. item_at k c.args.held.now) (sym c.in_ok-key.ensures) ∙ stood.found) no_greater)
+pub returns-then-added-clause-told : goal.returns-then-added-clause-told
+returns-then-added-clause-told c =
+    told_older c.args.tenant.now c.args.item c.in_ok-key.key c.in_ok-own.own c.standing-standing.result c.in_ok-key.ensures c.in_ok-own.ensures c.standing-standing.ensures
+    c.args.held.now c.put.new.self c.put.ensures.rising (has_row c.args.rows.now) (has_row c.remember.new.rows) c.requires c.in_ok-added.ensures.row
+    (sym c.in-Ok-Older.field-0-is ∙ c.in-Ok-Older.ensures.put) c.in-Ok-Older.ensures.joined c.in_ok-added.added c.in_ok-added.ensures.added
+    (has_row c.forget-then-added.new.rows) c.if-added.true c.forget-then-added.ensures
+
+pub returns-else-added-clause-told : goal.returns-else-added-clause-told
+returns-else-added-clause-told c =
+    told_again c.args.tenant.now c.args.item c.in_ok-key.key c.in_ok-own.own c.standing-standing.result c.in_ok-key.ensures c.in_ok-own.ensures c.standing-standing.ensures
+    c.args.held.now c.put.new.self c.put.ensures.rising (has_row c.args.rows.now) (has_row c.remember.new.rows) c.requires c.in_ok-added.ensures.row
+    (sym c.in-Ok-Older.field-0-is ∙ c.in-Ok-Older.ensures.put) c.in-Ok-Older.ensures.joined c.in_ok-added.added c.in_ok-added.ensures.added c.if-added.false
+
+pub returns-in-Err-clause-told : goal.returns-in-Err-clause-told
+returns-in-Err-clause-told c =
+    told_refused c.args.tenant.now c.args.item c.in_ok-key.key c.in_ok-own.own c.standing-standing.result c.in_ok-key.ensures c.in_ok-own.ensures c.standing-standing.ensures
+    c.args.held.now c.put.new.self c.put.ensures.rising (has_row c.args.rows.now) (has_row c.remember.new.rows) c.requires c.in_ok-added.ensures.row
+    (has_row c.forget-in-Err.new.rows) c.in-Err.ensures.absent c.in-Err.ensures.err c.forget-in-Err.ensures

@@ -15,7 +15,7 @@ loop-key-preserved g c =
     record {
       merged = λ q.
           merged_next g.met.K.Ord.total (λ p. get cmp c.loop-key.held p) (λ p. get cmp c.put_newest.new.held p) c.in-Some.key c.in-Some.other c.next.new.self rising
-          c.in_ok-put_newest.ensures.put q
+          c.in_ok-put_newest.ensures.newest q
           ∙ ap (λ es. newer (get cmp c.loop-key.held q) (lookup (is_at (cmp q)) es)) (sym first)
           ∙ c.loop-key.invariant.merged q;
       rising = rising.1;
