@@ -66,11 +66,19 @@ fn held(alloc: Global, members: usize) -> Result<Held> {
     for number in 0..members {
         let labels = alert_labels(alloc, number)?;
         told.push(labels.copy()?)?;
-        held.put(item(Thing::Alert(alert(alloc, number, labels)?)))?;
+        hold(&mut held, Thing::Alert(alert(alloc, number, labels)?))?;
     }
     let firing = LabelSets::from_rising(told).context("the label sets don't rise")?;
-    held.put(item(Thing::SentEntry(sent_entry(alloc, firing)?)))?;
+    hold(&mut held, Thing::SentEntry(sent_entry(alloc, firing)?))?;
     Ok(held)
+}
+
+// Puts a thing, whatever it replaces.
+fn hold(held: &mut Held, thing: Thing) -> Result<()> {
+    match held.put(item(thing)) {
+        Ok(_) => Ok(()),
+        Err(refused) => Err(refused.into()),
+    }
 }
 
 fn item(thing: Thing) -> Item {

@@ -75,11 +75,19 @@ fn item(alloc: Global, name: &str, milliseconds: u64) -> Result<Item, Fail> {
     Ok(Item { stamp, thing })
 }
 
+// Puts an item, whatever it replaces.
+fn hold(held: &mut Held, item: Item) -> Result<(), AllocError> {
+    match held.put(item) {
+        Ok(_) => Ok(()),
+        Err(refused) => Err(refused),
+    }
+}
+
 // What is held of things that were written at moments.
 fn held_of(alloc: Global, things: &[(&str, u64)]) -> Result<Held, Fail> {
     let mut held = Held::new(alloc);
     for (name, moment) in things {
-        held.put(item(alloc, name, *moment)?)?;
+        hold(&mut held, item(alloc, name, *moment)?)?;
     }
     Ok(held)
 }

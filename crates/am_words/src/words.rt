@@ -179,8 +179,10 @@ mod tests {
             comment: Text::read(alloc, "")?,
             matchers: Matchers::from_vec(Vec::new(alloc)),
         });
-        held.put(Item { stamp, thing })?;
-        Ok(())
+        match held.put(Item { stamp, thing }) {
+            Ok(_) => Ok(()),
+            Err(refused) => Err(refused.into()),
+        }
     }
 
     #[test]

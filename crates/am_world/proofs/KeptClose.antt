@@ -59,9 +59,9 @@ pub kept_close : (w w' : World) (n c : ℕ) (before : List ℕ) → bytes_at c n
 unfolding watch adds front_told
 kept_close w w' n c before here reading same = kept_quiet w w' (Close c)
     (λ v f.
-      let seen = seen_reading v w n c before f here in
-      rw seen (record {
-        reading = λ d j. shut_at d c j n v before _ _ (reading d j) (f.reading d j) seen;
-        roster = roster_then _ _ _ same.roster f.roster;
-      }))
+    let seen = seen_reading v w n c before f here in
+    rw seen (record {
+      reading = λ d j. shut_at d c j n v before _ _ (reading d j) (f.reading d j) seen;
+      roster = roster_then _ _ _ same.roster f.roster;
+    }))
     (λ t v p given. (refl, refl, refl, tt)) (λ v f. refl) same.roster same.clock (λ t. ap (limits_of t) same.limits) same

@@ -59,8 +59,10 @@ fn held(alloc: Global, from: u8, until: u8) -> Result<Held, Fail> {
     };
     let thing = Thing::Silence(silence(alloc, from, until)?);
     let mut held = Held::new(alloc);
-    held.put(Item { stamp, thing })?;
-    Ok(held)
+    match held.put(Item { stamp, thing }) {
+        Ok(_) => Ok(held),
+        Err(refused) => Err(refused.into()),
+    }
 }
 
 // A write as a text: its moment, then the silence's number, start, end, kept end and author.
