@@ -1,5 +1,5 @@
 -- What a scenario came to of which a stream or the memory failed.
-use Rattle.std.proofs.Common.{◌≡◌, ℕ, List, [], ◌++◌, Option, None, Some, IfSome, refl, sym, ◌∙◌, inl, inr, append-nil}
+use Rattle.std.proofs.Common.{◌≡◌, ℕ, List, [], ◌++◌, Option, None, Some, IfSome, refl, ◌∙◌, inl, inr, append-nil}
 use Rattle.std.proofs.lemmas.List.Concat.{flat_map-append}
 use Rattle.std.specs.Io.KnownBytes.{Appends}
 use Rattle.am_world.specs.Setup.{Origin}
@@ -9,7 +9,8 @@ use Rattle.am_play.proofs.TraceLemmas.{course_until_fault}
 use Rattle.am_play.proofs.WritingLemmas.{part_later}
 use Rattle.am_play.specs.Link.{Answers, Carries}
 use Rattle.am_play.specs.Playing.{IsStart, ending}
-use Rattle.am_play.specs.Scenario.{CourseBreaks, Course, ScenarioBreaks, lines_of}
+use Rattle.am_play.specs.Scenario.{CourseBreaks, Course, ScenarioBreaks}
+use Rattle.am_play.specs.Streams.{KnownLines}
 use Rattle.am_play.specs.Trace.{Happened, printed, text_of}
 use Rattle.am_play.specs.Writing.{AppendsPart}
 use Rattle.am_play.specs.declared.play.Played.{Played}
@@ -17,25 +18,24 @@ use Rattle.am_play.specs.declared.play.Played.TheVariants.{All}
 use Rattle.am_play.specs.declared.play.Player.{Player}
 
 -- the lines that weren't played
-others_of : (bytes left : Option (List ℕ)) (lines : List (List ℕ)) → Rest bytes left lines →
-    (others : List (List ℕ)) × IfSome bytes (λ bytes. lines ++ others ≡ lines_of bytes)
+others_of : (known left : KnownLines) (lines : List (List ℕ)) → Rest known left lines →
+    (others : List (List ℕ)) × IfSome known (λ known. lines ++ others ≡ known)
 others_of None left lines rest = ([], tt)
-others_of (Some bytes) None lines rest = absurd rest
-others_of (Some bytes) (Some left) lines (inl rest) = (lines_of left, sym rest)
-others_of (Some bytes) (Some left) lines (inr rest) = ([], append-nil lines ∙ sym rest.0)
+others_of (Some all) None lines rest = absurd rest
+others_of (Some all) (Some left) lines rest = (left, rest)
 
-all_read : (bytes : Option (List ℕ)) (lines : List (List ℕ)) → IfSome bytes (λ bytes. lines ≡ lines_of bytes) →
-    IfSome bytes (λ bytes. lines ++ [] ≡ lines_of bytes)
+all_read : (known : KnownLines) (lines : List (List ℕ)) → IfSome known (λ known. lines ≡ known) →
+    IfSome known (λ known. lines ++ [] ≡ known)
 all_read None lines read = tt
-all_read (Some bytes) lines read = append-nil lines ∙ read
+all_read (Some all) lines read = append-nil lines ∙ read
 
-module _ (carries : Carries) (answers : Answers) (start : Player) (bytes old new : Option (List ℕ)) where
+module _ (carries : Carries) (answers : Answers) (start : Player) (known : KnownLines) (old new : Option (List ℕ)) where
   -- some lines were played
-  pub upto_breaks : (p : Player) (left : Option (List ℕ)) (n : ℕ) (trace : List Happened) →
-      Upto carries answers start bytes p left n trace → AppendsPart old new (printed trace) →
-      CourseBreaks carries answers start bytes old new
+  pub upto_breaks : (p : Player) (left : KnownLines) (n : ℕ) (trace : List Happened) →
+      Upto carries answers start known p left n trace → AppendsPart old new (printed trace) →
+      CourseBreaks carries answers start known old new
   upto_breaks p left n trace upto written =
-      let others = others_of bytes left upto.lines upto.rest in
+      let others = others_of known left upto.lines upto.rest in
       record {
         lines = upto.lines;
         others = others.0;
@@ -49,13 +49,13 @@ module _ (carries : Carries) (answers : Answers) (start : Player) (bytes old new
 
   -- all lines were played
   pub course_breaks : (played : Played) (trace : List Happened) (end : Player) →
-      Course carries answers start bytes played trace end →
+      Course carries answers start known played trace end →
       AppendsPart old new (printed trace ++ ending played (fault_count end.world)) →
-      CourseBreaks carries answers start bytes old new
+      CourseBreaks carries answers start known old new
   course_breaks played trace end course written = record {
     lines = course.lines;
     others = [];
-    are_read = all_read bytes course.lines course.are_read;
+    are_read = all_read known course.lines course.are_read;
     played = played;
     trace = trace;
     end = end;
@@ -64,8 +64,8 @@ module _ (carries : Carries) (answers : Answers) (start : Player) (bytes old new
   }
 
   -- .. from a new world on
-  pub scenario_breaks : (origin : Origin) → IsStart origin start → CourseBreaks carries answers start bytes old new →
-      ScenarioBreaks carries answers origin bytes old new
+  pub scenario_breaks : (origin : Origin) → IsStart origin start → CourseBreaks carries answers start known old new →
+      ScenarioBreaks carries answers origin known old new
   scenario_breaks origin is_start course = record {
     start = start;
     is_start = is_start;

@@ -1,4 +1,5 @@
 pub mod BreakLemmas
+pub mod LinesLemmas
 pub mod NamesLemmas
 pub mod PlayingLemmas
 pub mod ScenarioLemmas

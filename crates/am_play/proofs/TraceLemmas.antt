@@ -15,6 +15,7 @@ use Rattle.am_scenario.specs.Line.{command_of}
 use Rattle.am_play.specs.Link.{Answers, Carries}
 use Rattle.am_play.specs.Playing.{Happens, Come, Gives, Calls, Obeys, Settles, Does, Plays, IsStart, goes_on}
 use Rattle.am_play.specs.Scenario.{Course, AloneUntilFault}
+use Rattle.am_play.specs.Streams.{KnownLines}
 use Rattle.am_play.specs.Trace.{Happened, events, outputs, no_fault, unbuilt, unbuilt_after}
 use Rattle.am_play.specs.Tries.{tries_in}
 use Rattle.am_scenario.specs.declared.command.Command.{Command}
@@ -164,13 +165,13 @@ traced_alone origin p trace w' start traced none once =
     (alone origin p.world (events trace) (outputs trace) w' start.opens (traced_steps p.world trace w' traced)
     none once)
 
-pub course_alone : (carries : Carries) (answers : Answers) (origin : Origin) (p : Player) (bytes : Option (List ℕ))
+pub course_alone : (carries : Carries) (answers : Answers) (origin : Origin) (p : Player) (known : KnownLines)
     (played : Played) (trace : List Happened)
     (p' : Player) → IsStart origin p →
-    Course carries answers p bytes played trace p' → fault_count p'.world ≡ 0 →
+    Course carries answers p known played trace p' → fault_count p'.world ≡ 0 →
     names_once (first_watch origin) (events trace) →
     Alone origin (events trace) (unbuilt trace) (outputs trace)
-course_alone carries answers origin p bytes played trace p' start course =
+course_alone carries answers origin p known played trace p' start course =
     traced_alone origin p trace p'.world start (plays_traced carries answers 1 p course.lines played trace p'
     course.plays)
 
@@ -189,10 +190,10 @@ traced_no_fault w (h ∷ trace) w' (before, next, forgets, step, outs, faults, r
     traced_no_fault next trace w' traced (sym faults ∙ nowhere.0) nowhere.1
 
 pub course_until_fault : (carries : Carries) (answers : Answers) (origin : Origin) (p : Player)
-    (bytes : Option (List ℕ)) (played : Played)
+    (known : KnownLines) (played : Played)
     (trace : List Happened) (p' : Player) → IsStart origin p →
-    Course carries answers p bytes played trace p' → AloneUntilFault origin trace
-course_until_fault carries answers origin p bytes played trace p' start course first rest cut nowhere =
+    Course carries answers p known played trace p' → AloneUntilFault origin trace
+course_until_fault carries answers origin p known played trace p' start course first rest cut nowhere =
     let until = traced_first p.world first rest p'.world
     (rw cut at (plays_traced carries answers 1 p course.lines played trace p' course.plays)) in
     traced_alone origin p first until.0 start until.1

@@ -3,6 +3,7 @@
 
 mod connections;
 pub mod ending;
+pub mod lines;
 pub mod link;
 pub mod loopback;
 pub mod options;
@@ -10,4 +11,5 @@ pub mod play;
 mod report;
 pub mod serve;
 pub mod stops;
-mod writing;
+pub mod streams;
+pub mod writing;

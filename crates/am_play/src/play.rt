@@ -1,4 +1,4 @@
-ghost use Rattle.std.specs.Prelude.{◌≡◌, ◌⊎◌, ◌++◌, ◌&&◌, not, is_none, ℕ, List, [], IfOk, OnErr, OnOk, string_bytes};
+ghost use Rattle.std.specs.Prelude.{◌≡◌, ◌⊎◌, ◌++◌, ◌&&◌, not, is_none, ℕ, List, [], IfErr, IfOk, OnErr, OnOk, string_bytes};
 ghost use Rattle.std.specs.List.{flat_map};
 ghost use Rattle.std.specs.Io.KnownBytes.{Appends, Keeps};
 ghost use Rattle.am_world.specs.Refusal.{refusal};
@@ -8,6 +8,7 @@ ghost use Rattle.am_world.specs.View.{first_watch, names_once};
 ghost use Rattle.am_play.specs.Output.{is_answered};
 ghost use Rattle.am_play.specs.Playing.{Happens, Gives, Calls, Obeys, Settles, Does, ending, faults_line, instance_of};
 ghost use Rattle.am_play.specs.Scenario.{AloneUntilFault, Course, CourseBreaks, Scenario, ScenarioBreaks};
+ghost use Rattle.am_play.specs.Streams.{IsFailureOf};
 ghost use Rattle.am_play.specs.Trace.{Happened, Reports, events, outputs, printed, output_line, unbuilt};
 ghost use Rattle.am_play.specs.Tries.{tries_in, try_of};
 ghost use Rattle.am_play.specs.Writing.{AppendsPart};
@@ -16,7 +17,7 @@ use crate::connections::Connections;
 use crate::link::Link;
 use crate::report::{Report, Try};
 use crate::stops::Stops;
-use crate::writing::write_whole;
+use crate::streams::{Sink, Source, StreamFailure};
 use am_http::ConnectionId;
 use am_scenario::{Command, LineFault, Request, read_command};
 use am_text::{Octets, Text};
@@ -24,8 +25,7 @@ use am_world::event::{Event, Output};
 use am_world::setup::Setup;
 use am_world::world::World;
 use std::alloc::{AllocError, Global};
-use std::io::{BufRead, Write};
-use std::{io, mem};
+use std::mem;
 
 /// The most bytes that one event gives to the world.
 const PIECE: usize = 4096;
@@ -42,7 +42,7 @@ pub enum Played {
     BadLine(u64),
 }
 
-/// Plays the scenario that `reader` holds against a new world, and writes its output lines to `writer`. What a line
+/// Plays the scenario that `source` gives against a new world, and writes its output lines to `writer`. What a line
 /// gives to a connection goes over the link in pieces, and ends where one is lost. Each notice goes over it too, and the
 /// outcome of its try has the status that was read of the answer.
 ///
@@ -51,27 +51,30 @@ pub enum Played {
 /// that no connection's name is opened twice and no pattern that the tenant brings was refused its build, and up to a first
 /// fault.
 ///
-/// An error is one of reading or writing, or has the kind `OutOfMemory`; what was written stays, and is a first part of
-/// what is written of the lines that were played.
-pub fn play<L: Link, R: BufRead + Drop, W: Write, E: Write>(
+/// # Errors
+/// Out of memory, or an error that one of the streams gave. What was written stays, and is a first part of what is
+/// written of the lines that were played.
+pub fn play<L: Link, S: Source, K: Sink, E: Sink>(
     alloc: Global,
     setup: Setup,
     link: &mut L,
-    reader: R,
-    writer: &mut W,
+    source: S,
+    writer: &mut K,
     errors: &mut E,
-) -> io::Result<Played>
-    // Where the bytes of the reader aren't known, there are lines of which this holds.
+) -> Result<Played, StreamFailure>
+    // Where the lines of the source aren't known, there are lines of which this holds.
     ensures plays { IfOk result (λ played. (trace : List Happened) × (faults : ℕ)
-        × Scenario L.carries L.answers setup.origin (R.remaining reader) played trace faults
-        × Appends (W.contents writer.old) (W.contents writer.new) (printed trace ++ ending played faults)
+        × Scenario L.carries L.answers setup.origin (S.lines source) played trace faults
+        × Appends (K.contents writer.old) (K.contents writer.new) (printed trace ++ ending played faults)
         × (faults ≡ 0 → names_once (first_watch setup.origin) (events trace) →
         Alone setup.origin (events trace) (unbuilt trace) (outputs trace))
         × AloneUntilFault setup.origin trace) }
     // Without memory for a new world nothing is written.
-    ensures breaks { OnErr result (Keeps (W.contents writer.old) (W.contents writer.new)
-        ⊎ ScenarioBreaks L.carries L.answers setup.origin (R.remaining reader)
-        (W.contents writer.old) (W.contents writer.new)) }
+    ensures breaks { OnErr result (Keeps (K.contents writer.old) (K.contents writer.new)
+        ⊎ ScenarioBreaks L.carries L.answers setup.origin (S.lines source)
+        (K.contents writer.old) (K.contents writer.new)) }
+    ensures causes { IfErr result (IsFailureOf
+        (λ error. S.fails_with error ⊎ K.fails_with error ⊎ E.fails_with error)) }
 {
     let world = World::open(alloc, setup)?;
     let mut player = Player {
@@ -80,7 +83,7 @@ pub fn play<L: Link, R: BufRead + Drop, W: Write, E: Write>(
         moment: 0,
         hook: Some(TAKEN),
     };
-    let played = player.play_lines(alloc, link, reader, writer, errors)?;
+    let played = player.play_lines(alloc, link, source, writer, errors)?;
     writer.flush()?;
     Ok(played)
 }
@@ -98,56 +101,58 @@ struct Player {
 impl Player {
     /// Plays the lines that are left, up to one that is no command. The text of each line is written before the next
     /// line is read.
-    fn play_lines<L: Link, R: BufRead + Drop, W: Write, E: Write>(
+    fn play_lines<L: Link, S: Source, K: Sink, E: Sink>(
         &mut self,
         alloc: Global,
         link: &mut L,
-        reader: R,
-        writer: &mut W,
+        mut source: S,
+        writer: &mut K,
         errors: &mut E,
-    ) -> io::Result<Played>
+    ) -> Result<Played, StreamFailure>
         ensures plays { IfOk result (λ played. (trace : List Happened)
-            × Course L.carries L.answers self.old (R.remaining reader) played trace self.new
-            × Appends (W.contents writer.old) (W.contents writer.new)
+            × Course L.carries L.answers self.old (S.lines source) played trace self.new
+            × Appends (K.contents writer.old) (K.contents writer.new)
             (printed trace ++ ending played (fault_count self.new.world))) }
-        ensures breaks { OnErr result (CourseBreaks L.carries L.answers self.old (R.remaining reader)
-            (W.contents writer.old) (W.contents writer.new)) }
+        ensures breaks { OnErr result (CourseBreaks L.carries L.answers self.old (S.lines source)
+            (K.contents writer.old) (K.contents writer.new)) }
+        ensures causes { IfErr result (IsFailureOf
+            (λ error. S.fails_with error ⊎ K.fails_with error ⊎ E.fails_with error)) }
     {
         let mut number = 0u64;
         let mut stops = Stops::none();
-        for line in reader.split(alloc, b'\n') {
-            let line = line?;
+        while let Some(line) = source.next_line()? {
             number += 1;
             match read_command(alloc, line.as_slice()) {
                 Ok(command) => self.write_line(alloc, link, command, &mut stops, writer, errors)?,
                 Err(LineFault::NotACommand) => return Ok(Played::BadLine(number)),
-                Err(LineFault::OutOfMemory) => return Err(io::ErrorKind::OutOfMemory.into()),
+                Err(LineFault::OutOfMemory) => return Err(StreamFailure::OutOfMemory),
             }
         }
         let last = faults_line(alloc, self.world.faults())?;
-        write_whole(writer, last.as_bytes())?;
+        writer.write_whole(last.as_bytes())?;
         Ok(Played::All)
     }
 
     /// Plays a line and writes what is to be written of it. What instances stopped by it is told first.
-    fn write_line<L: Link, W: Write, E: Write>(
+    fn write_line<L: Link, K: Sink, E: Sink>(
         &mut self,
         alloc: Global,
         link: &mut L,
         command: Command,
         stops: &mut Stops,
-        writer: &mut W,
+        writer: &mut K,
         errors: &mut E,
-    ) -> io::Result<()>
+    ) -> Result<(), StreamFailure>
         ensures plays { OnOk result ((trace : List Happened) × Does L.carries L.answers self.old command self.new trace
-            × Appends (W.contents writer.old) (W.contents writer.new) (printed trace)) }
-        ensures breaks { OnErr result (Keeps (W.contents writer.old) (W.contents writer.new)
+            × Appends (K.contents writer.old) (K.contents writer.new) (printed trace)) }
+        ensures breaks { OnErr result (Keeps (K.contents writer.old) (K.contents writer.new)
             ⊎ ((trace : List Happened) × Does L.carries L.answers self.old command self.new trace
-            × AppendsPart (W.contents writer.old) (W.contents writer.new) (printed trace))) }
+            × AppendsPart (K.contents writer.old) (K.contents writer.new) (printed trace))) }
+        ensures causes { IfErr result (IsFailureOf (λ error. K.fails_with error ⊎ E.fails_with error)) }
     {
         let lines = self.play_line(alloc, link, command)?;
-        stops.tell(&self.world, errors)?;
-        write_whole(writer, lines.as_bytes())?;
+        stops.tell(alloc, &self.world, errors)?;
+        writer.write_whole(lines.as_bytes())?;
         Ok(())
     }
 

@@ -2,11 +2,11 @@
 
 use crate::options::Serving;
 use crate::stops::Stops;
+use crate::streams::Sink;
 use am_gateway::Gateway;
 use am_server::{Server, listen};
 use am_world::World;
 use mio::net::TcpListener;
-use std::io::Write;
 use std::net::{Ipv4Addr, Net, SocketAddr};
 use std::process::ExitCode;
 use std::time::Clock;
@@ -23,7 +23,7 @@ const NO_PORT: u8 = 2;
 ///
 /// # Errors
 /// Those of the system's poll and clocks, and of printing; out of memory.
-pub fn serve<R: Net + Clock + Print + AllocGlobal, E: Write>(
+pub fn serve<R: Net + Clock + Print + AllocGlobal, E: Sink>(
     rt: &R,
     serving: Serving,
     errors: &mut E,
@@ -33,17 +33,17 @@ pub fn serve<R: Net + Clock + Print + AllocGlobal, E: Write>(
         Ok(listener) => listener,
         Err(error) if error.kind() == io::ErrorKind::OutOfMemory => return Err(error),
         Err(_) => {
-            writeln!(errors, "port")?;
+            errors.write_whole(b"port\n")?;
             return Ok(ExitCode::from(NO_PORT));
         }
     };
     let mut world = World::open(rt.alloc(), serving.setup)?;
-    writeln!(
-        errors,
-        "amring: serves http://{address}; GET /ready tells it the time, once a second or so"
+    let ready = format!(in rt.alloc();
+        "amring: serves http://{address}; GET /ready tells it the time, once a second or so\n"
     )?;
+    errors.write_whole(ready.as_bytes())?;
     attend(rt, listener, &mut world, serving.count)?;
-    Stops::none().tell(&world, errors)?;
+    Stops::none().tell(rt.alloc(), &world, errors)?;
     let faults = world.faults();
     print!(rt; "faults {faults}\n")?;
     let status = match world.cause(SERVING) {

@@ -1,8 +1,10 @@
 //! What is told on standard error of instances that stopped.
+ghost use Rattle.std.specs.Prelude.{IfErr};
+ghost use Rattle.am_play.specs.Streams.{IsFailureOf};
 
+use crate::streams::{Sink, StreamFailure};
 use am_world::world::World;
-use std::io;
-use std::io::Write;
+use std::alloc::Global;
 
 /// Of which instances it was told that they stopped, by number from 1 on.
 #[derive(Clone, Copy)]
@@ -17,12 +19,23 @@ impl Stops {
     }
 
     /// Tells of each instance that stopped since it was last told.
-    pub fn tell<E: Write>(&mut self, world: &World, errors: &mut E) -> io::Result<()> {
+    ///
+    /// # Errors
+    /// Out of memory, or one of the sink's: an instance of which it wasn't told whole counts as untold.
+    pub fn tell<E: Sink>(
+        &mut self,
+        alloc: Global,
+        world: &World,
+        errors: &mut E,
+    ) -> Result<(), StreamFailure>
+        ensures causes { IfErr result (IsFailureOf E.fails_with) }
+    {
         for place in 0..8u8 {
             let number = place + 1;
             let cause = world.cause(number);
             if let (Some(fault), false) = (cause, self.told[usize::from(place)]) {
-                writeln!(errors, "instance {number} stopped: {fault}")?;
+                let line = format!(in alloc; "instance {number} stopped: {fault}\n")?;
+                errors.write_whole(line.as_bytes())?;
             }
             self.told[usize::from(place)] = cause.is_some();
         }

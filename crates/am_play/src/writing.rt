@@ -1,16 +1,31 @@
-//! Writing, of which it is known how far it came where the writer failed.
+//! A writer, as a sink of which it is known how far it came where the writer failed.
 ghost use Rattle.std.specs.Prelude.{◌≡◌, ◌≢◌, ◌≤◌, [], length, take, IfOk, OnErr, OnOk};
 ghost use Rattle.std.specs.Io.KnownBytes.{Appends, Keeps};
 ghost use Rattle.am_play.specs.Writing.{AppendsPart};
 
+use crate::streams::Sink;
 use std::io;
 use std::io::{ErrorKind, Write};
 
-/// Writes all bytes.
-///
-/// # Errors
-/// That of the writer, or of the kind `WriteZero` where it takes none: a first part of the bytes was written.
-pub fn write_whole<W: Write>(writer: &mut W, bytes: &[u8]) -> io::Result<()>
+/// Writes to a writer. Its errors are the writer's, of which nothing is known, or have the kind `WriteZero` where that takes
+/// no byte.
+#[derive(Drop)]
+pub struct WholeWriter<W>(pub W);
+
+impl<W: Write> Sink for WholeWriter<W> {
+    ghost contents = { λ sink. W.contents sink.0 };
+
+    fn write_whole(&mut self, bytes: &[u8]) -> io::Result<()> {
+        write_whole(&mut self.0, bytes)
+    }
+
+    fn flush(&mut self) -> io::Result<()> {
+        self.0.flush()
+    }
+}
+
+// Writes all bytes; at an error a first part of them.
+fn write_whole<W: Write>(writer: &mut W, bytes: &[u8]) -> io::Result<()>
     ensures ok { OnOk result (Appends (W.contents writer.old) (W.contents writer.new) bytes.now) }
     ensures err { OnErr result (AppendsPart (W.contents writer.old) (W.contents writer.new) bytes.now) }
 {

@@ -3,7 +3,9 @@
 use crate::scenarios::links::Direct;
 use crate::scenarios::setup;
 use am_play::ending::tell;
+use am_play::lines::LineReader;
 use am_play::play::play;
+use am_play::writing::WholeWriter;
 use std::io;
 use std::io::{BufWriter, Write};
 use std::process::ExitCode;
@@ -32,11 +34,11 @@ fn a_bad_line(rt: HostRuntime) -> Result<(), Fail> {
             alloc,
             setup()?,
             &mut Direct,
-            scenario.as_bytes(),
-            &mut written,
-            &mut errors,
+            LineReader::new(alloc, scenario.as_bytes()),
+            &mut WholeWriter(&mut written),
+            &mut WholeWriter(&mut errors),
         )?;
-        let ended = tell(&mut errors, played)?;
+        let ended = tell(&mut WholeWriter(&mut errors), played)?;
         assert!(rt; ended == status, "{scenario}");
         assert!(rt; written.as_slice() == wanted.as_bytes(), "{scenario}");
         assert!(rt; errors.as_slice() == complaint.as_bytes(), "{scenario}");
@@ -61,18 +63,19 @@ impl Write for Full {
 #[test]
 fn the_last_write_fails(rt: HostRuntime) -> Result<(), Fail> {
     let alloc = rt.alloc();
-    let mut writer = BufWriter::new(alloc, Full)?;
-    let mut errors = Vec::new(alloc);
+    let mut writer = WholeWriter(BufWriter::new(alloc, Full)?);
+    let mut errors = WholeWriter(Vec::new(alloc));
     match play(
         alloc,
         setup()?,
         &mut Direct,
-        b"tick\n".as_slice(),
+        LineReader::new(alloc, b"tick\n".as_slice()),
         &mut writer,
         &mut errors,
     ) {
         Ok(_) => Err("what wasn't written counts as written".into()),
-        Err(error) => {
+        Err(failure) => {
+            let error = io::Error::from(failure);
             assert_eq!(rt; error.kind(), io::ErrorKind::StorageFull);
             Ok(())
         }

@@ -5,7 +5,10 @@ pub mod links;
 mod serving;
 mod streams;
 
+use am_play::lines::LineReader;
+use am_play::link::Link;
 use am_play::play::{Played, play};
+use am_play::writing::WholeWriter;
 use am_world::setup::Setup;
 use links::Direct;
 use serde_json::Value;
@@ -235,13 +238,27 @@ pub fn setup() -> Result<Setup, Fail> {
     Ok(Setup::new([0; 32], &[1, 2, 3], 512, 1).ok_or("no settings")?)
 }
 
-/// Plays a scenario, and gives how it ended and what it wrote.
-fn played(alloc: Global, scenario: &[u8]) -> Result<(Played, Vec<u8>), Fail> {
-    let setup = setup()?;
+/// Plays a scenario over a link, and gives how it ended and what it wrote.
+fn played_over<L: Link>(
+    alloc: Global,
+    link: &mut L,
+    scenario: &[u8],
+) -> Result<(Played, Vec<u8>), Fail> {
     let mut written = Vec::new(alloc);
-    let errors = &mut Vec::new(alloc);
-    let played = play(alloc, setup, &mut Direct, scenario, &mut written, errors)?;
+    let played = play(
+        alloc,
+        setup()?,
+        link,
+        LineReader::new(alloc, scenario),
+        &mut WholeWriter(&mut written),
+        &mut WholeWriter(Vec::new(alloc)),
+    )?;
     Ok((played, written))
+}
+
+/// .. over a link that carries everything.
+fn played(alloc: Global, scenario: &[u8]) -> Result<(Played, Vec<u8>), Fail> {
+    played_over(alloc, &mut Direct, scenario)
 }
 
 #[test]

@@ -1,8 +1,11 @@
 //! `amring`: plays a scenario of events against a world, or serves connections, as its command line says.
 #![tactic(auto)]
 
+use am_play::lines::LineReader;
 use am_play::loopback::Loopback;
 use am_play::options::CommandLine;
+use am_play::streams::Sink;
+use am_play::writing::WholeWriter;
 use am_play::{ending, options, play, serve};
 use am_world::setup::Setup;
 use std::io::{BufReader, BufWriter, Write};
@@ -16,7 +19,7 @@ const OUT_OF_MEMORY: u8 = 3;
 fn main(rt: HostRuntime) -> io::Result<ExitCode> {
     let stderr = rt.stderr();
     let mut errors = io::writer(&stderr);
-    match start(&rt, &mut errors) {
+    match start(&rt, &mut WholeWriter(&mut errors)) {
         Ok(status) => Ok(status),
         Err(error) if error.kind() == io::ErrorKind::OutOfMemory => {
             writeln!(errors, "memory")?;
@@ -30,7 +33,7 @@ fn main(rt: HostRuntime) -> io::Result<ExitCode> {
 }
 
 /// Reads the command line and does what it asks for.
-fn start<E: Write>(rt: &HostRuntime, errors: &mut E) -> io::Result<ExitCode> {
+fn start<E: Sink>(rt: &HostRuntime, errors: &mut E) -> io::Result<ExitCode> {
     let words: Vec<String> = match env::args(rt) {
         Ok(words) => words.collect(rt.alloc())?,
         Err(error) if error.kind() == io::ErrorKind::InvalidData => {
@@ -50,14 +53,14 @@ fn start<E: Write>(rt: &HostRuntime, errors: &mut E) -> io::Result<ExitCode> {
 }
 
 /// Plays the scenario on standard input over loopback sockets.
-fn run<R: Input + Print + AllocGlobal + Net, E: Write>(
+fn run<R: Input + Print + AllocGlobal + Net, E: Sink>(
     rt: &R,
     setup: Setup,
     errors: &mut E,
 ) -> io::Result<ExitCode> {
     let mut link = Loopback::open(rt)?;
-    let reader = BufReader::new(rt.alloc(), rt.reader())?;
-    let mut writer = BufWriter::new(rt.alloc(), io::writer(rt))?;
-    let played = play::play(rt.alloc(), setup, &mut link, reader, &mut writer, errors)?;
+    let source = LineReader::new(rt.alloc(), BufReader::new(rt.alloc(), rt.reader())?);
+    let mut writer = WholeWriter(BufWriter::new(rt.alloc(), io::writer(rt))?);
+    let played = play::play(rt.alloc(), setup, &mut link, source, &mut writer, errors)?;
     ending::tell(errors, played)
 }

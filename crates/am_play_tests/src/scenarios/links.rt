@@ -2,10 +2,9 @@
 
 ghost use Rattle.std.specs.Prelude.{◌≡◌, true};
 
-use super::{EMPTY_AND_REFUSED_POSTS, NOTIFIED, POSTED_AND_READ, many_pieces, setup};
+use super::{EMPTY_AND_REFUSED_POSTS, NOTIFIED, POSTED_AND_READ, many_pieces, played_over};
 use am_play::link::Link;
 use am_play::loopback::Loopback;
-use am_play::play::play;
 use std::alloc::Global;
 use std::test::Fail;
 
@@ -57,10 +56,7 @@ fn played_failing(alloc: Global, scenario: &str, before: usize) -> Result<Vec<u8
     let mut link = Failing {
         before: Some(before),
     };
-    let mut written = Vec::new(alloc);
-    let scenario = scenario.as_bytes();
-    let errors = &mut Vec::new(alloc);
-    play(alloc, setup()?, &mut link, scenario, &mut written, errors)?;
+    let (_, written) = played_over(alloc, &mut link, scenario.as_bytes())?;
     Ok(written)
 }
 
@@ -111,10 +107,7 @@ fn over_sockets(rt: HostRuntime) -> Result<(), Fail> {
     let alloc = rt.alloc();
     let (scenario, wanted) = NOTIFIED;
     let mut link = Loopback::open(&rt)?;
-    let mut written = Vec::new(alloc);
-    let errors = &mut Vec::new(alloc);
-    let scenario = scenario.as_bytes();
-    play(alloc, setup()?, &mut link, scenario, &mut written, errors)?;
+    let (_, written) = played_over(alloc, &mut link, scenario.as_bytes())?;
     assert!(rt; written.as_slice() == wanted.as_bytes());
     Ok(())
 }

@@ -1,10 +1,19 @@
-//! Readers and writers that fail.
+//! Readers and writers that fail, and streams that say by a law of their own how they do.
+
+ghost use Rattle.std.specs.Prelude.{◌≡◌, IfErr};
+ghost use Rattle.std.specs.IoError.{error_kind};
+ghost use Rattle.am_play.specs.Streams.{IsFailureOf};
 
 use super::links::Direct;
 use super::{POSTED_TWICE, setup};
-use am_play::play::play;
+use am_play::lines::LineReader;
+use am_play::play::{Played, play};
+use am_play::streams::{Sink, Source, StreamFailure};
+use am_play::writing::WholeWriter;
+use am_world::setup::Setup;
+use std::alloc::Global;
 use std::io;
-use std::io::{BufReader, Read, Write};
+use std::io::{BufReader, ErrorKind, Read, Write};
 use std::test::Fail;
 
 /// A writer with room for so many bytes, which takes at most seven in a call and fails once it is full.
@@ -18,7 +27,7 @@ impl Write for Narrow {
     fn write(&mut self, bytes: &[u8]) -> io::Result<usize> {
         let count = bytes.len().min(7).min(self.room);
         if count == 0 {
-            return Err(io::ErrorKind::BrokenPipe.into());
+            return Err(ErrorKind::BrokenPipe.into());
         }
         self.taken.extend_from_slice(&bytes[..count])?;
         self.room -= count;
@@ -40,15 +49,13 @@ fn a_writer_fails(rt: HostRuntime) -> Result<(), Fail> {
             taken: Vec::new(alloc),
             room,
         };
-        let mut errors = Vec::new(alloc);
-        let scenario = scenario.as_bytes();
         let played = play(
             alloc,
             setup,
             &mut Direct,
-            scenario,
-            &mut writer,
-            &mut errors,
+            LineReader::new(alloc, scenario.as_bytes()),
+            &mut WholeWriter(&mut writer),
+            &mut WholeWriter(Vec::new(alloc)),
         );
         let ended = played.is_ok();
         assert_eq!(rt; ended, wanted.len() <= room, "room for {room}");
@@ -71,7 +78,7 @@ impl<'a> Read for Broken<'a> {
     fn read(&mut self, buf: &mut [u8]) -> io::Result<usize> {
         let count = self.rest.len().min(buf.len()).min(7);
         if count == 0 {
-            return Err(io::ErrorKind::ConnectionReset.into());
+            return Err(ErrorKind::ConnectionReset.into());
         }
         buf[..count].copy_from_slice(&self.rest[..count]);
         self.rest = &self.rest[count..];
@@ -93,10 +100,19 @@ fn a_reader_fails(rt: HostRuntime) -> Result<(), Fail> {
                 rest: read.as_bytes(),
             },
         )?;
-        let errors = &mut Vec::new(alloc);
-        match play(alloc, setup, &mut Direct, reader, &mut written, errors) {
+        match play(
+            alloc,
+            setup,
+            &mut Direct,
+            LineReader::new(alloc, reader),
+            &mut WholeWriter(&mut written),
+            &mut WholeWriter(Vec::new(alloc)),
+        ) {
             Ok(_) => return Err("a scenario without an end was played".into()),
-            Err(fault) => assert_eq!(rt; fault.kind(), io::ErrorKind::ConnectionReset),
+            Err(StreamFailure::OutOfMemory) => return Err("out of memory".into()),
+            Err(StreamFailure::Stream(error)) => {
+                assert_eq!(rt; error.kind(), ErrorKind::ConnectionReset);
+            }
         }
         // The replies of the lines that were read whole.
         let (lines, _) = read.rsplit_once('\n').unwrap_or(("", ""));
@@ -112,4 +128,55 @@ fn a_reader_fails(rt: HostRuntime) -> Result<(), Fail> {
         assert!(rt; written.as_slice() == replies.as_bytes(), "{length} bytes");
     }
     Ok(())
+}
+
+/// A source that fails at once, by its law with a reset alone.
+#[derive(Drop)]
+struct Reset;
+
+impl Source for Reset {
+    ghost use Rattle.std.specs.declared.io.ErrorKind.TheVariants.{ConnectionReset};
+
+    ghost fails_with = { λ error. error_kind error ≡ ConnectionReset };
+
+    ghost to_come = { λ source. 0 };
+
+    fn next_line(&mut self) -> Result<Option<Vec<u8>>, StreamFailure> {
+        Err(StreamFailure::Stream(ErrorKind::ConnectionReset.into()))
+    }
+}
+
+/// A sink that keeps nothing and never fails.
+#[derive(Drop)]
+struct Void;
+
+impl Sink for Void {
+    ghost fails_with = { λ error. ⊥ };
+
+    fn write_whole(&mut self, _bytes: &[u8]) -> io::Result<()> {
+        Ok(())
+    }
+
+    fn flush(&mut self) -> io::Result<()> {
+        Ok(())
+    }
+}
+
+/// Plays what can't be read. Where memory doesn't run out, the error is the source's, since no other stream has any.
+fn played_reset(alloc: Global, setup: Setup) -> Result<Played, StreamFailure>
+    ensures { IfErr result (IsFailureOf (λ error. error_kind error ≡ ErrorKind.ConnectionReset)) }
+{
+    play(alloc, setup, &mut Direct, Reset, &mut Void, &mut Void)
+}
+
+#[test]
+fn a_failure_is_a_streams_own(rt: HostRuntime) -> Result<(), Fail> {
+    match played_reset(rt.alloc(), setup()?) {
+        Ok(_) => Err("what can't be read was played".into()),
+        Err(failure) => {
+            let error = io::Error::from(failure);
+            assert_eq!(rt; error.kind(), ErrorKind::ConnectionReset);
+            Ok(())
+        }
+    }
 }

@@ -21,11 +21,11 @@ returns-clause-plays g c =
       fault_count end.world,
       record { start = start; is_start = is_start; end = end; course = course; counted = refl },
       Appends-kept _ _ _ _ c.in_ok-played.ensures.plays.2 c.flush.ensures.bytes,
-      course_alone g.L.Link.carries g.L.Link.answers c.args.setup.origin start (g.R.Read.remaining c.args.reader)
+      course_alone g.L.Link.carries g.L.Link.answers c.args.setup.origin start (g.S.Source.lines c.args.source)
           c.in_ok-played.played trace end is_start
           course,
       course_until_fault g.L.Link.carries g.L.Link.answers c.args.setup.origin start
-          (g.R.Read.remaining c.args.reader) c.in_ok-played.played trace end
+          (g.S.Source.lines c.args.source) c.in_ok-played.played trace end
           is_start course,
     )
 
@@ -33,7 +33,7 @@ pub returns-in_err-played-clause-breaks : goal.returns-in_err-played-clause-brea
 returns-in_err-played-clause-breaks g c =
     let start : Player =
     record { world = c.in_ok-world.world; connections = c.new.result; moment = 0; hook = Some 200 } in
-    on_err _ (inr (scenario_breaks g.L.Link.carries g.L.Link.answers start (g.R.Read.remaining c.args.reader) _ _
+    on_err _ (inr (scenario_breaks g.L.Link.carries g.L.Link.answers start (g.S.Source.lines c.args.source) _ _
     c.args.setup.origin (record {
       opens = c.in_ok-world.ensures;
       connections = c.new.ensures;
@@ -47,7 +47,7 @@ returns-in_err-flush-clause-breaks g c =
     let start : Player =
     record { world = c.in_ok-world.world; connections = c.new.result; moment = 0; hook = Some 200 } in
     let played = c.in_ok-played.ensures.plays in
-    on_err _ (inr (scenario_breaks g.L.Link.carries g.L.Link.answers start (g.R.Read.remaining c.args.reader) _ _
+    on_err _ (inr (scenario_breaks g.L.Link.carries g.L.Link.answers start (g.S.Source.lines c.args.source) _ _
     c.args.setup.origin (record {
       opens = c.in_ok-world.ensures;
       connections = c.new.ensures;
@@ -55,5 +55,5 @@ returns-in_err-flush-clause-breaks g c =
       hook =
           refl;
     })
-    (course_breaks g.L.Link.carries g.L.Link.answers start (g.R.Read.remaining c.args.reader) _ _ c.in_ok-played.played
+    (course_breaks g.L.Link.carries g.L.Link.answers start (g.S.Source.lines c.args.source) _ _ c.in_ok-played.played
     played.0 c.play_lines.new.self played.1 (whole _ _ _ (Appends-kept _ _ _ _ played.2 c.flush.ensures.bytes)))))
