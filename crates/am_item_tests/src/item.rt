@@ -6,17 +6,13 @@ use am_text::{Moment, Text};
 use std::alloc::{AllocError, Global};
 use std::test::Fail;
 
-fn label(alloc: Global, value: &str) -> Result<Label, AllocError> {
-    Ok(Label {
-        name: Text::read(alloc, "a")?,
-        value: Text::read(alloc, value)?,
-    })
-}
-
 // The label set of one label, `a` with this value.
 fn labels(alloc: Global, value: &str) -> Result<LabelSet, Fail> {
     let mut labels = Vec::new(alloc);
-    labels.push(label(alloc, value)?)?;
+    labels.push(Label {
+        name: Text::read(alloc, "a")?,
+        value: Text::read(alloc, value)?,
+    })?;
     Ok(LabelSet::from_pairs(alloc, labels)?)
 }
 
@@ -96,21 +92,13 @@ fn held_of(alloc: Global, things: &[(&str, u64)]) -> Result<Held, Fail> {
     Ok(held)
 }
 
-fn push_alert(
-    alloc: Global,
-    told: &mut String,
-    value: &str,
-    moment: Moment,
-) -> Result<(), AllocError> {
-    let alert = format!(in alloc; "{value} {};", moment.milliseconds())?;
-    told.push_str(alert.as_str())
-}
-
 // The alerts that are held, each with the moment of its stamp.
 fn alerts_told(alloc: Global, held: &Held) -> Result<String, AllocError> {
     let mut told = String::new(alloc);
     for (labels, alert) in held.alerts() {
-        push_alert(alloc, &mut told, labels.get("a"), alert.stamp.moment)?;
+        let (value, moment) = (labels.get("a"), alert.stamp.moment.milliseconds());
+        let alert = format!(in alloc; "{value} {moment};")?;
+        told.push_str(alert.as_str())?;
     }
     Ok(told)
 }
@@ -122,7 +110,7 @@ fn counts_told(alloc: Global, held: &Held) -> Result<String, AllocError> {
     format!(in alloc; "{configured} {sent} {silences}")
 }
 
-const THINGS: &[(&str, u64)] = &[
+const THINGS: [(&str, u64); 8] = [
     ("e", 5),
     ("a2", 5),
     ("a1", 5),
@@ -133,20 +121,13 @@ const THINGS: &[(&str, u64)] = &[
     ("a1", 6),
 ];
 
-// Whether this is held of alerts, and of each other kind.
-fn is_held(alloc: Global, held: &Held, alerts: &str, counts: &str) -> Result<bool, AllocError> {
-    let told = alerts_told(alloc, held)?;
-    if told.as_str() != alerts {
-        return Ok(false);
-    }
-    let told = counts_told(alloc, held)?;
-    Ok(told.as_str() == counts)
-}
-
 #[test]
 fn of_each_key_the_greater_stamp_stays(rt: HostRuntime) -> Result<(), Fail> {
-    let held = held_of(rt.alloc(), THINGS)?;
-    assert!(rt; is_held(rt.alloc(), &held, "a1 6;a2 5;", "true 1 2")?);
+    let held = held_of(rt.alloc(), THINGS.as_slice())?;
+    let counts = counts_told(rt.alloc(), &held)?;
+    assert_eq!(rt; counts.as_str(), "true 1 2");
+    let alerts = alerts_told(rt.alloc(), &held)?;
+    assert_eq!(rt; alerts.as_str(), "a1 6;a2 5;");
     Ok(())
 }
 
@@ -160,8 +141,8 @@ fn rise(alloc: Global, first: &str, second: &str) -> Result<bool, Fail> {
 
 #[test]
 fn label_sets_rise(rt: HostRuntime) -> Result<(), Fail> {
-    assert!(rt; rise(rt.alloc(), "a", "b")?);
-    assert!(rt; !rise(rt.alloc(), "a", "a")?);
-    assert!(rt; !rise(rt.alloc(), "b", "a")?);
+    for (first, second, rises) in [("a", "b", true), ("a", "a", false), ("b", "a", false)] {
+        assert_eq!(rt; rise(rt.alloc(), first, second)?, rises);
+    }
     Ok(())
 }

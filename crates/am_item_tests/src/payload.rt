@@ -26,19 +26,15 @@ const RESOLVED: &str =
 const TWO: &str =
     r#"{"alerts":[{"annotations":{"s":"x","t":""},"endsAt":"2025-06-15T19:08:20.000Z","fingerprint":"a034b6d7b7e6136d","generatorURL":"","labels":{"a":"b","c":"1","d":"1"},"startsAt":"2025-06-15T15:06:40.000Z","status":"resolved"},{"annotations":{"t":""},"endsAt":"0001-01-01T00:00:00Z","fingerprint":"f9e35071e87719ba","generatorURL":"","labels":{"a":"b","c":"2","d":"1"},"startsAt":"2025-06-15T15:06:40.000Z","status":"firing"}],"commonAnnotations":{"t":""},"commonLabels":{"a":"b","d":"1"},"externalURL":"http://localhost/alertmanager","groupKey":"12{\"a\":\"b\"}","groupLabels":{"a":"b"},"receiver":"w","status":"firing","truncatedAlerts":3,"version":"4"}"#;
 
-fn label(alloc: Global, name: &str, value: &str) -> Result<Label, AllocError> {
-    Ok(Label {
-        name: Text::read(alloc, name)?,
-        value: Text::read(alloc, value)?,
-    })
-}
-
 // What stands before `=` and after it, of each of the words.
 fn pairs(alloc: Global, words: &str) -> Result<Vec<Label>, AllocError> {
     let mut pairs = Vec::new(alloc);
     for word in words.split_whitespace() {
         if let Some((name, value)) = word.split_once('=') {
-            pairs.push(label(alloc, name, value)?)?;
+            pairs.push(Label {
+                name: Text::read(alloc, name)?,
+                value: Text::read(alloc, value)?,
+            })?;
         }
     }
     Ok(pairs)
@@ -182,9 +178,9 @@ fn grouped_json(alloc: Global) -> Result<Octets, Fail> {
 #[test]
 fn alerts_are_read(rt: HostRuntime) -> Result<(), Fail> {
     let muted = muted_json(rt.alloc())?;
-    assert!(rt; muted.as_slice() == MUTED.as_bytes());
+    assert_eq!(rt; muted.as_slice(), MUTED.as_bytes());
     let grouped = grouped_json(rt.alloc())?;
-    assert!(rt; grouped.as_slice() == GROUPS.as_bytes());
+    assert_eq!(rt; grouped.as_slice(), GROUPS.as_bytes());
     Ok(())
 }
 
@@ -220,12 +216,14 @@ fn told_alerts(alloc: Global, all: &[Owned]) -> Result<Vec<ToldAlert<'_>>, Alloc
     Ok(alerts)
 }
 
-// A route, the labels of a group, its alerts, and how many more there are.
-type Group = (usize, &'static str, &'static [Row], u64);
-
 // What a webhook is told.
-fn told_json(alloc: Global, group: Group) -> Result<Octets, Fail> {
-    let (route, group, rows, truncated) = group;
+fn told_json(
+    alloc: Global,
+    route: usize,
+    group: &str,
+    rows: &[Row],
+    truncated: u64,
+) -> Result<Octets, Fail> {
     let receiver = Text::read(alloc, "w")?;
     let labels = label_set(alloc, group)?;
     let all = all_owned(alloc, rows)?;
@@ -249,15 +247,15 @@ const BOTH: &[Row] = &[
     ("a=b c=2 d=1", "t=", true),
 ];
 
-fn is_told(alloc: Global, group: Group, expected: &str) -> Result<bool, Fail> {
-    let told = told_json(alloc, group)?;
-    Ok(told.as_slice() == expected.as_bytes())
-}
-
 #[test]
 fn a_webhook_is_told(rt: HostRuntime) -> Result<(), Fail> {
-    assert!(rt; is_told(rt.alloc(), (0, "", ONE, 0), FIRING)?);
-    assert!(rt; is_told(rt.alloc(), (0, "", ENDED, 0), RESOLVED)?);
-    assert!(rt; is_told(rt.alloc(), (12, "a=b", BOTH, 3), TWO)?);
+    for (route, group, rows, truncated, expected) in [
+        (0, "", ONE, 0, FIRING),
+        (0, "", ENDED, 0, RESOLVED),
+        (12, "a=b", BOTH, 3, TWO),
+    ] {
+        let told = told_json(rt.alloc(), route, group, rows, truncated)?;
+        assert_eq!(rt; told.as_slice(), expected.as_bytes());
+    }
     Ok(())
 }

@@ -52,9 +52,7 @@ fn rewritten(alloc: Global, message: &Message, bytes: &[u8]) -> &'static str {
 }
 
 // A place of GET, what stands there instead, what follows, and the code of what is read.
-type Changed = (usize, u8, &'static [u8], &'static str);
-
-const CHANGED: &[Changed] = &[
+const CHANGED: [(usize, u8, &[u8], &str); 11] = [
     (3, 0x1a, b"", ""),
     (3, 0x19, b"", "Wi2"),
     (3, 0x1b, b"", "Wi1"),
@@ -68,11 +66,8 @@ const CHANGED: &[Changed] = &[
     (3, 0x1b, b"\0", "Wi6"),
 ];
 
-// A kind of message, its body, and the code of what is read.
-type Frame = (u8, &'static [u8], &'static str);
-
 // Each kind of message, then a flag that is none and a byte that is left.
-const FRAMES: &[Frame] = &[
+const FRAMES: [(u8, &[u8], &str); 9] = [
     (1, b"\0\0\0\0\0\0\0\x07", ""),
     (2, b"\0\0\0\0\0\0\0\x07\0\0\0\x02\0\0\0\0", ""),
     (3, b"\0\0\0\0\0\0\0\x07\0\0\0\0", ""),
@@ -88,25 +83,15 @@ const FRAMES: &[Frame] = &[
     (1, b"\0\0\0\0\0\0\0\x07\0", "Wi6"),
 ];
 
-fn is_changed(alloc: Global, row: &Changed) -> Result<bool, AllocError> {
-    let (place, byte, more, expected) = *row;
-    let bytes = changed(alloc, more, place, byte)?;
-    Ok(code(alloc, bytes.as_slice()) == expected)
-}
-
-fn is_framed(alloc: Global, row: &Frame) -> Result<bool, Fail> {
-    let (kind, body, expected) = *row;
-    let bytes = frame(alloc, kind, body)?;
-    Ok(code(alloc, bytes.as_slice()) == expected)
-}
-
 #[test]
 fn frames(rt: HostRuntime) -> Result<(), Fail> {
-    for row in CHANGED {
-        assert!(rt; is_changed(rt.alloc(), row)?, "{}", row.0);
+    for (place, byte, more, expected) in CHANGED {
+        let bytes = changed(rt.alloc(), more, place, byte)?;
+        assert_eq!(rt; code(rt.alloc(), bytes.as_slice()), expected, "{place}");
     }
-    for row in FRAMES {
-        assert!(rt; is_framed(rt.alloc(), row)?, "{}", row.0);
+    for (kind, body, expected) in FRAMES {
+        let bytes = frame(rt.alloc(), kind, body)?;
+        assert_eq!(rt; code(rt.alloc(), bytes.as_slice()), expected, "{kind}");
     }
     Ok(())
 }

@@ -4,7 +4,7 @@ mod codes;
 mod greatest;
 mod told;
 
-use am_config::{Config, ConfigRefusal, Receiver, Route, Rule, Webhook};
+use am_config::{Config, ConfigRefusal, Receiver, Route, Rule};
 use am_pattern::PatternCache;
 use am_text::Failure;
 use std::alloc::{AllocError, Global};
@@ -45,11 +45,6 @@ fn code_of_text(alloc: Global, text: &str) -> &'static str {
 
 fn code_of_document(alloc: Global, document: &str) -> &'static str {
     code_of(read_document(alloc, document))
-}
-
-// The first word of a text, and what follows it.
-fn split(text: &str) -> (&str, &str) {
-    text.split_once(' ').unwrap_or((text, ""))
 }
 
 // Adds a text so many times.

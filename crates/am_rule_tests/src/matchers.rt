@@ -10,8 +10,7 @@ use std::alloc::{AllocError, Global};
 use std::test::Fail;
 
 // Each line has a text, and behind `→` its matchers as they are printed, or the code of its refusal; where the text that
-// is read again says something else, that follows. `⇥` stands for a tab, and LONG for 257 times `a`, which is a pattern
-// that is too long: it comes after one that is none.
+// is read again says something else, that follows. One text begins with a tab.
 const TEXTS: &str = r#"a=b→a="b"
 { _a1 != b c , d=~"e|f" }→_a1!="b c",d=~"e|f"
 a=~b→a=~"b"
@@ -34,15 +33,12 @@ a=b}→M1
 {a=b} →M1
 a="b→M1
 a="\t"→M1
-⇥a=b→M1
 1a=b→M1
 a=~"a)|(b"→M2
 a=~"(a{1000}){1000}",b=~"("→B2→M2
 b=~"(",a=~"(a{1000}){1000}"→M2
 a=~"(a{1000}){1000}"→B2→a=~"(a{1000}){1000}"
-a=~"(",b→M1
-a=~LONG→M3
-a=~LONG,b=~"("→M2"#;
+a=~"(",b→M1"#;
 
 type Read = Result<Vec<Matcher>, Failure<MatcherRefusal>>;
 
@@ -65,15 +61,10 @@ fn said_again(alloc: Global, text: &str) -> Result<String, AllocError> {
     said(alloc, reread_matchers(alloc, text))
 }
 
-// The text that a line stands for.
-fn text_of(alloc: Global, told: &str) -> Result<String, AllocError> {
-    let long = with_many(alloc, "", 'a', 257, "")?;
-    let text = told.replace(alloc, "LONG", long.as_str())?;
-    text.replace(alloc, "⇥", "\t")
-}
-
-// Whether a text is read with this, and read again with that.
-fn is_read(alloc: Global, text: &str, first: &str, again: &str) -> Result<bool, AllocError> {
+// Whether a text is read with what is expected, and read again with that or with something else.
+fn is_as_told(alloc: Global, line: &str) -> Result<bool, AllocError> {
+    let (text, expected) = line.split_once('→').unwrap_or((line, ""));
+    let (first, again) = expected.split_once('→').unwrap_or((expected, expected));
     let said = said_first(alloc, text)?;
     if said.as_str() != first {
         return Ok(false);
@@ -82,18 +73,16 @@ fn is_read(alloc: Global, text: &str, first: &str, again: &str) -> Result<bool, 
     Ok(said.as_str() == again)
 }
 
-// Whether the text of a line is read with what is expected, and read again with that or with something else.
-fn is_as_told(alloc: Global, line: &str) -> Result<bool, AllocError> {
-    let (told, expected) = line.split_once('→').unwrap_or((line, ""));
-    let (first, again) = expected.split_once('→').unwrap_or((expected, expected));
-    let text = text_of(alloc, told)?;
-    is_read(alloc, text.as_str(), first, again)
-}
-
 #[test]
 fn texts_are_read(rt: HostRuntime) -> Result<(), Fail> {
     for line in TEXTS.lines() {
         assert!(rt; is_as_told(rt.alloc(), line)?, "{line}");
+    }
+    assert!(rt; is_as_told(rt.alloc(), "\ta=b→M1")?);
+    // A pattern that is too long comes after one that is none.
+    for (end, expected) in [("", "M3"), (",b=~\"(\"", "M2")] {
+        let text = with_many(rt.alloc(), "a=~", 'a', 257, end)?;
+        assert_eq!(rt; said_first(rt.alloc(), text.as_str())?.as_str(), expected);
     }
     Ok(())
 }
@@ -139,23 +128,13 @@ fn taken(
     Ok(taken)
 }
 
-// Whether a pattern that begins with a number is refused for the depth of its end.
-fn is_refused(
-    alloc: Global,
-    number: usize,
-    deep: &str,
-    cache: &mut PatternCache,
-) -> Result<bool, AllocError> {
-    let pattern = format!(in alloc; "{number}{deep}")?;
-    let answer = cache.answer(alloc, pattern.as_str(), "");
-    Ok(answer == Err(Failure::Refused(PatternRefusal::BadPattern)))
-}
-
 // Whether so many patterns of another tenant are refused, each for its depth.
 fn are_refused(alloc: Global, count: usize, cache: &mut PatternCache) -> Result<bool, AllocError> {
     let deep = with_many(alloc, "", '+', 250, "")?;
+    let refused = Some(Failure::Refused(PatternRefusal::BadPattern));
     for number in 0..count {
-        if !is_refused(alloc, number, deep.as_str(), cache)? {
+        let pattern = format!(in alloc; "{number}{deep}")?;
+        if cache.answer(alloc, pattern.as_str(), "").err() != refused {
             return Ok(false);
         }
     }
@@ -173,15 +152,11 @@ fn taken_after(alloc: Global, refused_before: usize) -> Result<String, Fail> {
     taken(alloc, &matchers, &labels, &mut cache)
 }
 
-// Whether the right matchers take the label then.
-fn are_taken_after(alloc: Global, refused_before: usize) -> Result<bool, Fail> {
-    let taken = taken_after(alloc, refused_before)?;
-    Ok(taken.as_str() == "nyyyynn")
-}
-
 #[test]
 fn labels_are_matched(rt: HostRuntime) -> Result<(), Fail> {
-    assert!(rt; are_taken_after(rt.alloc(), 0)?);
-    assert!(rt; are_taken_after(rt.alloc(), 1000)?);
+    for refused_before in [0, 1000] {
+        let taken = taken_after(rt.alloc(), refused_before)?;
+        assert_eq!(rt; taken.as_str(), "nyyyynn", "{refused_before}");
+    }
     Ok(())
 }

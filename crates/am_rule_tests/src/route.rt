@@ -29,13 +29,7 @@ fn read(alloc: Global, text: &str, cache: &mut PatternCache) -> Result<Config, F
     Ok(Config::read_text(alloc, text.as_bytes(), cache)?)
 }
 
-// Adds a space and the number of a route.
-fn add_number(alloc: Global, numbers: &mut String, number: usize) -> Result<(), AllocError> {
-    let text = format!(in alloc; " {number}")?;
-    numbers.push_str(text.as_str())
-}
-
-// The numbers of the routes of these labels, each with a space before it.
+// The numbers of the routes of these labels, each with a space behind it.
 fn numbers_of(
     alloc: Global,
     config: &Config,
@@ -44,7 +38,8 @@ fn numbers_of(
 ) -> Result<String, Fail> {
     let mut numbers = String::new(alloc);
     for route in &routes_of(alloc, config, labels, cache)? {
-        add_number(alloc, &mut numbers, route.number())?;
+        let number = format!(in alloc; "{} ", route.number())?;
+        numbers.push_str(number.as_str())?;
     }
     Ok(numbers)
 }
@@ -57,35 +52,18 @@ fn numbers(alloc: Global, text: &str, name: &str, value: &str) -> Result<String,
     numbers_of(alloc, &config, &labels, &mut cache)
 }
 
-// Each line has the name of a configuration, a label, and the numbers of its routes.
-const TABLE: &str = "\
-siblings a=b: 1 2
-siblings a=c: 2
-siblings x=y: 0
-nested a=b: 15
-nested a=c: 0";
-
-fn text_named(alloc: Global, name: &str) -> Result<String, AllocError> {
-    match name {
-        "siblings" => String::from_str(alloc, SIBLINGS),
-        _ => nested(alloc),
-    }
-}
-
-// Whether the label of a line has the routes that the line says.
-fn is_as_told(alloc: Global, line: &str) -> Result<bool, Fail> {
-    let (told, expected) = line.split_once(':').unwrap_or((line, ""));
-    let (config, label) = told.split_once(' ').unwrap_or((told, ""));
-    let (name, value) = label.split_once('=').unwrap_or((label, ""));
-    let text = text_named(alloc, config)?;
-    let numbers = numbers(alloc, text.as_str(), name, value)?;
-    Ok(numbers.as_str() == expected)
-}
-
 #[test]
 fn routes_of_labels(rt: HostRuntime) -> Result<(), Fail> {
-    for line in TABLE.lines() {
-        assert!(rt; is_as_told(rt.alloc(), line)?, "{line}");
+    let nested = nested(rt.alloc())?;
+    for (text, name, value, expected) in [
+        (SIBLINGS, "a", "b", "1 2 "),
+        (SIBLINGS, "a", "c", "2 "),
+        (SIBLINGS, "x", "y", "0 "),
+        (nested.as_str(), "a", "b", "15 "),
+        (nested.as_str(), "a", "c", "0 "),
+    ] {
+        let numbers = numbers(rt.alloc(), text, name, value)?;
+        assert_eq!(rt; numbers.as_str(), expected, "{name}={value}");
     }
     Ok(())
 }

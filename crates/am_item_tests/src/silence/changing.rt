@@ -98,11 +98,8 @@ fn deleted(alloc: Global, held: &Held) -> Result<String, Fail> {
     Ok(shown(alloc, &write)?)
 }
 
-// A value, and the minutes from which and until which a silence on it is posted.
-type Post = (&'static str, u8, u8);
-
 // What is done at minute 5 where silence 1 is held from one minute until another.
-fn done(alloc: Global, held_from: u8, post: Option<Post>) -> Result<String, Fail> {
+fn done(alloc: Global, held_from: u8, post: Option<(&str, u8, u8)>) -> Result<String, Fail> {
     let held = held(alloc, held_from, 10)?;
     match post {
         Some((value, from, until)) => changes(alloc, &held, posted(alloc, value, from, until)?),
@@ -110,33 +107,23 @@ fn done(alloc: Global, held_from: u8, post: Option<Post>) -> Result<String, Fail
     }
 }
 
-// From which minute silence 1 is held, what is posted, if it isn't deleted, and what is written.
-type Row = (u8, Option<Post>, &'static str);
-
-const ROWS: &[Row] = &[
-    // an active silence is changed in place
-    (0, Some(("b", 0, 8)), "5: 1 0 8 10 you;"),
-    // or it ends and another begins
-    (0, Some(("c", 0, 8)), "5: 1 0 5 10 me;5: 9 5 8 8 you;"),
-    (0, Some(("b", 6, 8)), "5: 1 0 5 10 me;5: 9 6 8 8 you;"),
-    // a pending silence may start at the moment
-    (7, Some(("b", 5, 12)), "5: 1 5 12 12 you;"),
-    (7, Some(("b", 4, 12)), "5: 1 5 5 10 me;5: 9 5 12 12 you;"),
-    // a deletion expires
-    (0, None, "5: 1 0 5 10 me;"),
-    (7, None, "5: 1 5 5 10 me;"),
-];
-
-fn is_done(alloc: Global, row: &Row) -> Result<bool, Fail> {
-    let (held_from, post, expected) = *row;
-    let done = done(alloc, held_from, post)?;
-    Ok(done.as_str() == expected)
-}
-
 #[test]
 fn what_is_written(rt: HostRuntime) -> Result<(), Fail> {
-    for row in ROWS {
-        assert!(rt; is_done(rt.alloc(), row)?, "{}", row.2);
+    for (held_from, post, expected) in [
+        // an active silence is changed in place
+        (0, Some(("b", 0, 8)), "5: 1 0 8 10 you;"),
+        // or it ends and another begins
+        (0, Some(("c", 0, 8)), "5: 1 0 5 10 me;5: 9 5 8 8 you;"),
+        (0, Some(("b", 6, 8)), "5: 1 0 5 10 me;5: 9 6 8 8 you;"),
+        // a pending silence may start at the moment
+        (7, Some(("b", 5, 12)), "5: 1 5 12 12 you;"),
+        (7, Some(("b", 4, 12)), "5: 1 5 5 10 me;5: 9 5 12 12 you;"),
+        // a deletion expires
+        (0, None, "5: 1 0 5 10 me;"),
+        (7, None, "5: 1 5 5 10 me;"),
+    ] {
+        let done = done(rt.alloc(), held_from, post)?;
+        assert_eq!(rt; done.as_str(), expected);
     }
     Ok(())
 }

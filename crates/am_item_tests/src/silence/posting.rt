@@ -56,34 +56,25 @@ fn code(alloc: Global, name: &str, starts: &str, ends: &str, at: u8) -> Result<&
     }
 }
 
-// Matchers, the start and the end of a silence, the minute of its post, and the code of what refuses it.
-type Row = (&'static str, &'static str, &'static str, u8, &'static str);
-
-const ROWS: &[Row] = &[
-    // the form
-    ("none", "", MINUTE_0, 5, "S6"),
-    // the matchers
-    ("none", MINUTE_1, MINUTE_0, 5, "S1"),
-    ("unnamed", MINUTE_1, MINUTE_0, 5, "M1"),
-    ("long, broken", MINUTE_1, MINUTE_0, 5, "M2"),
-    ("long", MINUTE_1, MINUTE_0, 5, "M3"),
-    ("empty", MINUTE_1, MINUTE_0, 5, "S2"),
-    // the times
-    ("full", MINUTE_1, MINUTE_0, 5, "S3"),
-    // the moment
-    ("full", MINUTE_0, MINUTE_1, 1, "S5"),
-    ("full", MINUTE_0, MINUTE_1, 0, "none"),
-];
-
-fn is_as_told(alloc: Global, row: &Row) -> Result<bool, Fail> {
-    let (name, starts, ends, at, expected) = *row;
-    Ok(code(alloc, name, starts, ends, at)? == expected)
-}
-
 #[test]
 fn the_first_fault_decides(rt: HostRuntime) -> Result<(), Fail> {
-    for row in ROWS {
-        assert!(rt; is_as_told(rt.alloc(), row)?, "{} {}", row.0, row.4);
+    for (name, starts, ends, at, expected) in [
+        // the form
+        ("none", "", MINUTE_0, 5, "S6"),
+        // the matchers
+        ("none", MINUTE_1, MINUTE_0, 5, "S1"),
+        ("unnamed", MINUTE_1, MINUTE_0, 5, "M1"),
+        ("long, broken", MINUTE_1, MINUTE_0, 5, "M2"),
+        ("long", MINUTE_1, MINUTE_0, 5, "M3"),
+        ("empty", MINUTE_1, MINUTE_0, 5, "S2"),
+        // the times
+        ("full", MINUTE_1, MINUTE_0, 5, "S3"),
+        // the moment
+        ("full", MINUTE_0, MINUTE_1, 1, "S5"),
+        ("full", MINUTE_0, MINUTE_1, 0, "none"),
+    ] {
+        let code = code(rt.alloc(), name, starts, ends, at)?;
+        assert_eq!(rt; code, expected, "{name}");
     }
     Ok(())
 }

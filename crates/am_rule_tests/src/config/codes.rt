@@ -198,8 +198,8 @@ fn code_within(alloc: Global, name: &str, part: &str) -> Result<&'static str, Al
 
 // Whether a line of the table has its code, or begins with `#`.
 fn is_as_told(alloc: Global, line: &str) -> Result<bool, AllocError> {
-    let (name, rest) = split(line);
-    let (code, part) = split(rest);
+    let (name, rest) = line.split_once(' ').unwrap_or((line, ""));
+    let (code, part) = rest.split_once(' ').unwrap_or((rest, ""));
     if name == "#" {
         return Ok(true);
     }

@@ -66,22 +66,14 @@ fn add_routes(alloc: Global, told: &mut String, config: &Config) -> Result<(), A
 }
 
 fn add_route(alloc: Global, told: &mut String, node: &Node<Route>) -> Result<(), AllocError> {
-    add_place(alloc, told, node)?;
-    add_spans(alloc, told, &node.item)
-}
-
-fn add_place(alloc: Global, told: &mut String, node: &Node<Route>) -> Result<(), AllocError> {
     let settings = node.item.settings;
     let (within, receiver, grouping) = (node.within, settings.receiver, settings.grouping);
+    let (wait, interval) = (settings.group_wait, settings.group_interval);
+    let (repeat, goes_on) = (settings.repeat_interval, node.item.goes_on);
+    let matchers = node.item.matchers.as_slice().len();
     let place = format!(in alloc; "{within} {receiver} {grouping:?}")?;
-    told.push_str(place.as_str())
-}
-
-fn add_spans(alloc: Global, told: &mut String, route: &Route) -> Result<(), AllocError> {
-    let (wait, interval) = (route.settings.group_wait, route.settings.group_interval);
-    let (repeat, goes_on) = (route.settings.repeat_interval, route.goes_on);
-    let matchers = route.matchers.as_slice().len();
     let spans = format!(in alloc; " {wait} {interval} {repeat} {goes_on} {matchers}\n")?;
+    told.push_str(place.as_str())?;
     told.push_str(spans.as_str())
 }
 
@@ -120,16 +112,12 @@ fn add_receivers(alloc: Global, told: &mut String, config: &Config) -> Result<()
 fn add_receiver(alloc: Global, told: &mut String, receiver: &Receiver) -> Result<(), AllocError> {
     told.push_str(receiver.name.as_str())?;
     for webhook in receiver.webhooks.as_slice() {
-        add_webhook(alloc, told, webhook)?;
+        let (url, resolved) = (webhook.url.as_str(), webhook.send_resolved);
+        let most = webhook.max_alerts;
+        let line = format!(in alloc; " {url} {resolved} {most}")?;
+        told.push_str(line.as_str())?;
     }
     told.push('\n')
-}
-
-fn add_webhook(alloc: Global, told: &mut String, webhook: &Webhook) -> Result<(), AllocError> {
-    let (url, resolved) = (webhook.url.as_str(), webhook.send_resolved);
-    let most = webhook.max_alerts;
-    let line = format!(in alloc; " {url} {resolved} {most}")?;
-    told.push_str(line.as_str())
 }
 
 fn add_rules(alloc: Global, told: &mut String, config: &Config) -> Result<(), AllocError> {
@@ -164,28 +152,20 @@ fn told_of(alloc: Global, text: &str, read: Read) -> Result<String, AllocError> 
     }
 }
 
-// Whether what was read of a text tells this.
-fn tells(alloc: Global, text: &str, read: Read, expected: &str) -> Result<bool, AllocError> {
-    let told = told_of(alloc, text, read)?;
-    Ok(told.as_str() == expected)
-}
-
-// Whether a text tells this, read and read again.
-fn is_told(alloc: Global, text: &str, expected: &str) -> Result<bool, AllocError> {
-    if tells(alloc, text, read_text(alloc, text), expected)? {
-        return tells(alloc, text, reread(alloc, text), expected);
+#[test]
+fn everything_told(rt: HostRuntime) -> Result<(), Fail> {
+    let alloc = rt.alloc();
+    for (text, expected) in [(TREE, TREE_TOLD), (DEFAULT, DEFAULT_TOLD)] {
+        let first = told_of(alloc, text, read_text(alloc, text))?;
+        assert_eq!(rt; first.as_str(), expected);
+        let again = told_of(alloc, text, reread(alloc, text))?;
+        assert_eq!(rt; again.as_str(), expected);
     }
-    Ok(false)
+    let default = told_of(alloc, DEFAULT, default_read(alloc))?;
+    assert_eq!(rt; default.as_str(), DEFAULT_TOLD);
+    Ok(())
 }
 
 fn default_read(alloc: Global) -> Read {
     Ok(Config::default_config(alloc)?)
-}
-
-#[test]
-fn everything_told(rt: HostRuntime) -> Result<(), Fail> {
-    assert!(rt; is_told(rt.alloc(), TREE, TREE_TOLD)?);
-    assert!(rt; is_told(rt.alloc(), DEFAULT, DEFAULT_TOLD)?);
-    assert!(rt; tells(rt.alloc(), DEFAULT, default_read(rt.alloc()), DEFAULT_TOLD)?);
-    Ok(())
 }
