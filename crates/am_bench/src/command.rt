@@ -1,46 +1,30 @@
 //! What a line asks for.
 ghost use Rattle.std.specs.Prelude.{◌≤◌, IfOk};
 
-use crate::grouping::Order;
-use crate::{flushes, grouping, queue, storing};
+use crate::storing;
 use anyhow::{Context, Result, bail, ensure};
 use std::alloc::Global;
 
-const MOST_TIMERS: usize = 1_000_000;
+const MOST_ROWS: usize = 100_000;
 
-const MOST_ALERTS: usize = 100_000;
+const MOST_TENANTS: usize = 1_000;
 
 const MOST_TIMES: usize = 1_000_000;
 
-const MOST_ROWS: usize = 100_000;
-
-/// Does what a line asks for, and tells how many timers were taken, alerts removed, alerts told, or rows put or read:
-/// - `timers COUNT`: timers are set and taken;
-/// - `groups ALERTS GROUPS ORDER TIMES`: alerts are put into groups and removed, both in this order, so many times;
-/// - `flush MEMBERS TIMES`: a group of so many members is flushed so many times;
-/// - `put ROWS TIMES`, `read ROWS TIMES`: of so many stored rows of a tenant one is put, or all are read, so many times.
+/// Does what a line asks for, and tells how many rows were put or read:
+/// - `put ROWS TENANTS TIMES`, `read ROWS TENANTS TIMES`: of so many stored rows of a tenant, beside so many other tenants,
+///   one is put, or all are read, so many times.
 pub fn obey(alloc: Global, line: &str) -> Result<usize> {
     let words: Vec<&str> = line.split_whitespace().collect(alloc)?;
-    match words.as_slice() {
-        ["timers", count] => queue::set_and_take(alloc, number(count, MOST_TIMERS)?),
-        ["groups", alerts, groups, order, times] => {
-            let alerts = number(alerts, MOST_ALERTS)?;
-            let groups = number(groups, MOST_ALERTS)?;
-            let order = order_of(order)?;
-            grouping::put_and_remove(alloc, alerts, groups, order, number(times, MOST_TIMES)?)
-        }
-        ["flush", members, times] => {
-            let members = number(members, MOST_ALERTS)?;
-            flushes::flush_often(alloc, members, number(times, MOST_TIMES)?)
-        }
-        ["put", rows, times] => {
-            let rows = number(rows, MOST_ROWS)? as u32;
-            storing::put_often(alloc, rows, number(times, MOST_TIMES)? as u32)
-        }
-        ["read", rows, times] => {
-            let rows = number(rows, MOST_ROWS)? as u32;
-            storing::read_often(alloc, rows, number(times, MOST_TIMES)? as u32)
-        }
+    let [verb, rows, tenants, times] = words.as_slice() else {
+        bail!("a command has four words");
+    };
+    let rows = number(rows, MOST_ROWS)? as u32;
+    let tenants = number(tenants, MOST_TENANTS)? as u32;
+    let times = number(times, MOST_TIMES)? as u32;
+    match *verb {
+        "put" => storing::put_often(alloc, rows, tenants, times),
+        "read" => storing::read_often(alloc, rows, tenants, times),
         _ => bail!("unknown command"),
     }
 }
@@ -52,13 +36,4 @@ fn number(word: &str, most: usize) -> Result<usize>
     let number = word.parse::<usize>().context("not a number")?;
     ensure!(number <= most, "more than {most}");
     Ok(number)
-}
-
-fn order_of(word: &str) -> Result<Order> {
-    match word {
-        "rising" => Ok(Order::Rising),
-        "falling" => Ok(Order::Falling),
-        "mixed" => Ok(Order::Mixed),
-        _ => bail!("unknown order"),
-    }
 }

@@ -1,13 +1,9 @@
-//! Drives parts of amring alone, for `bench/run`: those that no event of a scenario reaches.
+//! Drives the store alone, for `bench/run`: no event of a scenario reaches it.
 //!
 //! Each line of standard input is a command, and is printed with what came of it. One that can't be read ends the program.
 #![tactic(auto)]
 
 mod command;
-mod flushes;
-mod grouping;
-mod making;
-mod queue;
 mod storing;
 
 use std::io;

@@ -3,7 +3,6 @@
 ghost use Rattle.std.specs.Prelude.{IfOk};
 ghost use Rattle.am_store.specs.Rows.{IsFit, IsNumbered};
 
-use crate::making::moment;
 use am_item::{Item, Matchers, Silence, SilenceId, Stamp, Thing};
 use am_store::Store;
 use am_tenant::TenantName;
@@ -13,26 +12,25 @@ use sqlite::{Connection, FileStore, Files, Options};
 use sqlite_disk::Memory;
 use std::alloc::Global;
 
-// How many other tenants have rows, and how many each has.
-const OTHERS: u32 = 300;
-
+// How many rows each other tenant has.
 const ROWS_OF_OTHERS: u32 = 10;
 
 type Stored = Store<FileStore<Memory>>;
 
-/// Stores so many silences of a tenant beside those of 300 others, and then one of them again, so many times. Tells how
-/// often.
-pub fn put_often(alloc: Global, rows: u32, times: u32) -> Result<usize> {
-    let (mut store, tenant) = filled(alloc, rows)?;
+/// Stores so many silences of a tenant beside those of so many others, and then one of them again, so many times. Tells
+/// how often.
+pub fn put_often(alloc: Global, rows: u32, others: u32, times: u32) -> Result<usize> {
+    let (mut store, tenant) = filled(alloc, rows, others)?;
     for time in 0..times {
         put(alloc, &mut store, &tenant, rows / 2, time.saturating_add(2))?;
     }
     Ok(times as usize)
 }
 
-/// Stores so many silences of a tenant beside those of 300 others, and reads them so many times. Tells how many were read.
-pub fn read_often(alloc: Global, rows: u32, times: u32) -> Result<usize> {
-    let (mut store, tenant) = filled(alloc, rows)?;
+/// Stores so many silences of a tenant beside those of so many others, and reads them so many times. Tells how many were
+/// read.
+pub fn read_often(alloc: Global, rows: u32, others: u32, times: u32) -> Result<usize> {
+    let (mut store, tenant) = filled(alloc, rows, others)?;
     let mut read = 0_usize;
     for _ in 0..times {
         read = read.saturating_add(store.rows_of(alloc, &tenant)?.len());
@@ -41,9 +39,9 @@ pub fn read_often(alloc: Global, rows: u32, times: u32) -> Result<usize> {
 }
 
 // A store in which a tenant has so many silences, and others have theirs.
-fn filled(alloc: Global, rows: u32) -> Result<(Stored, TenantName)> {
+fn filled(alloc: Global, rows: u32, others: u32) -> Result<(Stored, TenantName)> {
     let mut store = opened(alloc)?;
-    for number in 0..OTHERS {
+    for number in 0..others {
         let name = format!(in alloc; "other-{number}")?;
         let other = TenantName::read(name.as_bytes())?;
         fill(alloc, &mut store, &other, ROWS_OF_OTHERS)?;
@@ -98,7 +96,7 @@ fn silence(alloc: Global, number: u32, count: u32) -> Result<Item>
     ];
     let silence = Silence {
         id: SilenceId::from_bytes(id),
-        starts_at: moment(0),
+        starts_at: first_moment(),
         ends_at: Moment::greatest(),
         kept_until: Moment::greatest(),
         created_by: Text::read(alloc, "ada")?,
@@ -115,9 +113,13 @@ fn stamp(count: u32) -> Stamp
     ensures { IsNumbered result }
 {
     Stamp {
-        moment: moment(0),
+        moment: first_moment(),
         instance: 1,
         incarnation: 1,
         count: u64::from(count),
     }
+}
+
+fn first_moment() -> Moment {
+    Moment::from_milliseconds(0).unwrap_or(Moment::greatest())
 }

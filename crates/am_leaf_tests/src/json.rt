@@ -1,26 +1,34 @@
 //! Texts that are written, and fields that are read.
 
-use am_json::{JsonWriter, count_at, read_json, text_at};
-use am_text::{Moment, Text};
+use am_expect::equal;
+use am_json::{JsonRefusal, JsonWriter, count_at, read_json, text_at, texts_in};
+use am_text::{Failure, Moment, Text};
 use serde_json::Value;
 use std::alloc::{AllocError, Global};
 use std::test::Fail;
 
 // As Python's `json.dumps` writes it, with no spaces and with all characters as they are that need no escape.
 const WRITTEN: &str =
-    r#"{"a":"1970-01-01T00:00:00.000Z","b":["","\"\\/\n\u001fé"],"c":[true,18446744073709551615]}"#;
+    r#"{"a":"9999-12-31T23:59:59.999Z","b":["","\"\\/\n\u001fé"],"c":[true,18446744073709551615]}"#;
 
-fn write_object(text: &mut JsonWriter, names: &[Text]) -> Result<(), AllocError> {
+// The list in it, with escapes where none is needed.
+const READ: &str = r#"[ "", "\"\\\/\u000a\u001F\u00e9" ]"#;
+
+fn texts(alloc: Global) -> Result<Vec<Text>, Failure<JsonRefusal>> {
+    let value = read_json(alloc, READ.as_bytes())?;
+    texts_in(alloc, &value)
+}
+
+fn write_object(text: &mut JsonWriter, texts: &[Text]) -> Result<(), AllocError> {
     text.begin_object()?;
-    write_members(text, names)?;
+    text.moment_member("a", Moment::greatest())?;
+    text.texts_member("b", texts)?;
+    text.key("c")?;
+    write_list(text)?;
     text.end_object()
 }
 
-fn write_members(text: &mut JsonWriter, names: &[Text]) -> Result<(), AllocError> {
-    let moment = Moment::from_milliseconds(0).unwrap_or(Moment::greatest());
-    text.moment_member("a", moment)?;
-    text.texts_member("b", names)?;
-    text.key("c")?;
+fn write_list(text: &mut JsonWriter) -> Result<(), AllocError> {
     text.begin_array()?;
     text.boolean(true)?;
     text.number(u64::MAX)?;
@@ -29,45 +37,60 @@ fn write_members(text: &mut JsonWriter, names: &[Text]) -> Result<(), AllocError
 
 #[test]
 fn texts_are_compact_and_escaped(rt: HostRuntime) -> Result<(), Fail> {
-    let alloc = rt.alloc();
-    let names = [Text::read(alloc, "")?, Text::read(alloc, "\"\\/\n\u{1f}é")?];
-    let mut text = JsonWriter::new(alloc);
-    write_object(&mut text, &names)?;
-    assert_eq!(rt; text.finish().as_slice(), WRITTEN.as_bytes());
-    Ok(())
+    let texts = texts(rt.alloc())?;
+    let mut text = JsonWriter::new(rt.alloc());
+    write_object(&mut text, &texts)?;
+    equal(text.finish().as_slice(), WRITTEN.as_bytes(), "an object")
 }
 
-// A refusal's code, or what the text says.
-fn told(alloc: Global, text: &str) -> Result<String, AllocError> {
-    match read_json(alloc, text.as_bytes()) {
-        Ok(value) => fields_told(alloc, &value),
-        Err(failure) => format!(in alloc; "{failure}"),
+// Objects with the text and the count that their fields hold, and `ok`; or texts with nothing, and the code of the
+// refusal.
+const TEXTS: &[(&str, &str, u64, &str)] = &[
+    ("", "", 0, "J1"),
+    ("{} {}", "", 0, "J1"),
+    (r#"{"t":"x","n":1e999}"#, "", 0, "J1"),
+    (r#"{"t":"\ud800"}"#, "", 0, "J1"),
+    ("[]", "", 0, "J2"),
+    (r#"{"t":null}"#, "", 0, "J2"),
+    (r#"{"t":"x","n":-1}"#, "", 0, "J2"),
+    (r#"{"t":"x"}"#, "x", 0, "ok"),
+    (r#"{"t":1,"n":7,"t":"\u00e9"}"#, "é", 7, "ok"),
+];
+
+// Whether these are the fields of the object.
+fn value_has(
+    alloc: Global,
+    value: &Value,
+    text: &str,
+    count: u64,
+) -> Result<bool, Failure<JsonRefusal>> {
+    let is_count = count_at(value, "n")? == count;
+    Ok(text_at(alloc, value, "t")?.as_str() == text && is_count)
+}
+
+fn text_has(
+    alloc: Global,
+    json: &str,
+    text: &str,
+    count: u64,
+) -> Result<bool, Failure<JsonRefusal>> {
+    let value = read_json(alloc, json.as_bytes())?;
+    value_has(alloc, &value, text, count)
+}
+
+fn told(alloc: Global, json: &str, text: &str, count: u64) -> &'static str {
+    match text_has(alloc, json, text, count) {
+        Ok(true) => "ok",
+        Ok(false) => "something else",
+        Err(Failure::Refused(refusal)) => refusal.code(),
+        Err(Failure::OutOfMemory) => "out of memory",
     }
 }
-
-fn fields_told(alloc: Global, value: &Value) -> Result<String, AllocError> {
-    match (text_at(alloc, value, "t"), count_at(value, "n")) {
-        (Ok(text), Ok(count)) => format!(in alloc; "{} {count}", text.as_str()),
-        (Err(failure), _) => format!(in alloc; "{failure}"),
-        (_, Err(failure)) => format!(in alloc; "{failure}"),
-    }
-}
-
-const TEXTS: &str = r#"→J1
-{} {}→J1
-{"t":"x","n":1e999}→J1
-{"t":"\ud800"}→J1
-[]→J2
-{"t":null}→J2
-{"t":"x","n":-1}→J2
-{"t":"x"}→x 0
-{"t":1,"n":7,"t":"\u00e9"}→é 7"#;
 
 #[test]
 fn fields_of_texts(rt: HostRuntime) -> Result<(), Fail> {
-    for line in TEXTS.lines() {
-        let (text, expected) = line.split_once('→').unwrap_or((line, ""));
-        assert_eq!(rt; told(rt.alloc(), text)?.as_str(), expected, "{text}");
+    for (json, text, count, wanted) in TEXTS {
+        equal(told(rt.alloc(), json, text, *count), *wanted, *json)?;
     }
     Ok(())
 }

@@ -1,4 +1,4 @@
-//! Worked examples: texts, names of tenants, labels, limits, URLs, JSON and the ring.
+//! Worked examples: texts, names of tenants, labels, limits, URLs, JSON, the ring and random words.
 #![tactic(auto)]
 
 #[cfg(test)]
@@ -15,3 +15,5 @@ mod tenant;
 mod text;
 #[cfg(test)]
 mod url;
+#[cfg(test)]
+mod words;

@@ -1,38 +1,40 @@
-use am_limit::{Allowance, Allowances};
+//! Notices that tenants may have.
+
+use am_expect::equal;
+use am_limit::Allowances;
 use am_tenant::TenantName;
 use am_text::Moment;
 use std::alloc::Global;
 use std::test::Fail;
 
-#[test]
-fn minutes(rt: HostRuntime) -> Result<(), Fail> {
-    let asked = [
-        (1_750_000_020_000, true),
-        (1_750_000_079_999, true),
-        (1_750_000_079_999, false),
-        (1_750_000_080_000, true),
-    ];
-    let mut allowance = Allowance::new(2);
-    for (milliseconds, want) in asked {
-        let moment = Moment::from_milliseconds(milliseconds).ok_or("no moment")?;
-        assert_eq!(rt; allowance.take(moment), want, "{milliseconds}");
-    }
-    Ok(())
+// Notices of tenants that are asked for, two a minute: when, and whether each may be had.
+const ASKED: &[(&str, u64, bool)] = &[
+    ("a", 1_750_000_020_000, true),
+    ("a", 1_750_000_079_999, true),
+    ("a", 1_750_000_079_999, false),
+    ("b", 1_750_000_079_999, true),
+    ("a", 1_750_000_080_000, true),
+];
+
+fn may_be_had(
+    alloc: Global,
+    allowances: &mut Allowances,
+    (tenant, milliseconds, wanted): (&str, u64, bool),
+) -> Result<(), Fail> {
+    let name = TenantName::read(tenant.as_bytes())?;
+    let moment = Moment::from_milliseconds(milliseconds).ok_or("no moment")?;
+    equal(
+        allowances.take(alloc, &name, 2, moment)?,
+        wanted,
+        milliseconds,
+    )
 }
 
-// Whether a tenant may have one more notice in the first minute, of one.
-fn take(alloc: Global, allowances: &mut Allowances, tenant: &[u8]) -> Result<bool, Fail> {
-    let tenant = TenantName::read(tenant)?;
-    let moment = Moment::from_milliseconds(60_000).ok_or("no moment")?;
-    Ok(allowances.take(alloc, &tenant, 1, moment)?)
-}
-
 #[test]
-fn each_tenant_has_an_allowance(rt: HostRuntime) -> Result<(), Fail> {
+fn each_tenant_has_an_allowance_a_minute(rt: HostRuntime) -> Result<(), Fail> {
     let mut allowances = Allowances::new(rt.alloc());
-    let asked: [(&[u8], bool); 3] = [(b"a", true), (b"a", false), (b"b", true)];
-    for (tenant, want) in asked {
-        assert_eq!(rt; take(rt.alloc(), &mut allowances, tenant)?, want);
+    for asked in ASKED {
+        may_be_had(rt.alloc(), &mut allowances, *asked)?;
     }
     Ok(())
 }

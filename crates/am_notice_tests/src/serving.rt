@@ -1,5 +1,6 @@
 //! Clients and calls over sockets in memory, and the turns of tenants.
 
+use am_expect::equal;
 use am_serve::{
     Calls, Clients, Dialed, Host, Lanes, Moved, Progress, Socket, Turn, Verdict, read_from,
 };
@@ -89,6 +90,16 @@ struct Desk {
     closed: u32,
 }
 
+impl Desk {
+    fn new(alloc: Global, reply: &'static [u8]) -> Desk {
+        Desk {
+            alloc,
+            reply,
+            closed: 0,
+        }
+    }
+}
+
 impl Host for Desk {
     fn open(&mut self, connection: u64) -> bool {
         connection < 2
@@ -126,135 +137,230 @@ fn last_turn(
     None
 }
 
+type Row = (&'static str, &'static [u8], u32, bool, Turn, u32);
+
+// What a client sends, its reply, the write at which its socket breaks, whether it ends then, its last turn, and how
+// many connections are closed in the host by that.
+const CLIENTS: &[Row] = &[
+    ("ab", DONE, 0, true, Turn::Lost, 1),
+    ("abcd.", DONE, 0, false, Turn::Answered, 0),
+    ("abcd.", DONE, 3, false, Turn::Lost, 0),
+    ("abcd.fgh", REFUSED, 0, false, Turn::Drained, 0),
+];
+
+// The key of a client that is added where there is room for one more.
+fn add(clients: &mut Clients<Fake>, socket: Fake, desk: &mut Desk, now: Instant) -> Option<usize> {
+    if clients.is_full() {
+        return None;
+    }
+    clients.add(socket, desk, now)
+}
+
+// The last turn of a client, and how many connections are closed then; first of one, then of another that came with it.
+fn ends(
+    clients: &mut Clients<Fake>,
+    desk: &mut Desk,
+    row: &Row,
+    now: Instant,
+) -> Option<(Turn, u32)> {
+    let (text, reply, breaks_at, ends, _, _) = *row;
+    let first = add(
+        clients,
+        socket(text.as_bytes(), reply, breaks_at, ends),
+        desk,
+        now,
+    )?;
+    let second = add(clients, socket(b"x.", reply, 0, true), desk, now)?;
+    let both = clients.is_full() && clients.opened() == 2;
+    let turn = last_turn(clients, first, desk, now)?;
+    let closed = desk.closed;
+    last_turn(clients, second, desk, now)?;
+    if both && clients.is_empty() && desk.closed == closed {
+        return Some((turn, closed));
+    }
+    None
+}
+
+fn client_ends(alloc: Global, row: &Row, now: Instant) -> Result<(), Fail> {
+    let mut clients = Clients::new(alloc, 2)?;
+    let ends = ends(&mut clients, &mut Desk::new(alloc, row.1), row, now);
+    equal(ends, Some((row.4, row.5)), row.0)
+}
+
 #[test]
 fn clients_end(rt: HostRuntime) -> Result<(), Fail> {
     let now = Instant::now(&rt)?;
-    let table = [
-        (b"ab".as_slice(), DONE, 0, true, Turn::Lost, 1),
-        (b"abcd.".as_slice(), DONE, 0, false, Turn::Answered, 0),
-        (b"abcd.".as_slice(), DONE, 3, false, Turn::Lost, 0),
-        (b"abcd.fgh".as_slice(), REFUSED, 0, false, Turn::Drained, 0),
-    ];
-    for (text, reply, breaks_at, ends, expected, closed) in table {
-        let mut desk = Desk {
-            alloc: rt.alloc(),
-            reply,
-            closed: 0,
-        };
-        let mut clients = Clients::new(rt.alloc(), 2)?;
-        assert!(rt; !clients.is_full());
-        let first = clients.add(socket(text, reply, breaks_at, ends), &mut desk, now);
-        assert!(rt; !clients.is_full());
-        let second = clients.add(socket(b"x.", reply, 0, true), &mut desk, now);
-        assert!(rt; clients.is_full() && clients.opened() == 2);
-        let first = last_turn(&mut clients, first.ok_or("no client")?, &mut desk, now);
-        assert!(rt; first == Some(expected));
-        assert_eq!(rt; desk.closed, closed);
-        assert!(rt; last_turn(&mut clients, second.ok_or("no client")?, &mut desk, now).is_some());
-        assert!(rt; clients.is_empty() && desk.closed == closed);
+    for row in CLIENTS {
+        client_ends(rt.alloc(), row, now)?;
     }
     Ok(())
+}
+
+fn after(start: Instant, seconds: u64) -> Instant {
+    start
+        .checked_add(Duration::from_secs(seconds))
+        .unwrap_or(start)
+}
+
+// Whether a client is let go after so many seconds that sent a part of its request a second after it came.
+fn goes(
+    clients: &mut Clients<Fake>,
+    desk: &mut Desk,
+    start: Instant,
+    seconds: u64,
+) -> Option<bool> {
+    let next = clients.next_key();
+    let key = add(clients, socket(b"ab", DONE, 0, false), desk, start)?;
+    let turn = clients.turn(key, desk, after(start, 1), &mut [0; 4096])?;
+    if key == next && key < clients.capacity() && turn == Turn::Waits {
+        return Some(clients.judge(key, desk, after(start, seconds)));
+    }
+    None
+}
+
+fn silent_client(alloc: Global, start: Instant, seconds: u64, wanted: bool) -> Result<(), Fail> {
+    let mut desk = Desk::new(alloc, DONE);
+    let mut clients = Clients::new(alloc, 1)?;
+    let goes = goes(&mut clients, &mut desk, start, seconds);
+    let found = (goes, clients.is_empty(), desk.closed == 1);
+    equal(found, (Some(wanted), wanted, wanted), seconds)
 }
 
 #[test]
 fn silent_clients_are_let_go(rt: HostRuntime) -> Result<(), Fail> {
     let start = Instant::now(&rt)?;
-    // A client that sent a part of its request a second after it came.
-    for (seconds, expected) in [(5, false), (6, true)] {
-        let mut desk = Desk {
-            alloc: rt.alloc(),
-            reply: DONE,
-            closed: 0,
-        };
-        let mut clients = Clients::new(rt.alloc(), 1)?;
-        assert!(rt; !clients.is_full());
-        let key = clients.next_key();
-        let added = clients.add(socket(b"ab", DONE, 0, false), &mut desk, start);
-        assert!(rt; added == Some(key) && key < clients.capacity());
-        let heard = start.checked_add(Duration::from_secs(1)).ok_or("no time")?;
-        let turn = clients.turn(key, &mut desk, heard, &mut [0; 4096]);
-        assert!(rt; turn == Some(Turn::Waits));
-        let now = start
-            .checked_add(Duration::from_secs(seconds))
-            .ok_or("no time")?;
-        assert!(rt; clients.judge(key, &mut desk, now) == expected);
-        assert!(rt; clients.is_empty() == expected);
-        assert!(rt; (desk.closed == 1) == expected);
+    silent_client(rt.alloc(), start, 5, false)?;
+    silent_client(rt.alloc(), start, 6, true)
+}
+
+type CallRow = (&'static str, u32, Option<u16>);
+
+// What a call is answered, the write at which its socket breaks, and the status it ends with.
+const CALLS: &[CallRow] = &[
+    ("HTTP/1.1 200 OK\r\n", 0, Some(200)),
+    ("HTTP/1.0 503\r\n\r\n", 0, Some(503)),
+    ("HTTP/1.1 200 OK\r\n", 3, None),
+    ("HTTP/1.1 20", 0, None),
+    ("HTTP/2.0 200 OK\r\n", 0, None),
+    ("HTTP/1.1 2000 OK\r\n", 0, None),
+    ("HTTP/1.1 099 OK\r\n", 0, None),
+];
+
+// The key of a call of the name 7 that is added to no others.
+fn call(alloc: Global, calls: &mut Calls<Fake, u8>, socket: Fake, now: Instant) -> Option<usize> {
+    let request = REQUEST.to_vec(alloc).ok()?;
+    if calls.is_full() {
+        return None;
     }
-    Ok(())
+    let key = calls.add(socket, request, 7, now);
+    if calls.is_full() { Some(key) } else { None }
+}
+
+// The name and the status of a call that ends.
+fn ended(calls: &mut Calls<Fake, u8>, key: usize) -> Option<(u8, Option<u16>)> {
+    let mut buffer = [0; 4096];
+    for _ in 0..40 {
+        if let Progress::Ended { name, status } = calls.turn(key, &mut buffer)? {
+            return Some((name, status));
+        }
+    }
+    None
+}
+
+fn end_of(
+    alloc: Global,
+    calls: &mut Calls<Fake, u8>,
+    row: &CallRow,
+    now: Instant,
+) -> Option<(u8, Option<u16>)> {
+    let socket = socket(row.0.as_bytes(), REQUEST, row.1, true);
+    let key = call(alloc, calls, socket, now)?;
+    ended(calls, key)
+}
+
+fn call_ends(alloc: Global, row: &CallRow, now: Instant) -> Result<(), Fail> {
+    let mut calls = Calls::new(alloc, 1)?;
+    let end = end_of(alloc, &mut calls, row, now);
+    let found = (end, calls.is_empty(), calls.is_full());
+    equal(found, (Some((7, row.2)), true, false), row.0)
 }
 
 #[test]
 fn calls_end(rt: HostRuntime) -> Result<(), Fail> {
     let now = Instant::now(&rt)?;
-    let table = [
-        (b"HTTP/1.1 200 OK\r\n".as_slice(), 0, Some(200)),
-        (b"HTTP/1.0 503\r\n\r\n".as_slice(), 0, Some(503)),
-        (b"HTTP/1.1 200 OK\r\n".as_slice(), 3, None),
-        (b"HTTP/1.1 20".as_slice(), 0, None),
-        (b"HTTP/2.0 200 OK\r\n".as_slice(), 0, None),
-        (b"HTTP/1.1 2000 OK\r\n".as_slice(), 0, None),
-        (b"HTTP/1.1 099 OK\r\n".as_slice(), 0, None),
-    ];
-    for (text, breaks_at, expected) in table {
-        let mut calls = Calls::new(rt.alloc(), 1)?;
-        assert!(rt; !calls.is_full());
-        let key = calls.add(
-            socket(text, REQUEST, breaks_at, true),
-            REQUEST.to_vec(rt.alloc())?,
-            7,
-            now,
-        );
-        assert!(rt; calls.is_full());
-        let mut ended = None;
-        for _ in 0..40 {
-            if let Some(Progress::Ended { name, status }) = calls.turn(key, &mut [0; 4096]) {
-                ended = Some((name, status));
-            }
-        }
-        assert!(rt; ended == Some((7, expected)));
-        assert!(rt; calls.is_empty() && !calls.is_full());
-        let key = calls.add(
-            socket(text, REQUEST, 0, true),
-            REQUEST.to_vec(rt.alloc())?,
-            8,
-            now,
-        );
-        assert!(rt; calls.judge(key, now).is_none());
-        let later = now.checked_add(Duration::from_secs(5)).ok_or("no time")?;
-        assert!(rt; calls.judge(key, later) == Some(8));
+    for row in CALLS {
+        call_ends(rt.alloc(), row, now)?;
     }
     Ok(())
+}
+
+// The name of a call that is let go so many seconds after it began.
+fn late(alloc: Global, calls: &mut Calls<Fake, u8>, now: Instant, seconds: u64) -> Option<u8> {
+    let key = call(alloc, calls, socket(b"", REQUEST, 0, true), now)?;
+    calls.judge(key, after(now, seconds))
+}
+
+fn late_call(alloc: Global, now: Instant, seconds: u64, wanted: Option<u8>) -> Result<(), Fail> {
+    let mut calls = Calls::new(alloc, 1)?;
+    equal(late(alloc, &mut calls, now, seconds), wanted, seconds)
+}
+
+#[test]
+fn late_calls_are_let_go(rt: HostRuntime) -> Result<(), Fail> {
+    let now = Instant::now(&rt)?;
+    late_call(rt.alloc(), now, 0, None)?;
+    late_call(rt.alloc(), now, 5, Some(7))
+}
+
+// The places that are free, and what begins then.
+type Begin = (usize, Option<u64>);
+
+fn begin(lanes: &mut Lanes<u64>, rows: &[Begin]) -> Result<(), Fail> {
+    for (free, wanted) in rows {
+        equal(lanes.pop(*free).map(|taken| taken.1), *wanted, *free)?;
+    }
+    Ok(())
+}
+
+// Where the items of one tenant wait.
+const ALONE: &[Begin] = &[
+    (8, Some(0)),
+    (7, Some(1)),
+    (6, Some(2)),
+    (5, Some(3)),
+    (4, None),
+];
+
+// Where another tenant's items came.
+const SHARED: &[Begin] = &[(4, Some(300)), (3, Some(301)), (2, None)];
+
+// Where two of the first tenant's items ended.
+const ENDED: &[Begin] = &[(4, Some(4))];
+
+fn push_all(lanes: &mut Lanes<u64>, tenant: TenantName, from: u64, to: u64) -> Result<(), Fail> {
+    for number in from..to {
+        lanes.push(tenant, number)?;
+    }
+    Ok(())
+}
+
+fn leaves_places(
+    lanes: &mut Lanes<u64>,
+    first: TenantName,
+    second: TenantName,
+) -> Result<(), Fail> {
+    push_all(lanes, first, 0, 300)?;
+    begin(lanes, ALONE)?;
+    push_all(lanes, second, 300, 302)?;
+    begin(lanes, SHARED)?;
+    lanes.end(&first);
+    lanes.end(&first);
+    begin(lanes, ENDED)
 }
 
 #[test]
 fn tenants_leave_places(rt: HostRuntime) -> Result<(), Fail> {
     let first = TenantName::read(b"first")?;
     let second = TenantName::read(b"second")?;
-    let mut lanes = Lanes::new(rt.alloc());
-    for number in 0..300 {
-        lanes.push(first, number)?;
-    }
-    // The places that are free, and what begins. None of it ends. After five turns two items of the second tenant came.
-    let table = [
-        (8, Some(0)),
-        (7, Some(1)),
-        (6, Some(2)),
-        (5, Some(3)),
-        (4, None),
-        (4, Some(300)),
-        (3, Some(301)),
-        (2, None),
-    ];
-    for (turn, (free, expected)) in table.into_iter().enumerate() {
-        if turn == 5 {
-            lanes.push(second, 300)?;
-            lanes.push(second, 301)?;
-        }
-        assert!(rt; lanes.pop(free).map(|taken| taken.1) == expected);
-    }
-    lanes.end(&first);
-    lanes.end(&first);
-    assert!(rt; lanes.pop(4).map(|taken| taken.1) == Some(4));
-    Ok(())
+    leaves_places(&mut Lanes::new(rt.alloc()), first, second)
 }

@@ -1,4 +1,4 @@
-//! What the program does: reads a command line, plays a scenario against a world or serves one, tells how it ended.
+//! Plays a scenario against a world, and tells how it ended.
 #![tactic(auto)]
 
 mod connections;
@@ -6,10 +6,8 @@ pub mod ending;
 pub mod lines;
 pub mod link;
 pub mod loopback;
-pub mod options;
 pub mod play;
 mod report;
-pub mod serve;
 pub mod stops;
 pub mod streams;
 pub mod writing;

@@ -1,9 +1,7 @@
-//! Worked examples: whole scenarios, their links, streams and ends, and command lines.
+//! Worked examples: whole scenarios, their links, streams and ends.
 #![tactic(auto)]
 
 #[cfg(test)]
 mod ending;
-#[cfg(test)]
-mod options;
 #[cfg(test)]
 mod scenarios;

@@ -2,12 +2,13 @@
 
 mod isolation;
 pub mod links;
-mod serving;
 mod streams;
 
+use am_expect::equal;
 use am_play::lines::LineReader;
 use am_play::link::Link;
 use am_play::play::{Played, play};
+use am_play::streams::{Sink, Source, StreamFailure};
 use am_play::writing::WholeWriter;
 use am_world::setup::Setup;
 use links::Direct;
@@ -229,6 +230,75 @@ faults 0
 "#,
 );
 
+// Scenarios, and what they write.
+const SCENARIOS: [(&str, &str); 19] = [
+    POSTED_AND_READ,
+    TENANT_NAMES,
+    EMPTY_AND_REFUSED_POSTS,
+    AN_END,
+    POSTED_TWICE,
+    MANY_LABELS,
+    OPENED_AGAIN,
+    RECEIVERS,
+    CONFIGURED,
+    NOTIFIED,
+    ("", "faults 0\n"),
+    ("pump", "faults 0\n"),
+    ("\n\n# tick\n#", "faults 0\n"),
+    (
+        "at 00000000000000000000007\ntick\nat 6\ntick",
+        "refused We1\nfaults 0\n",
+    ),
+    ("at 250000000000001\ntick", "refused We1\nfaults 0\n"),
+    (
+        "open c 9\nopen c 0\nopen c 300\nopen c 18446744073709551615",
+        "refused We2\nrefused We2\nrefused We2\nrefused We2\nfaults 0\n",
+    ),
+    (
+        "bytes c \t\"a\" \r\nbytes c \"\"",
+        "refused We5\nfaults 0\n",
+    ),
+    ("call c 2 - GET /x \"body\"", "refused We2\nfaults 0\n"),
+    (
+        "hook 100\nhook 999\nhook none\nhook 99\nhook 1000",
+        "faults 0\n",
+    ),
+];
+
+// Lines that are no command.
+const BAD_LINES: [&[u8]; 30] = [
+    b"ticks",
+    b"tick ",
+    b" tick",
+    b"tick\r",
+    b"TICK",
+    b"at",
+    b"at ",
+    b"at +1",
+    b"at -1",
+    b"at 1 ",
+    b"at 18446744073709551616",
+    b"open c",
+    b"open  1",
+    b"open c 1 ",
+    b"open c one",
+    b"bytes c",
+    b"bytes c ",
+    b"bytes c 1",
+    b"bytes c x",
+    b"bytes c \"\\q\"",
+    b"bytes c \"\\ud800\"",
+    b"bytes c \"a\" \"b\"",
+    b"call c 1 a GET",
+    b"call c 1 a GET /x ",
+    b"call c 1  GET /x",
+    b"call c 1 a GET /x []",
+    b"join 4",
+    b"hook",
+    b"hook none ",
+    b"open \xff 1",
+];
+
 // The request that reads the alerts of the tenant `a`.
 const READ: &str =
     "GET /alertmanager/api/v2/alerts HTTP/1.1\r\nHost: amring\r\nX-Scope-OrgID: a\r\nContent-Length: 0\r\n\r\n";
@@ -238,6 +308,19 @@ pub fn setup() -> Result<Setup, Fail> {
     Ok(Setup::new([0; 32], &[1, 2, 3], 512, 1).ok_or("no settings")?)
 }
 
+/// Plays a scenario as the program does. The proofs of the tests that call it need none of what is promised of [`play`], and
+/// cost less without it.
+pub fn play_on<L: Link, S: Source, K: Sink, E: Sink>(
+    alloc: Global,
+    setup: Setup,
+    link: &mut L,
+    source: S,
+    writer: &mut K,
+    errors: &mut E,
+) -> Result<Played, StreamFailure> {
+    play(alloc, setup, link, source, writer, errors)
+}
+
 /// Plays a scenario over a link, and gives how it ended and what it wrote.
 fn played_over<L: Link>(
     alloc: Global,
@@ -245,7 +328,7 @@ fn played_over<L: Link>(
     scenario: &[u8],
 ) -> Result<(Played, Vec<u8>), Fail> {
     let mut written = Vec::new(alloc);
-    let played = play(
+    let played = play_on(
         alloc,
         setup()?,
         link,
@@ -261,25 +344,20 @@ fn played(alloc: Global, scenario: &[u8]) -> Result<(Played, Vec<u8>), Fail> {
     played_over(alloc, &mut Direct, scenario)
 }
 
+/// Plays a scenario, and holds how it ends and what it writes to what is wanted.
+fn plays(alloc: Global, scenario: &[u8], wanted: &str, wanted_end: Played) -> Result<(), Fail> {
+    let (end, written) = played(alloc, scenario)?;
+    let scenario = String::from_utf8_lossy(alloc, scenario)?;
+    equal(end, wanted_end, scenario.as_str())?;
+    equal(std::str::from_utf8(&written)?, wanted, scenario.as_str())
+}
+
 #[test]
 fn scenarios(rt: HostRuntime) -> Result<(), Fail> {
-    for (scenario, wanted) in [
-        POSTED_AND_READ,
-        TENANT_NAMES,
-        EMPTY_AND_REFUSED_POSTS,
-        AN_END,
-        POSTED_TWICE,
-        MANY_LABELS,
-        OPENED_AGAIN,
-        RECEIVERS,
-        CONFIGURED,
-        NOTIFIED,
-    ] {
-        let (end, written) = played(rt.alloc(), scenario.as_bytes())?;
-        assert_eq!(rt; end, Played::All, "{scenario}");
-        assert!(rt; written.as_slice() == wanted.as_bytes(), "{scenario}");
+    for (scenario, wanted) in SCENARIOS {
+        plays(rt.alloc(), scenario.as_bytes(), wanted, Played::All)?;
     }
-    Ok(())
+    plays(rt.alloc(), b"# \xff", "faults 0\n", Played::All)
 }
 
 /// A `bytes` line for each piece of a text.
@@ -297,18 +375,20 @@ fn push_pieces(
     Ok(())
 }
 
-#[test]
-fn a_request_may_be_cut_anywhere(rt: HostRuntime) -> Result<(), Fail> {
-    let alloc = rt.alloc();
+/// What is posted is read by a request in pieces of this size.
+fn is_read_in_pieces(alloc: Global, size: usize) -> Result<(), Fail> {
     let (whole, wanted) = POSTED_AND_READ;
     let posts = whole.split_once("call g").ok_or("no second request")?.0;
+    let mut scenario = String::from_str(alloc, posts)?;
+    scenario.push_str("open g 1\n")?;
+    push_pieces(alloc, &mut scenario, "g", READ, size)?;
+    plays(alloc, scenario.as_bytes(), wanted, Played::All)
+}
+
+#[test]
+fn a_request_may_be_cut_anywhere(rt: HostRuntime) -> Result<(), Fail> {
     for size in 1..READ.len() {
-        let mut scenario = String::from_str(alloc, posts)?;
-        scenario.push_str("open g 1\n")?;
-        push_pieces(alloc, &mut scenario, "g", READ, size)?;
-        let (end, written) = played(alloc, scenario.as_bytes())?;
-        assert_eq!(rt; end, Played::All, "pieces of {size}");
-        assert!(rt; written.as_slice() == wanted.as_bytes(), "pieces of {size}");
+        is_read_in_pieces(rt.alloc(), size)?;
     }
     Ok(())
 }
@@ -328,121 +408,52 @@ fn many_pieces(alloc: Global) -> Result<String, Fail> {
 
 #[test]
 fn a_request_of_many_pieces(rt: HostRuntime) -> Result<(), Fail> {
-    let alloc = rt.alloc();
+    let scenario = many_pieces(rt.alloc())?;
     let (_, wanted) = POSTED_AND_READ;
-    let scenario = many_pieces(alloc)?;
-    let (end, written) = played(alloc, scenario.as_bytes())?;
-    assert_eq!(rt; end, Played::All);
-    assert!(rt; written.as_slice() == wanted.as_bytes());
-    Ok(())
+    plays(rt.alloc(), scenario.as_bytes(), wanted, Played::All)
+}
+
+/// A scenario whose fourth line is no command ends there.
+fn ends_at(alloc: Global, line: &[u8]) -> Result<(), Fail> {
+    let mut scenario = b"# first\n\nopen c 2\n".to_vec(alloc)?;
+    scenario.extend_from_slice(line)?;
+    scenario.extend_from_slice(b"\nopen c 2\n")?;
+    plays(alloc, &scenario, "refused We2\n", Played::BadLine(4))
 }
 
 #[test]
 fn bad_lines(rt: HostRuntime) -> Result<(), Fail> {
-    for line in [
-        b"ticks".as_slice(),
-        b"tick ",
-        b" tick",
-        b"tick\r",
-        b"TICK",
-        b"at",
-        b"at ",
-        b"at +1",
-        b"at -1",
-        b"at 1 ",
-        b"at 18446744073709551616",
-        b"open c",
-        b"open  1",
-        b"open c 1 ",
-        b"open c one",
-        b"bytes c",
-        b"bytes c ",
-        b"bytes c 1",
-        b"bytes c x",
-        b"bytes c \"\\q\"",
-        b"bytes c \"\\ud800\"",
-        b"bytes c \"a\" \"b\"",
-        b"call c 1 a GET",
-        b"call c 1 a GET /x ",
-        b"call c 1  GET /x",
-        b"call c 1 a GET /x []",
-        b"join 4",
-        b"hook",
-        b"hook none ",
-        b"# a comment\xff",
-        b"open \xff 1",
-    ] {
-        let mut scenario = b"# first\n\nopen c 2\n".to_vec(rt.alloc())?;
-        scenario.extend_from_slice(line)?;
-        scenario.extend_from_slice(b"\nopen c 2\n")?;
-        let (end, written) = played(rt.alloc(), scenario.as_slice())?;
-        let is_comment = line.starts_with(b"#");
-        let wanted_end = if is_comment {
-            Played::All
-        } else {
-            Played::BadLine(4)
-        };
-        let wanted = if is_comment {
-            "refused We2\nrefused We2\nfaults 0\n"
-        } else {
-            "refused We2\n"
-        };
-        assert_eq!(rt; end, wanted_end, "{line:?}");
-        assert!(rt; written.as_slice() == wanted.as_bytes(), "{line:?}");
+    for line in BAD_LINES {
+        ends_at(rt.alloc(), line)?;
     }
     Ok(())
 }
 
-#[test]
-fn lines_that_are_taken(rt: HostRuntime) -> Result<(), Fail> {
-    for (scenario, wanted) in [
-        ("", "faults 0\n"),
-        ("pump", "faults 0\n"),
-        ("\n\n# tick\n#", "faults 0\n"),
-        (
-            "at 00000000000000000000007\ntick\nat 6\ntick",
-            "refused We1\nfaults 0\n",
-        ),
-        ("at 250000000000001\ntick", "refused We1\nfaults 0\n"),
-        (
-            "open c 9\nopen c 0\nopen c 300\nopen c 18446744073709551615",
-            "refused We2\nrefused We2\nrefused We2\nrefused We2\nfaults 0\n",
-        ),
-        ("bytes c \t\"a\" \r\n", "refused We5\nfaults 0\n"),
-        ("bytes c \"\"", "faults 0\n"),
-        ("call c 2 - GET /x \"body\"", "refused We2\nfaults 0\n"),
-        (
-            "hook 100\nhook 999\nhook none\nhook 99\nhook 1000",
-            "faults 0\n",
-        ),
-    ] {
-        let (end, written) = played(rt.alloc(), scenario.as_bytes())?;
-        assert_eq!(rt; end, Played::All, "{scenario}");
-        assert!(rt; written.as_slice() == wanted.as_bytes(), "{scenario}");
+/// A `bytes` line with a text and 9,000 letters, of which the world takes several pieces.
+fn push_long(lines: &mut String, connection: &str, text: &str) -> Result<(), Fail> {
+    lines.push_str("bytes ")?;
+    lines.push_str(connection)?;
+    lines.push_str(" \"")?;
+    lines.push_str(text)?;
+    for _ in 0..9000 {
+        lines.push('x')?;
     }
+    lines.push_str("\"\n")?;
     Ok(())
 }
 
-#[test]
-fn pieces_end_with_the_answer(rt: HostRuntime) -> Result<(), Fail> {
-    let alloc = rt.alloc();
-    let mut scenario = String::from_str(alloc, "open c 1\nbytes c \"?\\r\\n\\r\\n")?;
-    for _ in 0..9000 {
-        scenario.push('x')?;
-    }
-    scenario.push_str("\"\nbytes c \"x\"\nbytes d \"")?;
-    for _ in 0..9000 {
-        scenario.push('x')?;
-    }
-    scenario.push_str("\"\n")?;
-    let (end, written) = played(alloc, scenario.as_bytes())?;
-    let wanted =
-        r#"reply c "HTTP/1.1 400 Bad Request\r\nContent-Type: application/json\r\nContent-Length: 13\r\nConnection: close\r\n\r\n{\"code\":\"H1\"}"
+const NO_REQUEST: &str =
+    r#"reply c "HTTP/1.1 400 Bad Request\r\nContent-Type: application/json\r\nContent-Length: 13\r\nConnection: close\r\n\r\n{\"code\":\"H1\"}"
 refused We5
 refused We5
 faults 0
 "#;
-    assert_eq!(rt; end, Played::All);
-    assert!(rt; written.as_slice() == wanted.as_bytes());
-    Ok(())
+
+#[test]
+fn pieces_end_with_the_answer(rt: HostRuntime) -> Result<(), Fail> {
+    let mut scenario = String::from_str(rt.alloc(), "open c 1\n")?;
+    push_long(&mut scenario, "c", "?\\r\\n\\r\\n")?;
+    scenario.push_str("bytes c \"x\"\n")?;
+    push_long(&mut scenario, "d", "")?;
+    plays(rt.alloc(), scenario.as_bytes(), NO_REQUEST, Played::All)
 }

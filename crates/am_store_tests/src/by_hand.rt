@@ -1,7 +1,14 @@
 //! A database that Debian's `sqlite3` 3.40.1 wrote, by hand: the three tables of a store, one row in each.
 
+use crate::items::rows_of;
+use crate::work::Told;
+use am_item::{Item, Silence, Thing};
+use am_store::Store;
+use sqlite::Alter;
+use std::alloc::Global;
+
 // What lies where in the 4096 bytes of the file; all else is zeros. A page has 512 bytes.
-pub(crate) const PIECES: [(usize, &[u8]); 14] = [
+pub(crate) const PIECES: &[(usize, &[u8])] = &[
     (
         0,
         b"SQLite format 3\0\x02\0\x01\x01\0@  \0\0\0\x07\0\0\0\x08",
@@ -54,3 +61,43 @@ pub(crate) const PIECES: [(usize, &[u8]); 14] = [
           incarnation INTEGER NOT NULL, count INTEGER NOT NULL, PRIMARY KEY (tenant, id))",
     ),
 ];
+
+fn is_configuration(item: &Item) -> bool {
+    match &item.thing {
+        Thing::Configuration(Some(text)) => text.as_str() == "route: {}" && item.stamp.count == 7,
+        _ => false,
+    }
+}
+
+fn has_matcher(silence: &Silence) -> bool {
+    match silence.matchers.as_slice() {
+        [matcher] => matcher.name() == "a" && matcher.value() == "b",
+        _ => false,
+    }
+}
+
+fn is_silence(item: &Item) -> bool {
+    let Thing::Silence(silence) = &item.thing else {
+        return false;
+    };
+    silence.id.as_bytes() == &[0, 0, 0, 0, 0, 0, 0x40, 0, 0x80, 0, 0, 0, 0, 0, 0, 1]
+        && silence.starts_at.milliseconds() == 1_750_000_000_000
+        && silence.ends_at.milliseconds() == 1_750_003_600_000
+        && silence.created_by.as_str() == "ada"
+        && silence.comment.as_str() == "why"
+        && has_matcher(silence)
+        && item.stamp.instance == 2
+}
+
+fn are_known(items: &[Item]) -> bool {
+    match items {
+        [configuration, silence] => is_configuration(configuration) && is_silence(silence),
+        _ => false,
+    }
+}
+
+/// How many of the rows are as they were written: both, or none.
+pub(crate) fn known<S: Alter>(alloc: Global, store: &mut Store<S>) -> Told {
+    let items = rows_of(alloc, store, b"a")?;
+    Ok(if are_known(items.as_slice()) { 2 } else { 0 })
+}

@@ -1,56 +1,59 @@
-//! Stores over two files in memory. No function has a clause, so that the proofs of tests carry no state.
+//! Two files in memory. No function has a clause, so that the proofs of tests carry no state.
 
-use am_store::{Store, StoreRefusal};
-use am_text::Failure;
-use sqlite::{Alter, Connection, FileStore, Files, Options};
-use sqlite_disk::{Crash, Disk};
+use crate::work::{Told, UNDONE, Work, done_over};
+use sqlite::{Connection, FileStore, Files, Options};
+use sqlite_disk::{Crash, Disk, Fuse, Memory, digest_of};
 use std::alloc::Global;
 
-// A connection to the files, or the files as they were left.
-pub(crate) fn connect<D: Disk + Drop>(
-    alloc: Global,
-    files: Files<D>,
-) -> Result<Connection<FileStore<D>>, Files<D>> {
+/// The log and the database, each of which stops behind so many calls.
+pub(crate) fn files(alloc: Global, log: u64, db: u64) -> Files<Fuse<Memory>> {
+    Files {
+        log: Fuse::new(Memory::new(alloc), log),
+        db: Fuse::new(Memory::new(alloc), db),
+    }
+}
+
+// The files behind a work over a connection to them, and what was told of it.
+fn done<D: Disk + Drop>(alloc: Global, files: Files<D>, work: Work<'_>) -> (Files<D>, Told) {
     if !files.may_be_used() {
-        return Err(files);
+        return (files, UNDONE);
     }
     match Connection::open_files(alloc, files, Options::new(7)) {
-        Ok(conn) => Ok(conn),
-        Err((_, left)) => Err(left.into_files()),
+        Ok(conn) => {
+            // The one call with a connection to files: to prove such a call costs more than all else here.
+            let (store, told) = done_over(alloc, conn, work);
+            (store.close(), told)
+        }
+        Err((_, left)) => (left.into_files(), UNDONE),
     }
 }
 
-// The store that a connection shows.
-pub(crate) fn store_over<S: Alter + Drop>(
-    alloc: Global,
-    conn: Connection<S>,
-) -> Result<Store<S>, (Failure<StoreRefusal>, Connection<S>)> {
-    if conn.is_autocommit() {
-        Store::open(alloc, conn)
-    } else {
-        Err((Failure::Refused(StoreRefusal::Database), conn))
-    }
+fn digest(files: &Files<Fuse<Memory>>) -> u64 {
+    let log = digest_of(0, files.log.inner().bytes());
+    digest_of(log, files.db.inner().bytes())
 }
 
-// The files of a connection, as they are.
-pub(crate) fn files_of<D: Disk + Drop>(conn: Connection<FileStore<D>>) -> Files<D> {
-    conn.into_store().close()
+/// What a work over files came to.
+#[derive(Clone, Copy)]
+pub(crate) struct Seen {
+    /// What was told of it.
+    pub(crate) told: Told,
+    /// The rows behind a crash.
+    pub(crate) rows: Told,
+    /// No byte of the files changed as the rows were told.
+    pub(crate) is_unchanged: bool,
 }
 
-// Both files lose what wasn't synced.
-pub(crate) fn crash<D: Crash>(files: &mut Files<D>) {
+/// Does a work over files, which then lose what wasn't synced, and tells their rows.
+pub(crate) fn see(alloc: Global, files: Files<Fuse<Memory>>, work: Work<'_>) -> Seen {
+    let (mut files, told) = done(alloc, files, work);
     files.log.crash();
     files.db.crash();
-}
-
-// The files of a connection, with the log copied into the database file.
-pub(crate) fn close<D: Disk + Drop>(conn: Connection<FileStore<D>>) -> Option<Files<D>> {
-    conn.close_files().ok()
-}
-
-// Runs one statement.
-pub(crate) fn execute<S: Alter + Drop>(conn: Connection<S>, sql: &str) -> Option<Connection<S>> {
-    let mut conn = conn;
-    conn.execute(sql, &[]).ok()?;
-    Some(conn)
+    let before = digest(&files);
+    let (files, rows) = done(alloc, files, Work::Rows);
+    Seen {
+        told,
+        rows,
+        is_unchanged: digest(&files) == before,
+    }
 }

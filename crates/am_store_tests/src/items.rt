@@ -1,35 +1,49 @@
 //! What is put, step by step, and how the rows are told.
 
-ghost use Rattle.std.specs.Prelude.{IfOk};
+ghost use Rattle.std.specs.Prelude.{All, IfOk};
 ghost use Rattle.am_store.specs.Rows.{IsFit, IsNumbered};
 
+use crate::work::Told;
 use am_item::{Item, Matchers, Silence, SilenceId, Stamp, Thing};
-use am_store::Store;
+use am_store::{Store, StoreRefusal};
 use am_tenant::TenantName;
-use am_text::{Moment, Text};
+use am_text::{Failure, Moment, Text};
 use sqlite::Alter;
-use std::alloc::Global;
-use std::test::Fail;
+use std::alloc::{AllocError, Global};
 
-/// How many steps there are.
-pub(crate) const STEPS: usize = 5;
+#[derive(Clone, Copy)]
+enum Step {
+    /// A configuration of this count is put, and a silence of the next.
+    Put(u8),
+    DropSilence,
+    DropTenant,
+}
+
+// The steps, each with its tenant.
+const STEPS: &[(&[u8], Step)] = &[
+    (b"a", Step::Put(1)),
+    (b"b", Step::Put(3)),
+    (b"a", Step::Put(5)),
+    (b"a", Step::DropSilence),
+    (b"b", Step::DropTenant),
+];
 
 /// What the rows are told as before the store is opened, then behind the opening and behind each step.
-pub(crate) const ROWS: [u64; STEPS + 2] = [0, 0, 120, 12034, 56034, 5034, 50];
+pub(crate) const ROWS: [u64; 7] = [0, 0, 1_120, 212_034, 256_034, 25_034, 150];
 
-fn stamp(count: u8) -> Result<Stamp, Fail>
-    ensures { IfOk result IsNumbered }
+fn stamp(count: u8) -> Stamp
+    ensures { IsNumbered result }
 {
-    Ok(Stamp {
-        moment: Moment::from_milliseconds(1_750_000_000_000).ok_or("no moment")?,
+    Stamp {
+        moment: Moment::greatest(),
         instance: 1,
         incarnation: 1,
         count: u64::from(count),
-    })
+    }
 }
 
 // A configuration; that of the count 5 was deleted.
-fn configuration(alloc: Global, count: u8) -> Result<Item, Fail>
+fn configuration(alloc: Global, count: u8) -> Result<Item, AllocError>
     ensures { IfOk result IsFit }
 {
     let body = if count == 5 {
@@ -38,7 +52,7 @@ fn configuration(alloc: Global, count: u8) -> Result<Item, Fail>
         Some(Text::read(alloc, "route: {}")?)
     };
     Ok(Item {
-        stamp: stamp(count)?,
+        stamp: stamp(count),
         thing: Thing::Configuration(body),
     })
 }
@@ -48,86 +62,91 @@ fn identifier() -> SilenceId {
 }
 
 // A silence of no matchers.
-fn silence(alloc: Global, count: u8) -> Result<Item, Fail>
+fn silence(alloc: Global, count: u8) -> Result<Item, AllocError>
     ensures { IfOk result IsFit }
 {
-    let stamp = stamp(count)?;
-    let silence = Silence {
-        id: identifier(),
-        starts_at: stamp.moment,
-        ends_at: stamp.moment,
-        kept_until: stamp.moment,
-        created_by: Text::read(alloc, "ada")?,
-        comment: Text::read(alloc, "")?,
-        matchers: Matchers::from_vec(Vec::new(alloc)),
-    };
+    let stamp = stamp(count);
     Ok(Item {
         stamp,
-        thing: Thing::Silence(silence),
+        thing: Thing::Silence(Silence {
+            id: identifier(),
+            starts_at: stamp.moment,
+            ends_at: stamp.moment,
+            kept_until: stamp.moment,
+            created_by: Text::read(alloc, "ada")?,
+            comment: Text::from_string(String::new(alloc)),
+            matchers: Matchers::from_vec(Vec::new(alloc)),
+        }),
     })
 }
 
-// Puts a configuration of this count and a silence of the next, and tells whether that was done.
-fn put<S: Alter>(
-    alloc: Global,
-    store: &mut Store<S>,
-    tenant: &TenantName,
-    count: u8,
-) -> Result<bool, Fail> {
-    let items = [
-        configuration(alloc, count)?,
-        silence(alloc, count.saturating_add(1))?,
-    ];
-    Ok(store.put(alloc, tenant, &items).is_ok())
+// A configuration of this count and a silence of the next.
+fn items(alloc: Global, count: u8) -> Result<Vec<Item>, AllocError>
+    ensures { IfOk result (λ items. All IsFit items.items) }
+{
+    let mut items = Vec::new(alloc);
+    items.push(configuration(alloc, count)?)?;
+    items.push(silence(alloc, count.saturating_add(1))?)?;
+    Ok(items)
 }
 
-fn drop_silence<S: Alter>(store: &mut Store<S>, tenant: &TenantName) -> bool {
-    store.drop_silence(tenant, &identifier()).is_ok()
+fn put<S: Alter>(alloc: Global, store: &mut Store<S>, tenant: &TenantName, count: u8) -> bool {
+    match items(alloc, count) {
+        Ok(items) => store.put(alloc, tenant, items.as_slice()).is_ok(),
+        Err(_) => false,
+    }
 }
 
-fn drop_tenant<S: Alter>(store: &mut Store<S>, tenant: &TenantName) -> bool {
-    store.drop_tenant(tenant).is_ok()
-}
-
-// Takes one of the steps, and tells whether it was done.
-fn step<S: Alter>(alloc: Global, store: &mut Store<S>, number: usize) -> Result<bool, Fail> {
-    let first = TenantName::read(b"a")?;
-    let second = TenantName::read(b"b")?;
-    match number {
-        0 => put(alloc, store, &first, 1),
-        1 => put(alloc, store, &second, 3),
-        2 => put(alloc, store, &first, 5),
-        3 => Ok(drop_silence(store, &first)),
-        _ => Ok(drop_tenant(store, &second)),
+// Takes a step, and tells whether it was done.
+fn take<S: Alter>(alloc: Global, store: &mut Store<S>, tenant: &TenantName, step: Step) -> bool {
+    match step {
+        Step::Put(count) => put(alloc, store, tenant, count),
+        Step::DropSilence => store.drop_silence(tenant, &identifier()).is_ok(),
+        Step::DropTenant => store.drop_tenant(tenant).is_ok(),
     }
 }
 
 /// Takes the steps until one is refused, and tells how many were done.
-pub(crate) fn steps<S: Alter>(alloc: Global, store: &mut Store<S>) -> Result<usize, Fail> {
-    for number in 0..STEPS {
-        if !step(alloc, store, number)? {
-            return Ok(number);
+pub(crate) fn steps<S: Alter>(alloc: Global, store: &mut Store<S>) -> u64 {
+    let mut taken = 0_u64;
+    for (tenant, step) in STEPS {
+        let is_taken = match TenantName::read(tenant) {
+            Ok(tenant) => take(alloc, store, &tenant, *step),
+            Err(_) => false,
+        };
+        if !is_taken {
+            return taken;
         }
+        taken = taken.saturating_add(1);
     }
-    Ok(STEPS)
+    taken
 }
 
-// The digits, and behind them the counts of a tenant's rows, a digit each.
-fn with_rows<S: Alter>(
+/// The rows of a tenant.
+pub(crate) fn rows_of<S: Alter>(
     alloc: Global,
     store: &mut Store<S>,
     tenant: &[u8],
-    digits: u64,
-) -> Result<u64, Fail> {
-    let mut digits = digits;
-    for item in &store.rows_of(alloc, &TenantName::read(tenant)?)? {
-        digits = digits.wrapping_mul(10).wrapping_add(item.stamp.count);
+) -> Result<Vec<Item>, Failure<StoreRefusal>> {
+    match TenantName::read(tenant) {
+        Ok(tenant) => store.rows_of(alloc, &tenant),
+        Err(_) => Err(Failure::Refused(StoreRefusal::Database)),
     }
-    Ok(digits)
 }
 
-/// The counts of the rows of either tenant, a digit each, with a 0 between them.
-pub(crate) fn rows<S: Alter>(alloc: Global, store: &mut Store<S>) -> Result<u64, Fail> {
-    let digits = with_rows(alloc, store, b"a", 0)?;
-    with_rows(alloc, store, b"b", digits.wrapping_mul(10))
+// The digits, and behind them the counts of rows, a digit each.
+fn with_counts(digits: u64, items: &[Item]) -> u64 {
+    let mut digits = digits;
+    for item in items {
+        digits = digits.wrapping_mul(10).wrapping_add(item.stamp.count);
+    }
+    digits
+}
+
+/// How many tenants there are, and then the counts of the rows of either, a digit each, with a 0 between them.
+pub(crate) fn rows<S: Alter>(alloc: Global, store: &mut Store<S>) -> Told {
+    let tenants = store.tenants(alloc)?.len() as u64;
+    let first = with_counts(tenants, rows_of(alloc, store, b"a")?.as_slice());
+    let second = rows_of(alloc, store, b"b")?;
+    Ok(with_counts(first.wrapping_mul(10), second.as_slice()))
 }

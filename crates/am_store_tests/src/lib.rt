@@ -11,3 +11,5 @@ mod found;
 mod items;
 #[cfg(test)]
 mod stops;
+#[cfg(test)]
+mod work;

@@ -46,27 +46,3 @@ fn is_text_of(id: &SilenceId, text: &str) -> bool
 {
     print_id(id, &mut [0; ID_LENGTH]) == text
 }
-
-#[cfg(test)]
-mod tests {
-    use super::*;
-
-    #[test]
-    fn texts(rt: HostRuntime) {
-        for (text, is_read) in [
-            ("919108f7-52d1-4320-9bac-f847db4148a8", true),
-            ("00000000-0000-0000-0000-000000000000", true),
-            ("919108F7-52D1-4320-9BAC-F847DB4148A8", false),
-            ("{919108f7-52d1-4320-9bac-f847db4148a8}", false),
-            ("urn:uuid:919108f7-52d1-4320-9bac-f847db4148a8", false),
-            ("919108f752d143209bacf847db4148a8", false),
-            ("919108f7-52d1-4320-9bac-f847db4148a", false),
-            ("919108f7-52d1-4320-9bac-f847db4148ag", false),
-            ("", false),
-        ] {
-            let read = read_id(text).map(|id| print_id(&id, &mut [0; ID_LENGTH]) == text);
-            assert_eq!(rt; read == Some(true), is_read, "{text}");
-            assert_eq!(rt; read.is_some(), is_read, "{text}");
-        }
-    }
-}

@@ -100,21 +100,3 @@ impl Places {
         Ok(())
     }
 }
-
-#[cfg(test)]
-mod tests {
-    use super::*;
-    use std::test::Fail;
-
-    #[test]
-    fn each_tenant_has_a_place(rt: HostRuntime) -> Result<(), Fail> {
-        let first = TenantName::read(b"a")?;
-        let second = TenantName::read(b"b")?;
-        let mut places = Places::new(rt.alloc());
-        places.set(rt.alloc(), &first, Place::at(4))?;
-        places.set(rt.alloc(), &first, Place::at(8))?;
-        assert_eq!(rt; places.place(&first), Place::at(8));
-        assert_eq!(rt; places.place(&second), Place::first());
-        Ok(())
-    }
-}

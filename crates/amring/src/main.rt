@@ -1,12 +1,14 @@
 //! `amring`: plays a scenario of events against a world, or serves connections, as its command line says.
 #![tactic(auto)]
 
+mod serve;
+
+use am_options::{CommandLine, options};
 use am_play::lines::LineReader;
 use am_play::loopback::Loopback;
-use am_play::options::CommandLine;
 use am_play::streams::Sink;
 use am_play::writing::WholeWriter;
-use am_play::{ending, options, play, serve};
+use am_play::{ending, play};
 use am_world::setup::Setup;
 use std::io::{BufReader, BufWriter, Write};
 use std::net::Net;
@@ -41,7 +43,7 @@ fn start<E: Sink>(rt: &HostRuntime, errors: &mut E) -> io::Result<ExitCode> {
         }
         Err(error) => return Err(error),
     };
-    match options::options(rt.alloc(), words.as_slice())? {
+    match options(rt.alloc(), words.as_slice())? {
         CommandLine::Run(setup) => run(rt, setup, errors),
         CommandLine::Serve(serving) => serve::serve(rt, serving, errors),
         CommandLine::Help(text) => {

@@ -5,7 +5,8 @@ ghost use Rattle.std.specs.IoError.{error_kind};
 ghost use Rattle.am_play.specs.Streams.{IsFailureOf};
 
 use super::links::Direct;
-use super::{POSTED_TWICE, setup};
+use super::{POSTED_TWICE, play_on, setup};
+use am_expect::equal;
 use am_play::lines::LineReader;
 use am_play::play::{Played, play};
 use am_play::streams::{Sink, Source, StreamFailure};
@@ -39,31 +40,30 @@ impl Write for Narrow {
     }
 }
 
+/// A scenario is played to a writer with so much room.
+fn fills(alloc: Global, room: usize) -> Result<(), Fail> {
+    let (scenario, wanted) = POSTED_TWICE;
+    let mut writer = Narrow {
+        taken: Vec::new(alloc),
+        room,
+    };
+    let played = play_on(
+        alloc,
+        setup()?,
+        &mut Direct,
+        LineReader::new(alloc, scenario.as_bytes()),
+        &mut WholeWriter(&mut writer),
+        &mut WholeWriter(Vec::new(alloc)),
+    );
+    equal(played.is_ok(), wanted.len() <= room, room)?;
+    let written = room.min(wanted.len());
+    equal(writer.taken.as_slice(), &wanted.as_bytes()[..written], room)
+}
+
 #[test]
 fn a_writer_fails(rt: HostRuntime) -> Result<(), Fail> {
-    let alloc = rt.alloc();
-    let (scenario, wanted) = POSTED_TWICE;
-    for room in 0..wanted.len() + 2 {
-        let setup = setup()?;
-        let mut writer = Narrow {
-            taken: Vec::new(alloc),
-            room,
-        };
-        let played = play(
-            alloc,
-            setup,
-            &mut Direct,
-            LineReader::new(alloc, scenario.as_bytes()),
-            &mut WholeWriter(&mut writer),
-            &mut WholeWriter(Vec::new(alloc)),
-        );
-        let ended = played.is_ok();
-        assert_eq!(rt; ended, wanted.len() <= room, "room for {room}");
-        let written = room.min(wanted.len());
-        assert!(rt;
-            writer.taken.as_slice() == &wanted.as_bytes()[..written],
-            "room for {room}"
-        );
+    for room in 0..POSTED_TWICE.1.len() + 2 {
+        fills(rt.alloc(), room)?;
     }
     Ok(())
 }
@@ -86,46 +86,61 @@ impl<'a> Read for Broken<'a> {
     }
 }
 
+/// The replies to the calls of the lines that end in this part of a scenario.
+fn replies_of(alloc: Global, part: &str, replies: &str) -> Result<String, Fail> {
+    let (lines, _) = part.rsplit_once('\n').unwrap_or(("", ""));
+    let calls = lines
+        .lines()
+        .filter(|line| line.starts_with("call"))
+        .count();
+    let mut told = String::new(alloc);
+    for reply in replies.lines().take(calls) {
+        told.push_str(reply)?;
+        told.push('\n')?;
+    }
+    Ok(told)
+}
+
+/// Plays a part of a scenario, behind which its reader fails, and gives how that ended and what was written.
+fn played_part(
+    alloc: Global,
+    part: &str,
+) -> Result<(Result<Played, StreamFailure>, Vec<u8>), Fail> {
+    let mut written = Vec::new(alloc);
+    let broken = Broken {
+        rest: part.as_bytes(),
+    };
+    let played = play_on(
+        alloc,
+        setup()?,
+        &mut Direct,
+        LineReader::new(alloc, BufReader::new(alloc, broken)?),
+        &mut WholeWriter(&mut written),
+        &mut WholeWriter(Vec::new(alloc)),
+    );
+    Ok((played, written))
+}
+
+fn breaks_at(alloc: Global, length: usize) -> Result<(), Fail> {
+    let (scenario, wanted) = POSTED_TWICE;
+    let part = scenario.as_bytes().get(..length).ok_or("no such part")?;
+    let part = std::str::from_utf8(part)?;
+    let (played, written) = played_part(alloc, part)?;
+    match played {
+        Ok(_) => return Err("a scenario without an end was played".into()),
+        Err(failure) => {
+            let error = io::Error::from(failure);
+            equal(error.kind(), ErrorKind::ConnectionReset, length)?;
+        }
+    }
+    let replies = replies_of(alloc, part, wanted)?;
+    equal(std::str::from_utf8(&written)?, replies.as_str(), length)
+}
+
 #[test]
 fn a_reader_fails(rt: HostRuntime) -> Result<(), Fail> {
-    let alloc = rt.alloc();
-    let (scenario, wanted) = POSTED_TWICE;
-    for length in 0..scenario.len() + 1 {
-        let read = std::str::from_utf8(&scenario.as_bytes()[..length])?;
-        let setup = setup()?;
-        let mut written = Vec::new(alloc);
-        let reader = BufReader::new(
-            alloc,
-            Broken {
-                rest: read.as_bytes(),
-            },
-        )?;
-        match play(
-            alloc,
-            setup,
-            &mut Direct,
-            LineReader::new(alloc, reader),
-            &mut WholeWriter(&mut written),
-            &mut WholeWriter(Vec::new(alloc)),
-        ) {
-            Ok(_) => return Err("a scenario without an end was played".into()),
-            Err(StreamFailure::OutOfMemory) => return Err("out of memory".into()),
-            Err(StreamFailure::Stream(error)) => {
-                assert_eq!(rt; error.kind(), ErrorKind::ConnectionReset);
-            }
-        }
-        // The replies of the lines that were read whole.
-        let (lines, _) = read.rsplit_once('\n').unwrap_or(("", ""));
-        let calls = lines
-            .lines()
-            .filter(|line| line.starts_with("call"))
-            .count();
-        let mut replies = String::new(alloc);
-        for reply in wanted.lines().take(calls) {
-            replies.push_str(reply)?;
-            replies.push('\n')?;
-        }
-        assert!(rt; written.as_slice() == replies.as_bytes(), "{length} bytes");
+    for length in 0..POSTED_TWICE.0.len() + 1 {
+        breaks_at(rt.alloc(), length)?;
     }
     Ok(())
 }
@@ -175,8 +190,7 @@ fn a_failure_is_a_streams_own(rt: HostRuntime) -> Result<(), Fail> {
         Ok(_) => Err("what can't be read was played".into()),
         Err(failure) => {
             let error = io::Error::from(failure);
-            assert_eq!(rt; error.kind(), ErrorKind::ConnectionReset);
-            Ok(())
+            equal(error.kind(), ErrorKind::ConnectionReset, "a reset")
         }
     }
 }

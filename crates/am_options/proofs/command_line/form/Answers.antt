@@ -2,8 +2,8 @@ use Rattle.std.proofs.Common.{rules, ◌≡◌, ◌∙◌, ap, ap₂, true, code
 use Rattle.std.proofs.lemmas.Result.{IfOk-weaker}
 use Rattle.clap.specs.Words.{App, app_of, new_app, with_rule, with_subcommand}
 use Rattle.clap.specs.Simple.{app_of_fields}
-use Rattle.am_play.specs.CommandLine.{app_named, serve, top}
-use Rattle.am_play.proofs.options.form.Goals as goal
+use Rattle.am_options.specs.CommandLine.{app_named, serve, top}
+use Rattle.am_options.proofs.command_line.form.Goals as goal
 
 -- a command that wants a subcommand
 abbrev wanting : App → App

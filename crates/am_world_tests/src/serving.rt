@@ -1,6 +1,7 @@
 //! A world that is served on a port of this machine, turn by turn.
 
-use super::setup;
+use crate::setup;
+use am_expect::{equal, holds};
 use am_gateway::Gateway;
 use am_server::{Server, listen};
 use am_world::World;
@@ -19,13 +20,13 @@ const SECOND_PIECE: &[u8] = b"gth: 22\r\n\r\n[{\"labels\":{\"b\":\"c\"}}]";
 
 /// The server, and what a test does with it.
 #[derive(Drop)]
-struct Stand<'s, 'w> {
-    rt: &'s HostRuntime,
+struct Stand<'r, 's, 'w> {
+    rt: &'r HostRuntime,
     address: SocketAddr,
     server: Server<'s, Gateway<'w>>,
 }
 
-impl Stand<'_, '_> {
+impl Stand<'_, '_, '_> {
     fn connect(&self) -> io::Result<TcpStream> {
         let client = TcpStream::connect(self.rt, self.address)?;
         client.set_read_timeout(Some(Duration::from_secs(5)))?;
@@ -60,49 +61,59 @@ fn post(alloc: Global, path: &str, body: &str) -> io::Result<String> {
     )?)
 }
 
-// A whole request, one in two pieces, and a notice, beside a client that stays silent.
-#[test]
-fn serves_requests_and_tells_a_webhook(rt: HostRuntime) -> Result<(), Fail> {
-    let alloc = rt.alloc();
-    let any = SocketAddr::from((Ipv4Addr::LOCALHOST, 0));
-    let hook = TcpListener::bind(&rt, any)?;
-    let listener = listen(&rt, any)?;
-    let address = listener.local_addr()?;
-    let mut world = World::open(alloc, setup()?)?;
-    let mut gateway = Gateway::new(alloc, &mut world, 1)?;
-    let server = Server::open(&rt, alloc, listener, &mut gateway, Some(3))?;
-    let mut stand = Stand {
-        rt: &rt,
-        address,
-        server,
-    };
-    let silent = stand.connect()?;
-
-    let port = hook.local_addr()?.port();
+/// The post of a configuration whose webhook is a port of this machine.
+fn configuration(alloc: Global, port: u16) -> io::Result<String> {
     let body = format!(in alloc;
         "{{\"alertmanager_config\":\"{{\\\"route\\\":{{\\\"receiver\\\":\\\"r\\\",\\\"group_wait\\\":\\\"0s\\\"}},\\\"receivers\\\":[{{\\\"name\\\":\\\"r\\\",\\\"webhook_configs\\\":[{{\\\"url\\\":\\\"http://127.0.0.1:{port}/hook\\\"}}]}}]}}\"}}"
     )?;
-    let whole = post(alloc, "/api/v1/alerts", body.as_str())?;
+    post(alloc, "/api/v1/alerts", body.as_str())
+}
+
+/// The requests that are asked of a server: one whole, one in two pieces, one of no tenant.
+fn asks(stand: &mut Stand<'_, '_, '_>, alloc: Global, port: u16) -> Result<(), Fail> {
+    let whole = configuration(alloc, port)?;
     let reply = stand.ask(alloc, whole.as_bytes(), b"")?;
-    assert!(rt; reply.starts_with("HTTP/1.1 201 "));
-
+    holds(reply.starts_with("HTTP/1.1 201 "), "a configuration")?;
     let reply = stand.ask(alloc, FIRST_PIECE, SECOND_PIECE)?;
-    assert!(rt; reply.starts_with("HTTP/1.1 200 "));
-
+    holds(reply.starts_with("HTTP/1.1 200 "), "a post in two pieces")?;
     let reply = stand.ask(alloc, b"GET /ready HTTP/1.1\r\n\r\n", b"")?;
-    assert!(rt; reply.ends_with("ready"));
-    assert!(rt; stand.server.is_done());
+    holds(reply.ends_with("ready"), "a request of no tenant")
+}
 
+/// Takes the notice that a webhook is told, and answers it.
+fn takes_notice(hook: &TcpListener) -> io::Result<[u8; 20]> {
     let (mut call, _) = hook.accept()?;
     let mut request = [0u8; 20];
     call.read_exact(&mut request)?;
-    assert_eq!(rt; &request, b"POST /hook HTTP/1.1\r");
     call.write_all(b"HTTP/1.1 200 OK\r\nContent-Length: 0\r\n\r\n")?;
+    Ok(request)
+}
+
+/// Serves three requests beside a client that stays silent, and tells a webhook.
+fn serves(rt: &HostRuntime, world: &mut World) -> Result<(), Fail> {
+    let any = SocketAddr::from((Ipv4Addr::LOCALHOST, 0));
+    let hook = TcpListener::bind(rt, any)?;
+    let listener = listen(rt, any)?;
+    let address = listener.local_addr()?;
+    let mut gateway = Gateway::new(rt.alloc(), world, 1)?;
+    let server = Server::open(rt, rt.alloc(), listener, &mut gateway, Some(3))?;
+    let mut stand = Stand {
+        rt,
+        address,
+        server,
+    };
+    let _silent = stand.connect()?;
+    asks(&mut stand, rt.alloc(), hook.local_addr()?.port())?;
+    holds(stand.server.is_done(), "three requests were served")?;
+    let notice = takes_notice(&hook)?;
+    equal(notice.as_slice(), b"POST /hook HTTP/1.1\r", "a notice")?;
     stand.turns()?;
-    assert_eq!(rt; stand.server.calls(), 0);
-    drop(stand);
-    drop(gateway);
-    assert_eq!(rt; world.faults(), 0);
-    drop(silent);
-    Ok(())
+    equal(stand.server.calls(), 0, "calls of webhooks")
+}
+
+#[test]
+fn serves_requests_and_tells_a_webhook(rt: HostRuntime) -> Result<(), Fail> {
+    let mut world = World::open(rt.alloc(), setup()?)?;
+    serves(&rt, &mut world)?;
+    equal(world.faults(), 0, "faults")
 }

@@ -1,9 +1,9 @@
 //! `serve`: a world behind a port.
 
-use crate::options::Serving;
-use crate::stops::Stops;
-use crate::streams::Sink;
 use am_gateway::Gateway;
+use am_options::Serving;
+use am_play::stops::Stops;
+use am_play::streams::Sink;
 use am_server::{Server, listen};
 use am_world::World;
 use mio::net::TcpListener;

@@ -1,7 +1,7 @@
 use Rattle.std.proofs.Common.{rules, ◌≡◌, ◌∙◌, sym, None, Some}
 use Rattle.clap.specs.Words.{first_of, found_of, rows_of}
 use Rattle.clap.proofs.WalkLemmas.{first_value-rows}
-use Rattle.am_play.proofs.options.number_in.Goals as goal
+use Rattle.am_options.proofs.command_line.number_in.Goals as goal
 
 pub returns-in_err-get_str : goal.returns-in_err-get_str
 returns-in_err-get_str c =

@@ -10,9 +10,9 @@ use Rattle.clap.specs.declared.error.kind.ErrorKind.TheVariants.{DisplayHelp, Di
 use Rattle.hex.specs.Hex.{decode_sized}
 use Rattle.am_scenario.specs.Line.{◌>>=◌}
 use Rattle.am_scenario.specs.Number.{number_of}
-use Rattle.am_play.specs.declared.options.CommandLine.{CommandLine}
-use Rattle.am_play.specs.declared.options.Serving.{Serving}
-use Rattle.am_play.specs.declared.options.CommandLine.TheVariants.{Run, Serve, Help, Bad}
+use Rattle.am_options.specs.declared.command_line.CommandLine.{CommandLine}
+use Rattle.am_options.specs.declared.command_line.Serving.{Serving}
+use Rattle.am_options.specs.declared.command_line.CommandLine.TheVariants.{Run, Serve, Help, Bad}
 
 -- the option `--NAME VALUE`, which may be absent
 abbrev pub option : Text → Rule

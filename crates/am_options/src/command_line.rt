@@ -1,8 +1,8 @@
-//! The command line: what its words ask for.
+//! What the words of a command line ask for, by the forms that `clap` reads.
 ghost use Rattle.std.specs.Prelude.{◌≡◌, IfOk, MatchResult, None, Some, codes, false, map, true};
 ghost use Rattle.clap.specs.Words.{app_of, found_of, has_subcommand, kind_of, rows_of, rule_of};
 ghost use Rattle.clap.specs.Simple.{subcommand_rows_of};
-ghost use Rattle.am_play.specs.CommandLine.{Asks, Tells, asked_by, asked_of, command_line, count_in, key_in, number_in, option, option_or, serving_in, settings_in};
+ghost use Rattle.am_options.specs.CommandLine.{Asks, Tells, asked_by, asked_of, command_line, count_in, key_in, number_in, option, option_or, serving_in, settings_in};
 
 use am_scenario::number;
 use am_world::setup::Setup;
@@ -214,16 +214,12 @@ fn told(alloc: Global, error: &Error) -> Result<CommandLine, AllocError>
         ErrorKind::DisplayHelp | ErrorKind::DisplayVersion => {
             Ok(CommandLine::Help(error.to_string(alloc)?))
         }
-        _ => Ok(CommandLine::Bad(complaint(alloc, error)?)),
+        _ => {
+            // Without clap's own mark in front.
+            let text = error.to_string(alloc)?;
+            let text = text.as_str();
+            let text = text.strip_prefix("error: ").unwrap_or(text);
+            Ok(CommandLine::Bad(String::from_str(alloc, text.trim_end())?))
+        }
     }
-}
-
-/// What clap says is wrong with the words, without its own mark in front.
-fn complaint(alloc: Global, error: &Error) -> Result<String, AllocError> {
-    let text = error.to_string(alloc)?;
-    let text = text.as_str();
-    String::from_str(
-        alloc,
-        text.strip_prefix("error: ").unwrap_or(text).trim_end(),
-    )
 }

@@ -1,0 +1,6 @@
+//! The program's command line: what its words ask for.
+#![tactic(auto)]
+
+mod command_line;
+
+pub use command_line::{CommandLine, Serving, options};

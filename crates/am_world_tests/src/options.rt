@@ -1,0 +1,137 @@
+//! Command lines.
+
+use am_expect::{equal, holds};
+use am_options::{CommandLine, options};
+use std::alloc::Global;
+use std::test::Fail;
+
+// What a command line asks for, and its words.
+const COMMAND_LINES: &str = "\
+run bin/amring run
+run amring run --cache 1
+run amring run --cache=065536
+bad amring run --cache 0
+bad amring run --cache 65537
+bad amring run --cache +1
+bad amring run --cache=-1
+bad amring run --cache 1 --cache 1
+bad amring run --cache
+run amring run --key 000102030405060708090a0b0c0d0e0f101112131415161718191a1b1c1d1e1f
+run amring run --key 000102030405060708090A0B0C0D0E0F101112131415161718191A1B1C1D1E1F --cache=1
+bad amring run --key 000102030405060708090a0b0c0d0e0f101112131415161718191a1b1c1d1e1
+bad amring run --key 000102030405060708090a0b0c0d0e0f101112131415161718191a1b1c1d1e1f20
+bad amring run --key 000102030405060708090a0b0c0d0e0f101112131415161718191a1b1c1d1e1g
+bad amring run --key=
+bad amring run --key
+bad amring run --key 000102030405060708090a0b0c0d0e0f101112131415161718191a1b1c1d1e1f --key 000102030405060708090a0b0c0d0e0f101112131415161718191a1b1c1d1e1f
+bad amring --key 000102030405060708090a0b0c0d0e0f101112131415161718191a1b1c1d1e1f run
+bad amring run x
+bad amring --cache 1 run
+serve amring serve --port 65535
+serve amring serve --port=1 --count=1
+bad amring serve
+bad amring serve --port 0
+bad amring serve --port 65536
+bad amring serve --port=1 --count=0
+bad amring run --port 1
+bad amring 
+bad amring
+bad
+help amring --help
+help amring help run
+help amring run -h
+help amring -V";
+
+// Command lines, and the text that is told of them.
+const TEXTS: [(&str, &str); 5] = [
+    ("amring --version", "amring 0.1.0\n"),
+    (
+        "amring run --cache 0",
+        "--cache takes a number from 1 to 65536",
+    ),
+    ("amring run --key 0g", "--key takes 64 hexadecimal digits"),
+    (
+        "amring serve",
+        "serve needs --port, a number from 1 to 65535",
+    ),
+    (
+        "amring run x",
+        "unexpected argument 'x' found\n\nUsage: amring run [OPTIONS]\n\nFor more information, try '--help'.",
+    ),
+];
+
+const COUNTED: [u8; 16] = [0, 1, 2, 3, 4, 5, 6, 7, 8, 9, 10, 11, 12, 13, 14, 15];
+
+// Command lines, and the first half of their keys.
+const KEYS: [(&str, [u8; 16]); 3] = [
+    ("amring run", [0; 16]),
+    (
+        "amring run --key 000102030405060708090a0b0c0d0e0f101112131415161718191a1b1c1d1e1f",
+        COUNTED,
+    ),
+    (
+        "amring run --key 000102030405060708090A0B0C0D0E0F101112131415161718191A1B1C1D1E1F",
+        COUNTED,
+    ),
+];
+
+/// What the words of a line ask for.
+fn asked(alloc: Global, line: &str) -> Result<CommandLine, Fail> {
+    let words: Vec<&str> = line.split(' ').collect(alloc)?;
+    Ok(options(alloc, words.as_slice())?)
+}
+
+fn kind(asked: &CommandLine) -> &'static str {
+    match asked {
+        CommandLine::Run(_) => "run",
+        CommandLine::Serve(_) => "serve",
+        CommandLine::Help(_) => "help",
+        CommandLine::Bad(_) => "bad",
+    }
+}
+
+/// What the words behind the first of a line ask for is told by the first.
+fn asks_for(alloc: Global, line: &str) -> Result<(), Fail> {
+    let words: Vec<&str> = line.split(' ').collect(alloc)?;
+    let (wanted, words) = words.split_first().ok_or("no words")?;
+    let asked = options(alloc, words)?;
+    equal(kind(&asked), *wanted, line)
+}
+
+#[test]
+fn command_lines(rt: HostRuntime) -> Result<(), Fail> {
+    for line in COMMAND_LINES.split('\n') {
+        asks_for(rt.alloc(), line)?;
+    }
+    Ok(())
+}
+
+fn tells(alloc: Global, line: &str, wanted: &str) -> Result<(), Fail> {
+    match asked(alloc, line)? {
+        CommandLine::Help(text) | CommandLine::Bad(text) => equal(text.as_str(), wanted, line),
+        CommandLine::Run(_) | CommandLine::Serve(_) => Err(Fail::new(line)),
+    }
+}
+
+#[test]
+fn texts(rt: HostRuntime) -> Result<(), Fail> {
+    for (line, wanted) in TEXTS {
+        tells(rt.alloc(), line, wanted)?;
+    }
+    Ok(())
+}
+
+fn has_key(alloc: Global, line: &str, wanted: [u8; 16]) -> Result<(), Fail> {
+    let CommandLine::Run(setup) = asked(alloc, line)? else {
+        return Err(Fail::new(line));
+    };
+    holds(setup.hash_key() == wanted, line)
+}
+
+#[test]
+fn keys(rt: HostRuntime) -> Result<(), Fail> {
+    for (line, wanted) in KEYS {
+        has_key(rt.alloc(), line, wanted)?;
+    }
+    Ok(())
+}
