@@ -1,6 +1,8 @@
 //! Posted bodies, and what the rules say of each.
 
-use am_alert::{PostedRefusal, read_posted};
+use crate::parts::{POSTED_AT, at};
+use am_alert::read_posted;
+use am_expect::equal;
 use am_item::Alert;
 use am_labels::Label;
 use am_text::{Failure, Moment};
@@ -82,28 +84,20 @@ null→A3
 [{"labels":{"a":"b"},"status":null,"receivers":[1e308],"starts_at":1,"STARTSAT":true,"":{}}]→a=b,;;400000;700000;¶
 # A list in its order, alerts of equal labels too.
 [{"labels":{"a":"b"}},{"labels":{"a":"a"}}]→a=b,;;400000;700000;¶a=a,;;400000;700000;¶
-[{"labels":{"a":"b"}},{"labels":{"a":"b"},"generatorURL":"x"}]→a=b,;;400000;700000;¶a=b,;;400000;700000;x¶"##;
-
-// The same with quotation marks, backslashes, control characters and other characters of a text.
-const OTHER_CHARACTERS: [(&str, &str); 4] = [
-    ("[{\"labels\":{\"a\":\"\u{1}\"}}]", "A3"),
-    ("\u{feff}[]", "A3"),
-    (
-        "[{\"labels\":{\"a\":\"\\\"\\\\\\/\\u0000\\u001f\\n\\u00e9\\ud83d\\ude00\"}}]",
-        "a=\"\\/\u{0}\u{1f}\né😀,;;400000;700000;¶",
-    ),
-    (
-        "[{\"labels\":{\"a\":\"\u{7f}é\"}}]",
-        "a=\u{7f}é,;;400000;700000;¶",
-    ),
-];
+[{"labels":{"a":"b"}},{"labels":{"a":"b"},"generatorURL":"x"}]→a=b,;;400000;700000;¶a=b,;;400000;700000;x¶
+# 64 labels, an empty one aside, and 65.
+[{"labels":{"l00":"v","l01":"v","l02":"v","l03":"v","l04":"v","l05":"v","l06":"v","l07":"v","l08":"v","l09":"v","l10":"v","l11":"v","l12":"v","l13":"v","l14":"v","l15":"v","l16":"v","l17":"v","l18":"v","l19":"v","l20":"v","l21":"v","l22":"v","l23":"v","l24":"v","l25":"v","l26":"v","l27":"v","l28":"v","l29":"v","l30":"v","l31":"v","l32":"v","l33":"v","l34":"v","l35":"v","l36":"v","l37":"v","l38":"v","l39":"v","l40":"v","l41":"v","l42":"v","l43":"v","l44":"v","l45":"v","l46":"v","l47":"v","l48":"v","l49":"v","l50":"v","l51":"v","l52":"v","l53":"v","l54":"v","l55":"v","l56":"v","l57":"v","l58":"v","l59":"v","l60":"v","l61":"v","l62":"v","l63":"v","e":""}}]→l00=v,l01=v,l02=v,l03=v,l04=v,l05=v,l06=v,l07=v,l08=v,l09=v,l10=v,l11=v,l12=v,l13=v,l14=v,l15=v,l16=v,l17=v,l18=v,l19=v,l20=v,l21=v,l22=v,l23=v,l24=v,l25=v,l26=v,l27=v,l28=v,l29=v,l30=v,l31=v,l32=v,l33=v,l34=v,l35=v,l36=v,l37=v,l38=v,l39=v,l40=v,l41=v,l42=v,l43=v,l44=v,l45=v,l46=v,l47=v,l48=v,l49=v,l50=v,l51=v,l52=v,l53=v,l54=v,l55=v,l56=v,l57=v,l58=v,l59=v,l60=v,l61=v,l62=v,l63=v,;;400000;700000;¶
+[{"labels":{"l00":"v","l01":"v","l02":"v","l03":"v","l04":"v","l05":"v","l06":"v","l07":"v","l08":"v","l09":"v","l10":"v","l11":"v","l12":"v","l13":"v","l14":"v","l15":"v","l16":"v","l17":"v","l18":"v","l19":"v","l20":"v","l21":"v","l22":"v","l23":"v","l24":"v","l25":"v","l26":"v","l27":"v","l28":"v","l29":"v","l30":"v","l31":"v","l32":"v","l33":"v","l34":"v","l35":"v","l36":"v","l37":"v","l38":"v","l39":"v","l40":"v","l41":"v","l42":"v","l43":"v","l44":"v","l45":"v","l46":"v","l47":"v","l48":"v","l49":"v","l50":"v","l51":"v","l52":"v","l53":"v","l54":"v","l55":"v","l56":"v","l57":"v","l58":"v","l59":"v","l60":"v","l61":"v","l62":"v","l63":"v","l64":"v"}}]→A3
+# 64 annotations, an empty one among them, and 65.
+[{"labels":{"a":"b"},"annotations":{"l00":"v","l01":"v","l02":"v","l03":"v","l04":"v","l05":"v","l06":"v","l07":"v","l08":"v","l09":"v","l10":"v","l11":"v","l12":"v","l13":"v","l14":"v","l15":"v","l16":"v","l17":"v","l18":"v","l19":"v","l20":"v","l21":"v","l22":"v","l23":"v","l24":"v","l25":"v","l26":"v","l27":"v","l28":"v","l29":"v","l30":"v","l31":"v","l32":"v","l33":"v","l34":"v","l35":"v","l36":"v","l37":"v","l38":"v","l39":"v","l40":"v","l41":"v","l42":"v","l43":"v","l44":"v","l45":"v","l46":"v","l47":"v","l48":"v","l49":"v","l50":"v","l51":"v","l52":"v","l53":"v","l54":"v","l55":"v","l56":"v","l57":"v","l58":"v","l59":"v","l60":"v","l61":"v","l62":"v","e":""}}]→a=b,;e=,l00=v,l01=v,l02=v,l03=v,l04=v,l05=v,l06=v,l07=v,l08=v,l09=v,l10=v,l11=v,l12=v,l13=v,l14=v,l15=v,l16=v,l17=v,l18=v,l19=v,l20=v,l21=v,l22=v,l23=v,l24=v,l25=v,l26=v,l27=v,l28=v,l29=v,l30=v,l31=v,l32=v,l33=v,l34=v,l35=v,l36=v,l37=v,l38=v,l39=v,l40=v,l41=v,l42=v,l43=v,l44=v,l45=v,l46=v,l47=v,l48=v,l49=v,l50=v,l51=v,l52=v,l53=v,l54=v,l55=v,l56=v,l57=v,l58=v,l59=v,l60=v,l61=v,l62=v,;400000;700000;¶
+[{"labels":{"a":"b"},"annotations":{"l00":"v","l01":"v","l02":"v","l03":"v","l04":"v","l05":"v","l06":"v","l07":"v","l08":"v","l09":"v","l10":"v","l11":"v","l12":"v","l13":"v","l14":"v","l15":"v","l16":"v","l17":"v","l18":"v","l19":"v","l20":"v","l21":"v","l22":"v","l23":"v","l24":"v","l25":"v","l26":"v","l27":"v","l28":"v","l29":"v","l30":"v","l31":"v","l32":"v","l33":"v","l34":"v","l35":"v","l36":"v","l37":"v","l38":"v","l39":"v","l40":"v","l41":"v","l42":"v","l43":"v","l44":"v","l45":"v","l46":"v","l47":"v","l48":"v","l49":"v","l50":"v","l51":"v","l52":"v","l53":"v","l54":"v","l55":"v","l56":"v","l57":"v","l58":"v","l59":"v","l60":"v","l61":"v","l62":"v","l63":"v","e":""}}]→A3
+# Lists in lists: a depth of 127, and of 128.
+[{"labels":{"a":"b"},"x":[[[[[[[[[[[[[[[[[[[[[[[[[[[[[[[[[[[[[[[[[[[[[[[[[[[[[[[[[[[[[[[[[[[[[[[[[[[[[[[[[[[[[[[[[[[[[[[[[[[[[[[[[[[[[[[[[[[[[[[[[[[[[]]]]]]]]]]]]]]]]]]]]]]]]]]]]]]]]]]]]]]]]]]]]]]]]]]]]]]]]]]]]]]]]]]]]]]]]]]]]]]]]]]]]]]]]]]]]]]]]]]]]]]]]]]]]]]]]]]]]]]]]]]]]]}]→a=b,;;400000;700000;¶
+[{"labels":{"a":"b"},"x":[[[[[[[[[[[[[[[[[[[[[[[[[[[[[[[[[[[[[[[[[[[[[[[[[[[[[[[[[[[[[[[[[[[[[[[[[[[[[[[[[[[[[[[[[[[[[[[[[[[[[[[[[[[[[[[[[[[[[[[[[[[[[[]]]]]]]]]]]]]]]]]]]]]]]]]]]]]]]]]]]]]]]]]]]]]]]]]]]]]]]]]]]]]]]]]]]]]]]]]]]]]]]]]]]]]]]]]]]]]]]]]]]]]]]]]]]]]]]]]]]]]]]]]]]]]]}]→A3"##;
 
 fn push_pairs(told: &mut String, pairs: &[Label]) -> Result<(), AllocError> {
     for pair in pairs {
-        told.push_str(pair.name.as_str())?;
-        told.push('=')?;
-        told.push_str(pair.value.as_str())?;
-        told.push(',')?;
+        write!(told, "{}={},", pair.name.as_str(), pair.value.as_str())?;
     }
     Ok(())
 }
@@ -113,111 +107,80 @@ fn since(moment: Moment) -> u64 {
     moment.milliseconds().saturating_sub(1_749_999_600_000)
 }
 
-fn push_alert(alloc: Global, told: &mut String, alert: &Alert) -> Result<(), AllocError> {
+fn push_alert(told: &mut String, alert: &Alert) -> Result<(), AllocError> {
     push_pairs(told, alert.labels.labels())?;
     told.push(';')?;
     push_pairs(told, alert.annotations.labels())?;
     let (start, end) = (since(alert.starts_at), since(alert.ends_at));
-    let url = alert.generator_url.as_str();
-    let rest = format!(in alloc; ";{start};{end};{url}¶")?;
-    told.push_str(rest.as_str())
+    write!(told, ";{start};{end};{}¶", alert.generator_url.as_str())
 }
 
 // What alerts say, one behind the other.
 fn told(alloc: Global, alerts: &[Alert]) -> Result<String, AllocError> {
     let mut told = String::new(alloc);
     for alert in alerts {
-        push_alert(alloc, &mut told, alert)?;
+        push_alert(&mut told, alert)?;
     }
     Ok(told)
 }
 
-type Read = Result<Vec<Alert>, Failure<PostedRefusal>>;
-
-// What a body gives that is posted at 15:06:40.
-fn read(alloc: Global, body: &[u8]) -> Read {
-    let moment = Moment::from_milliseconds(1_750_000_000_000).unwrap_or(Moment::greatest());
-    read_posted(alloc, body, moment, 300_000)
+// What the alerts say of a body that is posted at 15:06:40, or the code of its refusal.
+fn said(alloc: Global, body: &[u8]) -> Result<String, AllocError> {
+    match read_posted(alloc, body, at(POSTED_AT), 300_000) {
+        Ok(alerts) => told(alloc, &alerts),
+        Err(Failure::Refused(refusal)) => String::from_str(alloc, refusal.code()),
+        Err(Failure::OutOfMemory) => Err(AllocError),
+    }
 }
 
-// What the alerts say that are read, or the code of the refusal.
-fn said(alloc: Global, read: Read) -> Result<String, AllocError> {
-    match read {
-        Ok(alerts) => told(alloc, &alerts),
-        Err(failure) => format!(in alloc; "{failure}"),
+// What is tried, its bytes, and what is said of them.
+type Row<'a> = (&'a str, &'a [u8], &'a str);
+
+fn row_is(alloc: Global, row: &Row<'_>) -> Result<(), Fail> {
+    let said = said(alloc, row.1)?;
+    equal(said.as_str(), row.2, row.0)
+}
+
+fn line_is(alloc: Global, line: &str) -> Result<(), Fail> {
+    match line.split_once('→') {
+        Some((body, wanted)) => row_is(alloc, &(body, body.as_bytes(), wanted)),
+        None => Ok(()),
     }
 }
 
 #[test]
 fn posted_bodies(rt: HostRuntime) -> Result<(), Fail> {
     for line in TABLE.lines() {
-        if let Some((body, expected)) = line.split_once('→') {
-            let said = said(rt.alloc(), read(rt.alloc(), body.as_bytes()))?;
-            assert_eq!(rt; said.as_str(), expected, "{body}");
-        }
-    }
-    for (body, expected) in OTHER_CHARACTERS {
-        let said = said(rt.alloc(), read(rt.alloc(), body.as_bytes()))?;
-        assert_eq!(rt; said.as_str(), expected, "{body}");
+        line_is(rt.alloc(), line)?;
     }
     Ok(())
 }
 
-// A list of one alert with a field of arrays that makes it so deep.
-fn nested(alloc: Global, depth: usize) -> Result<String, AllocError> {
-    let mut body = String::from_str(alloc, r#"[{"labels":{"a":"b"},"x":"#)?;
-    for _ in 2..depth {
-        body.push('[')?;
-    }
-    for _ in 2..depth {
-        body.push(']')?;
-    }
-    body.push_str("}]")?;
-    Ok(body)
-}
-
-// A list of one alert with one label, and so many pairs and one that is empty in this field.
-fn filled(alloc: Global, field: &str, count: usize) -> Result<String, AllocError> {
-    let mut body = format!(in alloc; r#"[{{"labels":{{"a":"b"}},"{field}":{{"#)?;
-    for number in 0..count {
-        let pair = format!(in alloc; "\"l{number}\":\"v\",")?;
-        body.push_str(pair.as_str())?;
-    }
-    body.push_str(r#""empty":""}}]"#)?;
-    Ok(body)
-}
-
-// The code of a body that is so deep, or has so many pairs in a field.
-fn code_of_many(alloc: Global, field: &str, count: usize) -> Result<&'static str, AllocError> {
-    let body = match field {
-        "depth" => nested(alloc, count)?,
-        _ => filled(alloc, field, count)?,
-    };
-    Ok(code_of(read(alloc, body.as_bytes())))
-}
-
-fn code_of(read: Read) -> &'static str {
-    match read {
-        Ok(_) => "taken",
-        Err(Failure::Refused(refusal)) => refusal.code(),
-        Err(Failure::OutOfMemory) => "out of memory",
-    }
-}
+// Bodies that a line has no place for.
+const OTHER_BODIES: &[Row<'static>] = &[
+    ("no text", b"[{\"labels\":{\"a\":\"\xff\"}}]", "A3"),
+    (
+        "a control character",
+        b"[{\"labels\":{\"a\":\"\x01\"}}]",
+        "A3",
+    ),
+    ("a byte order mark", b"\xef\xbb\xbf[]", "A3"),
+    (
+        "escapes",
+        br#"[{"labels":{"a":"\"\\\/\u0000\u001f\n\u00e9\ud83d\ude00"}}]"#,
+        "a=\"\\/\u{0}\u{1f}\né😀,;;400000;700000;¶",
+    ),
+    (
+        "other characters",
+        b"[{\"labels\":{\"a\":\"\x7f\xc3\xa9\"}}]",
+        "a=\u{7f}é,;;400000;700000;¶",
+    ),
+];
 
 #[test]
-fn limits(rt: HostRuntime) -> Result<(), Fail> {
-    for (field, count, expected) in [
-        ("depth", 127, "taken"),
-        ("depth", 128, "A3"),
-        ("labels", 64, "taken"),
-        ("labels", 65, "A3"),
-        ("annotations", 63, "taken"),
-        ("annotations", 64, "A3"),
-    ] {
-        let code = code_of_many(rt.alloc(), field, count)?;
-        assert_eq!(rt; code, expected, "{field} {count}");
+fn other_bodies(rt: HostRuntime) -> Result<(), Fail> {
+    for row in OTHER_BODIES {
+        row_is(rt.alloc(), row)?;
     }
-    let no_text = read(rt.alloc(), b"[{\"labels\":{\"a\":\"\xff\"}}]");
-    assert_eq!(rt; code_of(no_text), "A3");
     Ok(())
 }

@@ -6,6 +6,8 @@ mod alert;
 #[cfg(test)]
 mod item;
 #[cfg(test)]
+mod parts;
+#[cfg(test)]
 mod payload;
 #[cfg(test)]
 mod silence;

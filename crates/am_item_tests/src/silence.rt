@@ -4,16 +4,14 @@
 mod changing;
 mod posting;
 
+use crate::parts::{POSTED_AT, at};
 use am_text::Moment;
-use std::test::Fail;
 
-const BEGIN: u64 = 1750000000000;
-
-fn minute(number: u8) -> Result<Moment, Fail> {
-    Ok(Moment::from_milliseconds(BEGIN + 60000 * u64::from(number)).ok_or("no moment")?)
+fn minute(number: u8) -> Moment {
+    at(POSTED_AT + 60000 * u64::from(number))
 }
 
 // The minute of a moment.
 fn minute_of(moment: Moment) -> u64 {
-    moment.milliseconds().saturating_sub(BEGIN) / 60000
+    moment.milliseconds().saturating_sub(POSTED_AT) / 60000
 }

@@ -1,38 +1,9 @@
 //! Frames written out by hand: each is read, and the message is written as the same bytes.
+use am_expect::equal;
 use am_text::Failure;
 use am_wire::{Message, decode, encode};
-use std::alloc::{AllocError, Global};
+use std::alloc::Global;
 use std::test::Fail;
-
-// Get number 1 of tenant `a` from 1 to 2.
-const GET: &[u8] = b"\0\0\0\x1a\x01\x01\x01\0\0\0\x01\x02\0\0\0\0\0\0\0\x01\x01a\0\0\0\0\0\0\0\x01";
-
-// What stands between the kind and the body.
-const NAME: &[u8] = b"\x01\0\0\0\x01\x02\0\0\0\0\0\0\0\x01\x01a";
-
-fn joined(alloc: Global, parts: &[&[u8]]) -> Result<Vec<u8>, AllocError> {
-    let mut bytes = Vec::new(alloc);
-    for part in parts {
-        bytes.extend_from_slice(part)?;
-    }
-    Ok(bytes)
-}
-
-// The bytes of GET with more of them behind, and another one at a place.
-fn changed(alloc: Global, more: &[u8], place: usize, byte: u8) -> Result<Vec<u8>, AllocError> {
-    let bytes = joined(alloc, &[GET, more])?;
-    let mut changed = Vec::new(alloc);
-    for (index, old) in bytes.iter().enumerate() {
-        changed.push(if index == place { byte } else { *old })?;
-    }
-    Ok(changed)
-}
-
-// A message of this kind and body with its length in front.
-fn frame(alloc: Global, kind: u8, body: &[u8]) -> Result<Vec<u8>, Fail> {
-    let length = u8::try_from(18 + body.len())?;
-    Ok(joined(alloc, &[&[0, 0, 0, length, 1, kind], NAME, body])?)
-}
 
 // The code of the refusal of these bytes, empty where they are read and written again.
 fn code(alloc: Global, bytes: &[u8]) -> &'static str {
@@ -51,47 +22,110 @@ fn rewritten(alloc: Global, message: &Message, bytes: &[u8]) -> &'static str {
     }
 }
 
-// A place of GET, what stands there instead, what follows, and the code of what is read.
-const CHANGED: [(usize, u8, &[u8], &str); 11] = [
-    (3, 0x1a, b"", ""),
-    (3, 0x19, b"", "Wi2"),
-    (3, 0x1b, b"", "Wi1"),
-    (4, 2, b"", "Wi3"),
-    (5, 8, b"", "Wi3"),
-    (5, 0, b"", "Wi3"),
-    (6, 9, b"", "Wi5"),
-    (11, 0, b"", "Wi5"),
-    (20, 0, b"", "Wi4"),
-    (21, 0x7c, b"", "Wi4"),
-    (3, 0x1b, b"\0", "Wi6"),
-];
+type Row = (&'static str, &'static [u8], &'static str);
 
-// Each kind of message, then a flag that is none and a byte that is left.
-const FRAMES: [(u8, &[u8], &str); 9] = [
-    (1, b"\0\0\0\0\0\0\0\x07", ""),
-    (2, b"\0\0\0\0\0\0\0\x07\0\0\0\x02\0\0\0\0", ""),
-    (3, b"\0\0\0\0\0\0\0\x07\0\0\0\0", ""),
-    (4, b"\0\0\0\0\0\0\0\x07\0\0\0\x02", ""),
-    (5, b"\0\0\0\0\0\0\0\x03\0\0\0\x02", ""),
-    (6, b"\0\0\0\0\0\0\0\x03\0\0\0\x02\0\0\0\x40\x01\0\0\0\0", ""),
-    (7, b"\0\0\0\0\0\0\0\x03\0\0\0\x02\0\0\0\x41", ""),
+// Messages from instance 1 to 2 on tenant `a`, what is wrong with them, and the code of that.
+const FRAMES: &[Row] = &[
     (
-        6,
-        b"\0\0\0\0\0\0\0\x03\0\0\0\x02\0\0\0\x40\x02\0\0\0\0",
+        "get",
+        b"\0\0\0\x1a\x01\x01\x01\0\0\0\x01\x02\0\0\0\0\0\0\0\x01\x01a\0\0\0\0\0\0\0\x01",
+        "",
+    ),
+    (
+        "a length of one less",
+        b"\0\0\0\x19\x01\x01\x01\0\0\0\x01\x02\0\0\0\0\0\0\0\x01\x01a\0\0\0\0\0\0\0\x01",
+        "Wi2",
+    ),
+    (
+        "a length of one more",
+        b"\0\0\0\x1b\x01\x01\x01\0\0\0\x01\x02\0\0\0\0\0\0\0\x01\x01a\0\0\0\0\0\0\0\x01",
+        "Wi1",
+    ),
+    (
+        "version 2",
+        b"\0\0\0\x1a\x02\x01\x01\0\0\0\x01\x02\0\0\0\0\0\0\0\x01\x01a\0\0\0\0\0\0\0\x01",
+        "Wi3",
+    ),
+    (
+        "kind 8",
+        b"\0\0\0\x1a\x01\x08\x01\0\0\0\x01\x02\0\0\0\0\0\0\0\x01\x01a\0\0\0\0\0\0\0\x01",
+        "Wi3",
+    ),
+    (
+        "kind 0",
+        b"\0\0\0\x1a\x01\0\x01\0\0\0\x01\x02\0\0\0\0\0\0\0\x01\x01a\0\0\0\0\0\0\0\x01",
+        "Wi3",
+    ),
+    (
+        "from instance 9",
+        b"\0\0\0\x1a\x01\x01\x09\0\0\0\x01\x02\0\0\0\0\0\0\0\x01\x01a\0\0\0\0\0\0\0\x01",
         "Wi5",
     ),
-    (1, b"\0\0\0\0\0\0\0\x07\0", "Wi6"),
+    (
+        "to instance 0",
+        b"\0\0\0\x1a\x01\x01\x01\0\0\0\x01\0\0\0\0\0\0\0\0\x01\x01a\0\0\0\0\0\0\0\x01",
+        "Wi5",
+    ),
+    (
+        "a tenant of no name",
+        b"\0\0\0\x1a\x01\x01\x01\0\0\0\x01\x02\0\0\0\0\0\0\0\x01\0a\0\0\0\0\0\0\0\x01",
+        "Wi4",
+    ),
+    (
+        "a tenant of another character",
+        b"\0\0\0\x1a\x01\x01\x01\0\0\0\x01\x02\0\0\0\0\0\0\0\x01\x01|\0\0\0\0\0\0\0\x01",
+        "Wi4",
+    ),
+    (
+        "a byte left behind the body",
+        b"\0\0\0\x1b\x01\x01\x01\0\0\0\x01\x02\0\0\0\0\0\0\0\x01\x01a\0\0\0\0\0\0\0\x01\0",
+        "Wi6",
+    ),
+    (
+        "answer",
+        b"\0\0\0\x22\x01\x02\x01\0\0\0\x01\x02\0\0\0\0\0\0\0\x01\x01a\0\0\0\0\0\0\0\x07\0\0\0\x02\0\0\0\0",
+        "",
+    ),
+    (
+        "put",
+        b"\0\0\0\x1e\x01\x03\x01\0\0\0\x01\x02\0\0\0\0\0\0\0\x01\x01a\0\0\0\0\0\0\0\x07\0\0\0\0",
+        "",
+    ),
+    (
+        "acknowledgement",
+        b"\0\0\0\x1e\x01\x04\x01\0\0\0\x01\x02\0\0\0\0\0\0\0\x01\x01a\0\0\0\0\0\0\0\x07\0\0\0\x02",
+        "",
+    ),
+    (
+        "ask",
+        b"\0\0\0\x1e\x01\x05\x01\0\0\0\x01\x02\0\0\0\0\0\0\0\x01\x01a\0\0\0\0\0\0\0\x03\0\0\0\x02",
+        "",
+    ),
+    (
+        "state",
+        b"\0\0\0\x27\x01\x06\x01\0\0\0\x01\x02\0\0\0\0\0\0\0\x01\x01a\0\0\0\0\0\0\0\x03\0\0\0\x02\0\0\0\x40\x01\0\0\0\0",
+        "",
+    ),
+    (
+        "got",
+        b"\0\0\0\x22\x01\x07\x01\0\0\0\x01\x02\0\0\0\0\0\0\0\x01\x01a\0\0\0\0\0\0\0\x03\0\0\0\x02\0\0\0A",
+        "",
+    ),
+    (
+        "a flag of 2",
+        b"\0\0\0\x27\x01\x06\x01\0\0\0\x01\x02\0\0\0\0\0\0\0\x01\x01a\0\0\0\0\0\0\0\x03\0\0\0\x02\0\0\0\x40\x02\0\0\0\0",
+        "Wi5",
+    ),
 ];
+
+fn frame_is(alloc: Global, row: &Row) -> Result<(), Fail> {
+    equal(code(alloc, row.1), row.2, row.0)
+}
 
 #[test]
 fn frames(rt: HostRuntime) -> Result<(), Fail> {
-    for (place, byte, more, expected) in CHANGED {
-        let bytes = changed(rt.alloc(), more, place, byte)?;
-        assert_eq!(rt; code(rt.alloc(), bytes.as_slice()), expected, "{place}");
-    }
-    for (kind, body, expected) in FRAMES {
-        let bytes = frame(rt.alloc(), kind, body)?;
-        assert_eq!(rt; code(rt.alloc(), bytes.as_slice()), expected, "{kind}");
+    for row in FRAMES {
+        frame_is(rt.alloc(), row)?;
     }
     Ok(())
 }
