@@ -3,6 +3,7 @@
 use am_alert::Maker;
 use am_api::{Decided, decide};
 use am_current::Holdings;
+use am_expect::{equal, holds};
 use am_http::Method::{self, Delete, Get, Post};
 use am_http::{Endpoint, Request};
 use am_limit::Limits;
@@ -121,23 +122,30 @@ const LARGE_SILENCE: &str =
 const EXPIRED: &str =
     r#"{"comment":"y","createdBy":"x","endsAt":"2025-06-15T15:06:40.000Z","id":"72a852c9-b135-441b-abe4-89369b874535","matchers":[{"isEqual":true,"isRegex":false,"name":"a","value":"b"}],"startsAt":"2025-06-15T15:06:40.000Z","status":{"state":"expired"},"updatedAt":"2025-06-15T15:06:40.001Z"}"#;
 
+// The texts that stand below names.
+const NAMES: &[(&str, &str)] = &[
+    ("-", ""),
+    ("DOCUMENT", DOCUMENT),
+    ("AB", AB),
+    ("AB2", AB2),
+    ("AB3", AB3),
+    ("GROUPS", GROUPS),
+    ("GROUP", GROUP),
+    ("AB_SILENCE", AB_SILENCE),
+    ("AC_SILENCE", AC_SILENCE),
+    ("LARGE", LARGE),
+    ("LARGE_SILENCE", LARGE_SILENCE),
+    ("EXPIRED", EXPIRED),
+];
+
 // The text that a word stands for.
 fn text_of(word: &str) -> &str {
-    match word {
-        "-" => "",
-        "DOCUMENT" => DOCUMENT,
-        "AB" => AB,
-        "AB2" => AB2,
-        "AB3" => AB3,
-        "GROUPS" => GROUPS,
-        "GROUP" => GROUP,
-        "AB_SILENCE" => AB_SILENCE,
-        "AC_SILENCE" => AC_SILENCE,
-        "LARGE" => LARGE,
-        "LARGE_SILENCE" => LARGE_SILENCE,
-        "EXPIRED" => EXPIRED,
-        _ => word,
+    for (name, text) in NAMES {
+        if *name == word {
+            return text;
+        }
     }
+    word
 }
 
 fn method(word: &str) -> Method {
@@ -164,12 +172,12 @@ fn split(text: &str) -> (&str, &str) {
     text.split_once(' ').unwrap_or((text, ""))
 }
 
-fn request(alloc: Global, line: &str) -> Result<Request, Fail> {
+fn request(alloc: Global, tenant: TenantName, line: &str) -> Result<Request, AllocError> {
     let (word, rest) = split(line);
     let (path, rest) = split(rest);
     let (query, body) = split(rest);
     Ok(Request {
-        tenant: TenantName::read(b"a")?,
+        tenant,
         method: method(word),
         endpoint: endpoint(alloc, path)?,
         query: Text::read(alloc, text_of(query))?,
@@ -215,31 +223,45 @@ fn reply(
     cache: &mut PatternCache,
     place: &mut Place,
 ) -> Result<(u16, Octets), Fail> {
-    let request = request(alloc, line)?;
+    let tenant = TenantName::read(b"a")?;
+    let request = request(alloc, tenant, line)?;
     let decided = decision(alloc, &request, holdings, cache, *place)?;
     *place = decided.drawn.unwrap_or(*place);
-    holdings.put_all(alloc, &request.tenant, decided.items)?;
+    holdings.put_all(alloc, &tenant, decided.items)?;
     Ok((decided.status, decided.body))
 }
 
-// Whether a reply is the status code and the body that the text says.
-fn is_as_told(alloc: Global, reply: &(u16, Octets), text: &str) -> Result<bool, AllocError> {
-    let (status, body) = split(text);
-    let code = format!(in alloc; "{}", reply.0)?;
-    Ok(code.as_str() == status && reply.1.as_slice() == text_of(body).as_bytes())
+// Holds a reply to the status code and the body that a text says.
+fn is_as_told(reply: &(u16, Octets), text: &str, of: &str) -> Result<(), Fail> {
+    let (code, body) = split(text);
+    equal(reply.0, code.parse::<u16>().unwrap_or(0), of)?;
+    holds(reply.1.as_slice() == text_of(body).as_bytes(), of)
+}
+
+// Makes the request of a line, where it has one.
+fn step(
+    alloc: Global,
+    line: &str,
+    holdings: &mut Holdings,
+    cache: &mut PatternCache,
+    place: &mut Place,
+) -> Result<(), Fail> {
+    match line.split_once('→') {
+        Some((line, expected)) => {
+            let reply = reply(alloc, line, holdings, cache, place)?;
+            is_as_told(&reply, expected, line)
+        }
+        None => Ok(()),
+    }
 }
 
 #[test]
 fn requests_one_after_another(rt: HostRuntime) -> Result<(), Fail> {
-    let alloc = rt.alloc();
-    let mut holdings = Holdings::new(alloc)?;
-    let mut cache = PatternCache::new(alloc, 1, [0; 16])?;
+    let mut holdings = Holdings::new(rt.alloc())?;
+    let mut cache = PatternCache::new(rt.alloc(), 1, [0; 16])?;
     let mut place = Place::first();
     for line in STEPS.lines() {
-        if let Some((line, expected)) = line.split_once('→') {
-            let reply = reply(alloc, line, &mut holdings, &mut cache, &mut place)?;
-            assert!(rt; is_as_told(alloc, &reply, expected)?, "{line}");
-        }
+        step(rt.alloc(), line, &mut holdings, &mut cache, &mut place)?;
     }
     Ok(())
 }

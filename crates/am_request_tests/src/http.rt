@@ -1,5 +1,4 @@
-ghost use Rattle.std.specs.Prelude.{◌<◌};
-
+use am_expect::{equal, holds};
 use am_http::{
     ConnectionId, Endpoint, Fed, Front, FrontRefusal, Method, Request, ready_reply, refusal_body,
     reply_bytes,
@@ -7,8 +6,6 @@ use am_http::{
 use am_text::Octets;
 use std::alloc::{AllocError, Global};
 use std::test::Fail;
-
-const ALERTS: &str = "/alertmanager/api/v2/alerts";
 
 // What a connection comes to.
 fn name_of(fed: &Fed) -> &'static str {
@@ -20,31 +17,67 @@ fn name_of(fed: &Fed) -> &'static str {
     }
 }
 
-// What a connection comes to with these bytes, in pieces of this length.
-fn fed(alloc: Global, text: &[u8], piece_len: usize) -> Result<Fed, AllocError>
-    requires { 0 < piece_len }
-{
+// A front, and the one connection that it reads.
+fn reading(alloc: Global) -> Result<(Front, ConnectionId), AllocError> {
     let connection = ConnectionId::new(7);
     let mut front = Front::new(alloc)?;
     front.open(alloc, connection)?;
+    Ok((front, connection))
+}
+
+// What a connection comes to with one more piece, where it has come to this before.
+fn fed_on(
+    alloc: Global,
+    (front, connection): (&mut Front, ConnectionId),
+    piece: &[u8],
+    said: Fed,
+) -> Result<Fed, AllocError> {
+    if front.is_reading(connection) {
+        front.feed(alloc, connection, piece)
+    } else {
+        Ok(said)
+    }
+}
+
+fn fed_by_bytes(alloc: Global, text: &[u8]) -> Result<Fed, AllocError> {
+    let (mut front, connection) = reading(alloc)?;
     let mut said = Fed::Waits;
-    for piece in text.chunks(piece_len) {
-        if front.is_reading(connection) {
-            said = front.feed(alloc, connection, piece)?;
-        }
+    for piece in text.chunks(1) {
+        said = fed_on(alloc, (&mut front, connection), piece, said)?;
     }
     Ok(said)
 }
 
-// Whether a connection comes to this with these bytes, whole and byte by byte.
-fn comes_to(alloc: Global, text: &[u8], expected: &str) -> Result<bool, AllocError> {
-    for piece_len in [100_000, 1] {
-        let said = fed(alloc, text, piece_len)?;
-        if name_of(&said) != expected {
-            return Ok(false);
-        }
-    }
-    Ok(true)
+// What two pieces come to that a text is cut into.
+fn fed_in_two(alloc: Global, text: &[u8], at: usize) -> Result<Fed, AllocError> {
+    let (mut front, connection) = reading(alloc)?;
+    let (first, second) = text.split_at(at.min(text.len()));
+    let said = fed_on(alloc, (&mut front, connection), first, Fed::Waits)?;
+    fed_on(alloc, (&mut front, connection), second, said)
+}
+
+// Holds what a connection comes to with these bytes, byte by byte.
+fn comes_to_by_bytes(alloc: Global, text: &[u8], expected: &str, of: &str) -> Result<(), Fail> {
+    let said = fed_by_bytes(alloc, text)?;
+    equal(name_of(&said), expected, of)
+}
+
+// Holds what it comes to with these bytes in two pieces, cut here.
+fn comes_to_in_two(
+    alloc: Global,
+    text: &[u8],
+    at: usize,
+    expected: &str,
+    of: &str,
+) -> Result<(), Fail> {
+    let said = fed_in_two(alloc, text, at)?;
+    equal(name_of(&said), expected, of)
+}
+
+// Holds what it comes to with these bytes, byte by byte and whole.
+fn comes_to(alloc: Global, text: &[u8], expected: &str, of: &str) -> Result<(), Fail> {
+    comes_to_by_bytes(alloc, text, expected, of)?;
+    comes_to_in_two(alloc, text, text.len(), expected, of)
 }
 
 // What connections' bytes come to. `¶` stands for CR LF, `↓` for LF, `←` for CR, `@` for the path of alerts.
@@ -159,144 +192,118 @@ N0 PUT /ready HTTP/1.1¶¶
 H5 PUT / HTTP/1.1¶X-Scope-OrgID: a¶¶
 ";
 
+const ALERTS: &str = "/alertmanager/api/v2/alerts";
+
+const SIGNS: &[(&str, &str)] = &[("@", ALERTS), ("¶", "\r\n"), ("↓", "\n"), ("←", "\r")];
+
 // The bytes that a row stands for.
 fn bytes_of(alloc: Global, row: &str) -> Result<String, AllocError> {
-    let text = row.replace(alloc, "@", ALERTS)?;
-    let text = text.replace(alloc, "¶", "\r\n")?;
-    let text = text.replace(alloc, "↓", "\n")?;
-    text.replace(alloc, "←", "\r")
-}
-
-// What two pieces come to that a text is cut into.
-fn fed_in_two(alloc: Global, text: &[u8], at: usize) -> Result<Fed, AllocError> {
-    let connection = ConnectionId::new(7);
-    let mut front = Front::new(alloc)?;
-    front.open(alloc, connection)?;
-    let (first, second) = text.split_at(at.min(text.len()));
-    let said = front.feed(alloc, connection, first)?;
-    if front.is_reading(connection) {
-        return front.feed(alloc, connection, second);
+    let mut text = String::from_str(alloc, row)?;
+    for (sign, bytes) in SIGNS {
+        text = text.replace(alloc, sign, bytes)?;
     }
-    Ok(said)
+    Ok(text)
 }
 
-// Whether a connection comes to this with these bytes in two pieces, wherever they are cut.
-fn comes_to_in_two(alloc: Global, text: &[u8], expected: &str) -> Result<bool, AllocError> {
-    for at in 0..text.len() {
-        let said = fed_in_two(alloc, text, at)?;
-        if name_of(&said) != expected {
-            return Ok(false);
-        }
-    }
-    Ok(true)
-}
-
-// Whether a line of the table comes to what it says, whole, byte by byte, and in two pieces cut at each byte.
-fn is_as_told(alloc: Global, row: &str, expected: &str) -> Result<bool, AllocError> {
+// Holds a row to what it says, byte by byte, and in two pieces wherever they are cut.
+fn row_comes_to(alloc: Global, row: &str, expected: &str) -> Result<(), Fail> {
     let text = bytes_of(alloc, row)?;
-    if comes_to(alloc, text.as_bytes(), expected)? {
-        return comes_to_in_two(alloc, text.as_bytes(), expected);
+    comes_to_by_bytes(alloc, text.as_bytes(), expected, row)?;
+    for at in 0..=text.len() {
+        comes_to_in_two(alloc, text.as_bytes(), at, expected, row)?;
     }
-    Ok(false)
+    Ok(())
+}
+
+fn line_comes_to(alloc: Global, line: &str) -> Result<(), Fail> {
+    match line.split_once(' ') {
+        Some(("#", _)) | None => Ok(()),
+        Some((expected, row)) => row_comes_to(alloc, row, expected),
+    }
 }
 
 #[test]
 fn heads(rt: HostRuntime) -> Result<(), Fail> {
     for line in HEADS.lines() {
-        if let Some((expected, row)) = line.split_once(' ') {
-            if expected != "#" {
-                assert!(rt; is_as_told(rt.alloc(), row, expected)?, "{line}");
-            }
-        }
+        line_comes_to(rt.alloc(), line)?;
     }
     Ok(())
 }
 
-// A GET with a tenant's name of this length, this many further fields, and one that makes it so long.
+const BEFORE: &str = "GET /alertmanager/api/v2/alerts HTTP/1.1\r\nX-Scope-OrgID: ";
+
+const END: &str = "\r\n\r\n";
+
+// What stands before the first text, 57 bytes, the second text so many times, and the third come to the last: a head has
+// at most 64 fields, a tenant's name at most 150 bytes, and a head at most 16,384 bytes, its empty line with them.
+const COUNTS: &[(&str, (&str, usize), &str, &str)] = &[
+    ("a", ("\r\nx: y", 63), END, "request"),
+    ("a", ("\r\nx: y", 64), END, "H1"),
+    ("", ("x", 150), END, "request"),
+    ("", ("x", 151), END, "N2"),
+    ("a\r\nx: ", ("y", 16_384 - 63), "", "waits"),
+    ("a\r\nx: ", ("y", 16_385 - 63), "", "H4"),
+    ("a\r\nx: ", ("y", 16_380 - 63), END, "request"),
+    ("a\r\nx: ", ("y", 16_381 - 63), END, "H4"),
+];
+
 fn head_with(
     alloc: Global,
-    tenant: usize,
-    fields: usize,
-    len: usize,
+    start: &str,
+    (part, times): (&str, usize),
+    end: &str,
 ) -> Result<String, AllocError> {
-    let mut text = format!(in alloc; "GET {ALERTS} HTTP/1.1\r\nX-Scope-OrgID: ")?;
-    for _ in 0..tenant {
-        text.push_str("x")?;
+    let mut text = String::from_str(alloc, BEFORE)?;
+    text.push_str(start)?;
+    for _ in 0..times {
+        text.push_str(part)?;
     }
-    text.push_str("\r\n")?;
-    for _ in 0..fields {
-        text.push_str("x: y\r\n")?;
-    }
-    if len > 0 {
-        text.push_str("x: ")?;
-    }
-    for _ in text.len()..len {
-        text.push_str("y")?;
-    }
+    text.push_str(end)?;
     Ok(text)
 }
 
-// Whether such a GET with this end comes to this.
-fn head_comes_to(
+fn count_comes_to(
     alloc: Global,
-    counts: (usize, usize, usize),
-    end: &str,
-    expected: &str,
-) -> Result<bool, AllocError> {
-    let (tenant, fields, len) = counts;
-    let mut text = head_with(alloc, tenant, fields, len)?;
-    text.push_str(end)?;
-    comes_to(alloc, text.as_bytes(), expected)
+    (start, parts, end, expected): (&str, (&str, usize), &str, &str),
+) -> Result<(), Fail> {
+    let text = head_with(alloc, start, parts, end)?;
+    comes_to(alloc, text.as_bytes(), expected, start)
 }
 
-// A head has at most 64 fields, a tenant's name at most 150 bytes, and a head at most 16,384 bytes, its empty line with
-// them.
 #[test]
 fn counts(rt: HostRuntime) -> Result<(), Fail> {
-    for (counts, end, expected) in [
-        ((1, 63, 0), "\r\n", "request"),
-        ((1, 64, 0), "\r\n", "H1"),
-        ((150, 0, 0), "\r\n", "request"),
-        ((151, 0, 0), "\r\n", "N2"),
-        ((1, 0, 16_384), "", "waits"),
-        ((1, 0, 16_385), "", "H4"),
-        ((1, 0, 16_380), "\r\n\r\n", "request"),
-        ((1, 0, 16_381), "\r\n\r\n", "H4"),
-    ] {
-        assert!(rt;
-            head_comes_to(rt.alloc(), counts, end, expected)?,
-            "{expected}"
-        );
+    for row in COUNTS {
+        count_comes_to(rt.alloc(), *row)?;
     }
     Ok(())
 }
 
 // A value need not be UTF-8, a target has to be.
+const BYTES: &[(&[u8], &str)] = &[
+    (
+        b"GET /alertmanager/api/v2/alerts HTTP/1.1\r\nX-Scope-OrgID: a\r\nx: \xff\xfe\r\n\r\n",
+        "request",
+    ),
+    (
+        b"GET /alertmanager/api/v2/alerts?\xff HTTP/1.1\r\nX-Scope-OrgID: a\r\n\r\n",
+        "H1",
+    ),
+];
+
 #[test]
 fn bytes(rt: HostRuntime) -> Result<(), Fail> {
-    let heads: [(&[u8], &str); 2] = [
-        (
-            b"GET /alertmanager/api/v2/alerts HTTP/1.1\r\nX-Scope-OrgID: a\r\nx: \xff\xfe\r\n\r\n",
-            "request",
-        ),
-        (
-            b"GET /alertmanager/api/v2/alerts?\xff HTTP/1.1\r\nX-Scope-OrgID: a\r\n\r\n",
-            "H1",
-        ),
-    ];
-    for (head, expected) in heads {
-        assert!(rt; comes_to(rt.alloc(), head, expected)?, "{expected}");
+    for (head, expected) in BYTES {
+        comes_to(rt.alloc(), head, expected, expected)?;
     }
     Ok(())
 }
 
-// The parts of a request.
-fn parts_told(alloc: Global, request: &Request) -> Result<String, AllocError> {
-    let (tenant, query) = (request.tenant.as_str(), request.query.as_str());
-    let is_post = request.method == Method::Post;
-    let is_of_alerts = matches!(&request.endpoint, Endpoint::Alerts);
-    let has_body = request.body.as_slice() == b"[]".as_slice();
-    format!(in alloc; "{tenant} {is_post} {is_of_alerts} {query} {has_body}")
+fn has_its_parts(request: &Request) -> Result<(), Fail> {
+    equal(request.tenant.as_str(), "a.b", "tenant")?;
+    equal(request.query.as_str(), "a=%20?b", "query")?;
+    equal(request.body.as_slice(), b"[]".as_slice(), "body")?;
+    holds(request.method == Method::Post, "method")?;
+    holds(matches!(&request.endpoint, Endpoint::Alerts), "endpoint")
 }
 
 // A request has its five parts, and nothing of what follows it.
@@ -304,28 +311,22 @@ fn parts_told(alloc: Global, request: &Request) -> Result<String, AllocError> {
 fn parts(rt: HostRuntime) -> Result<(), Fail> {
     let head = "POST @?a=%20?b HTTP/1.1¶X-Scope-OrgID: \ta.b ¶Content-Length: 2¶¶[]more";
     let text = bytes_of(rt.alloc(), head)?;
-    match fed(rt.alloc(), text.as_bytes(), 10)? {
-        Fed::Request(request) => {
-            let told = parts_told(rt.alloc(), &request)?;
-            assert_eq!(rt; told.as_str(), "a.b true true a=%20?b true");
-        }
-        other => assert!(rt; false, "{}", name_of(&other)),
+    match fed_in_two(rt.alloc(), text.as_bytes(), 10)? {
+        Fed::Request(request) => has_its_parts(&request),
+        other => Err(name_of(&other).into()),
     }
-    Ok(())
 }
 
 // A connection that is closed isn't read, and the others are.
 #[test]
 fn closed(rt: HostRuntime) -> Result<(), Fail> {
-    let mut front = Front::new(rt.alloc())?;
-    let (one, two) = (ConnectionId::new(1), ConnectionId::new(2));
-    front.open(rt.alloc(), one)?;
+    let (mut front, one) = reading(rt.alloc())?;
+    let two = ConnectionId::new(2);
     front.open(rt.alloc(), two)?;
     front.close(one);
-    assert!(rt; !front.is_reading(one) && front.is_reading(two));
+    holds(!front.is_reading(one) && front.is_reading(two), "one")?;
     front.close_all();
-    assert!(rt; !front.is_reading(two));
-    Ok(())
+    holds(!front.is_reading(two), "all")
 }
 
 const READY: &[u8] =
@@ -344,8 +345,7 @@ fn refused(alloc: Global, refusal: FrontRefusal) -> Result<Octets, AllocError> {
 #[test]
 fn replies(rt: HostRuntime) -> Result<(), Fail> {
     let ready = ready_reply(rt.alloc())?;
-    assert_eq!(rt; ready.as_slice(), READY);
+    holds(ready.as_slice() == READY, "ready")?;
     let refused = refused(rt.alloc(), FrontRefusal::NoTenant)?;
-    assert_eq!(rt; refused.as_slice(), NO_TENANT);
-    Ok(())
+    holds(refused.as_slice() == NO_TENANT, "refused")
 }
