@@ -22,10 +22,19 @@ fn texts(alloc: Global) -> Result<Vec<Text>, Failure<JsonRefusal>> {
 fn write_object(text: &mut JsonWriter, texts: &[Text]) -> Result<(), AllocError> {
     text.begin_object()?;
     text.moment_member("a", Moment::greatest())?;
-    text.texts_member("b", texts)?;
+    text.key("b")?;
+    write_texts(text, texts)?;
     text.key("c")?;
     write_list(text)?;
     text.end_object()
+}
+
+fn write_texts(text: &mut JsonWriter, texts: &[Text]) -> Result<(), AllocError> {
+    text.begin_array()?;
+    for one in texts {
+        text.string(one.as_str())?;
+    }
+    text.end_array()
 }
 
 fn write_list(text: &mut JsonWriter) -> Result<(), AllocError> {

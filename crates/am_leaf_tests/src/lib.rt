@@ -1,4 +1,4 @@
-//! Worked examples: texts, names of tenants, labels, limits, URLs, JSON, the ring and random words.
+//! Worked examples: texts, names of tenants, labels, limits, URLs, JSON, the ring, random words and command lines.
 #![tactic(auto)]
 
 #[cfg(test)]
@@ -7,6 +7,8 @@ mod json;
 mod labels;
 #[cfg(test)]
 mod limit;
+#[cfg(test)]
+mod options;
 #[cfg(test)]
 mod ring;
 #[cfg(test)]

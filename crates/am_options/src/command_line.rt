@@ -2,10 +2,11 @@
 ghost use Rattle.std.specs.Prelude.{◌≡◌, IfOk, MatchResult, None, Some, codes, false, map, true};
 ghost use Rattle.clap.specs.Words.{app_of, found_of, has_subcommand, kind_of, rows_of, rule_of};
 ghost use Rattle.clap.specs.Simple.{subcommand_rows_of};
-ghost use Rattle.am_options.specs.CommandLine.{Asks, Tells, asked_by, asked_of, command_line, count_in, key_in, number_in, option, option_or, serving_in, settings_in};
+ghost use Rattle.clap.specs.declared.builder.command.Command.TheViews.{out-Command as fields_of};
+ghost use Rattle.am_options.specs.CommandLine.{Asks, Tells, app_named, asked_by, asked_of, command_line, count_in, key_in, number_in, option, option_or, serve, serving_in, settings_in};
 
 use am_scenario::number;
-use am_world::setup::Setup;
+use am_setup::Setup;
 use clap::error::ErrorKind;
 use clap::{Arg, ArgMatches, Command, Error};
 use hex::FromHex;
@@ -58,7 +59,7 @@ pub enum CommandLine {
 }
 
 /// An option whose value isn't one that it takes.
-#[derive(Clone, Copy, Debug, PartialEq, Eq)]
+#[derive(Clone, Copy, PartialEq, Eq)]
 enum BadOption {
     Cache,
     Key,
@@ -94,22 +95,35 @@ pub fn options<S: AsStr>(alloc: Global, words: &[S]) -> Result<CommandLine, Allo
 fn form<'a>(alloc: Global) -> Result<Command<'a>, AllocError>
     ensures { IfOk result (λ form. app_of form ≡ command_line) }
 {
-    let run = Command::new(alloc, "run")
-        .about("Plays the scenario on standard input")
-        .arg(cache(alloc))?
-        .arg(option(alloc, "key", "K", KEY_HELP))?;
-    let serve = Command::new(alloc, "serve")
-        .about("Serves connections over HTTP")
-        .arg(cache(alloc))?
-        .arg(option(alloc, "key", "K", KEY_HELP))?
-        .arg(option(alloc, "port", "P", PORT_HELP))?
-        .arg(option(alloc, "count", "N", COUNT_HELP))?;
+    let run = form_of(alloc, "run", "Plays the scenario on standard input")?;
+    let serve = serve_form(alloc)?;
     Command::new(alloc, "amring")
         .about("A multi-tenant Alertmanager")
         .version(VERSION)
         .subcommand_required(true)
         .subcommand(run)?
         .subcommand(serve)
+}
+
+/// The form of `serve`.
+fn serve_form<'a>(alloc: Global) -> Result<Command<'a>, AllocError>
+    ensures app { IfOk result (λ form. app_of form ≡ serve) }
+    ensures local { IfOk result (λ form. (fields_of form).has_globals ≡ false) }
+{
+    form_of(alloc, "serve", "Serves connections over HTTP")?
+        .arg(option(alloc, "port", "P", PORT_HELP))?
+        .arg(option(alloc, "count", "N", COUNT_HELP))
+}
+
+/// The form of a subcommand with the options of all of them.
+fn form_of<'a>(alloc: Global, name: &'a str, about: &'a str) -> Result<Command<'a>, AllocError>
+    ensures app { IfOk result (λ form. app_of form ≡ app_named name.entry.now) }
+    ensures local { IfOk result (λ form. (fields_of form).has_globals ≡ false) }
+{
+    Command::new(alloc, name)
+        .about(about)
+        .arg(cache(alloc))?
+        .arg(option(alloc, "key", "K", KEY_HELP))
 }
 
 /// The option of how many patterns are kept built.

@@ -2,7 +2,7 @@
 use Rattle.std.proofs.Common.{◌≡◌, ℕ, List, [], ◌++◌, Option, None, Some, IfSome, refl, ◌∙◌, inl, inr, append-nil}
 use Rattle.std.proofs.lemmas.List.Concat.{flat_map-append}
 use Rattle.std.specs.Io.KnownBytes.{Appends}
-use Rattle.am_world.specs.Setup.{Origin}
+use Rattle.am_setup.specs.Setup.{Origin}
 use Rattle.am_world.specs.Simulation.{fault_count}
 use Rattle.am_play.proofs.ScenarioLemmas.{Rest, Upto}
 use Rattle.am_play.proofs.TraceLemmas.{course_until_fault}

@@ -6,7 +6,7 @@ use Rattle.am_world.specs.declared.event.Output.{Output}
 use Rattle.am_world.specs.declared.world.World.{World}
 use Rattle.am_world.specs.Refusal.{refusal}
 use Rattle.am_world.specs.Runs.{Alone, Forgets}
-use Rattle.am_world.specs.Setup.{Origin}
+use Rattle.am_setup.specs.Setup.{Origin}
 use Rattle.am_world.specs.Simulation.{Step, fault_count, put_out, refused_by}
 use Rattle.am_world.specs.Ticks.{Either}
 use Rattle.am_world.specs.View.{first_watch, names_once}

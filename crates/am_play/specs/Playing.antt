@@ -5,7 +5,7 @@ use Rattle.am_world.specs.declared.event.Event.{Event}
 use Rattle.am_world.specs.declared.event.Event.TheVariants as event
 use Rattle.am_world.specs.declared.world.World.{World}
 use Rattle.am_world.specs.Runs.{Forgets}
-use Rattle.am_world.specs.Setup.{Origin}
+use Rattle.am_setup.specs.Setup.{Origin}
 use Rattle.am_world.specs.Refusal.{refusal}
 use Rattle.am_world.specs.Simulation.{Opens, Step, fault_count, put_out, refused_by}
 use Rattle.am_world.specs.Ticks.{Either}

@@ -1,7 +1,7 @@
 -- A whole scenario: its lines, and what playing them comes to.
 use Rattle.std.specs.Prelude.{◌≡◌, ◌⊎◌, ℕ, List, [], ◌++◌, Option, IfSome}
 use Rattle.am_world.specs.Runs.{Alone}
-use Rattle.am_world.specs.Setup.{Origin}
+use Rattle.am_setup.specs.Setup.{Origin}
 use Rattle.am_world.specs.Simulation.{fault_count}
 use Rattle.am_world.specs.View.{first_watch, names_once}
 use Rattle.am_play.specs.declared.play.Played.{Played}

@@ -20,9 +20,9 @@ use crate::stops::Stops;
 use crate::streams::{Sink, Source, StreamFailure};
 use am_http::ConnectionId;
 use am_scenario::{Command, LineFault, Request, read_command};
+use am_setup::Setup;
 use am_text::{Octets, Text};
 use am_world::event::{Event, Output};
-use am_world::setup::Setup;
 use am_world::world::World;
 use std::alloc::{AllocError, Global};
 use std::mem;
@@ -34,7 +34,7 @@ const PIECE: usize = 4096;
 const TAKEN: u16 = 200;
 
 /// How a scenario ended.
-#[derive(Clone, Copy, Debug, PartialEq, Eq)]
+#[derive(Clone, Copy, PartialEq, Eq)]
 pub enum Played {
     /// Every line was played, and `faults N` was written.
     All,

@@ -10,7 +10,7 @@ use am_play::link::Link;
 use am_play::play::{Played, play};
 use am_play::streams::{Sink, Source, StreamFailure};
 use am_play::writing::WholeWriter;
-use am_world::setup::Setup;
+use am_setup::Setup;
 use links::Direct;
 use serde_json::Value;
 use std::alloc::Global;

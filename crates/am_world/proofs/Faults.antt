@@ -13,7 +13,7 @@ use Rattle.am_world.specs.Moments.{clock_after}
 use Rattle.am_world.specs.Places.{IsDownAt, KeepRefused, SameElsewhere, incarnation_at, instance_at, incarnation_where, roster_of}
 use Rattle.am_world.specs.Refusal.{refusal}
 use Rattle.am_world.specs.Roster.{roster_after}
-use Rattle.am_world.specs.Setup.{numbers}
+use Rattle.am_setup.specs.Setup.{numbers}
 use Rattle.am_world.specs.Simulation.{Faulted, StoppedBy, fault_count, faults_of, put_out, works}
 use Rattle.am_world.proofs.Built.{keep_equal}
 use Rattle.am_world.proofs.InstancesLemmas.{CountsFrom}

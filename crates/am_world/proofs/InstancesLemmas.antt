@@ -16,7 +16,7 @@ use Rattle.am_replica.specs.Local.{blank}
 use Rattle.am_tenant.specs.Names.{same}
 use Rattle.am_world.specs.Reaction.{Brought, Here, MayDecide, Terms, asked_for, brought, decision_at}
 use Rattle.am_world.specs.Roster.{IsSameRoster}
-use Rattle.am_world.specs.Setup.{is_instance, numbers}
+use Rattle.am_setup.specs.Setup.{is_instance, numbers}
 use Rattle.am_world.specs.Taking.{Brings, Takes, taken_at}
 use Rattle.am_world.proofs.Built.{more_nothing}
 

@@ -19,7 +19,7 @@ use Rattle.am_world.specs.Places.{incarnation_at, local_at, roster_of, up_at}
 use Rattle.am_world.specs.PrivateCluster.{Course, PrivateCluster, Ticked, course, put_out_at, tick_at, ticks}
 use Rattle.am_world.specs.Reaction.{output_of, tick_if}
 use Rattle.am_world.specs.Roster.{IsSameRoster}
-use Rattle.am_world.specs.Setup.{is_instance, numbers}
+use Rattle.am_setup.specs.Setup.{is_instance, numbers}
 use Rattle.am_world.specs.Simulation.{Faulted, Follows, Kept, Stands, fault_count, faults_of, put_out}
 use Rattle.am_world.specs.Ticks.{TakeTurns}
 use Rattle.am_world.specs.View.{adds, watch}

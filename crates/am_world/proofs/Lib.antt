@@ -10,7 +10,6 @@ mod KeptPieces
 mod KeptTick
 mod Opening
 mod RefusalSeen
-mod RingLemmas
 mod Run
 pub mod Steps
 mod Ticking

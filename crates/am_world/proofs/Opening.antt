@@ -10,7 +10,7 @@ use Rattle.am_world.specs.Places.{AreNumbered, bytes_at, bytes_where, incarnatio
 use Rattle.am_world.specs.PrivateCluster.{opened}
 use Rattle.am_replica.specs.Local.{blank}
 use Rattle.am_world.specs.Roster.{IsSameRoster, opened_roster, serves}
-use Rattle.am_world.specs.Setup.{Origin, is_instance}
+use Rattle.am_setup.specs.Setup.{Origin, is_instance}
 use Rattle.am_world.specs.Simulation.{Follows, Stands}
 use Rattle.am_world.specs.View.{first_watch}
 use Rattle.am_world.proofs.InstancesLemmas.{found_within, missing_number, number_of}

@@ -15,7 +15,7 @@ use Rattle.am_world.specs.Outputs.{are_owned, front_outputs, front_told, front_t
 use Rattle.am_world.specs.Places.{AreBuilt, KeepRefused}
 use Rattle.am_world.specs.PrivateCluster.{Happening, PrivateCluster, after, after_all, fits, fits_all, opened, patterns_in, told, told_all}
 use Rattle.am_world.specs.Runs.{Alone, Headline, Prefixes, Run}
-use Rattle.am_world.specs.Setup.{Origin}
+use Rattle.am_setup.specs.Setup.{Origin}
 use Rattle.am_world.specs.Simulation.{Faulted, Follows, IsAsAlone, IsRefusedAlone, Kept, Later, Opens, Premises, Stands, Step, fault_count, put_out, refused_by}
 use Rattle.am_world.specs.View.{AskedAs, FrontAnswered, Reading, Seen, Shut, Table, Watch, adds, first_watch, left, look, names_once, noted, opens_new, table_after, view, watch, watch_all}
 use Rattle.am_world.proofs.Built.{built_before, built_parts, keep_equal, keep_then, more_among, none_refused}

@@ -6,7 +6,7 @@ use Rattle.am_world.specs.declared.world.World.{World}
 use Rattle.am_world.specs.Places.{AreBuilt, KeepRefused}
 use Rattle.am_world.specs.PrivateCluster.{PrivateCluster, after_all, opened, patterns_in}
 use Rattle.am_world.specs.Runs.{Alone, Forgets}
-use Rattle.am_world.specs.Setup.{Origin}
+use Rattle.am_setup.specs.Setup.{Origin}
 use Rattle.am_world.specs.Simulation.{Follows, Opens, Stands, Step, fault_count, put_out, refused_by}
 use Rattle.am_world.specs.View.{Watch, adds, first_watch, names_once, view, watch}
 use Rattle.am_world.proofs.Built.{keep_equal, keep_then}

@@ -14,7 +14,7 @@ use Rattle.am_replica.specs.Ticks.{StopsTicking, here_for}
 use Rattle.am_tenant.specs.Names.{same}
 use Rattle.am_world.specs.declared.event.AttemptName.{AttemptName}
 use Rattle.am_world.specs.Reaction.{Here, IsCause, Terms, in_replica}
-use Rattle.am_world.specs.Setup.{is_instance, numbers}
+use Rattle.am_setup.specs.Setup.{is_instance, numbers}
 use Rattle.am_world.specs.Ticks.{Either, Stops, StopsAt, TakesTurn, Ticks, TicksAt}
 use Rattle.am_item.specs.declared.fault.Fault.{Fault}
 use Rattle.am_item.specs.declared.fault.Fault.TheVariants.{OutOfMemory, CountsExhausted, PatternNotBuilt}

@@ -6,7 +6,6 @@ pub mod Reaction
 pub mod Refusal
 pub mod Roster
 pub mod Runs
-pub mod Setup
 pub mod Simulation
 pub mod Taking
 pub mod Ticks

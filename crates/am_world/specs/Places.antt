@@ -10,7 +10,7 @@ use Rattle.am_world.specs.declared.event.AttemptName.{AttemptName}
 use Rattle.am_world.specs.declared.instance.Instance.{Instance}
 use Rattle.am_world.specs.Reaction.{Here, Terms}
 use Rattle.am_world.specs.Roster.{Roster}
-use Rattle.am_world.specs.Setup.{numbers}
+use Rattle.am_setup.specs.Setup.{numbers}
 
 -- all eight instances, in order of number
 abbrev pub AreNumbered : List Instance → Type 0

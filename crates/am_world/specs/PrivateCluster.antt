@@ -14,7 +14,7 @@ use Rattle.am_world.specs.declared.event.Refused.TheVariants.{MomentRefused, Not
 use Rattle.am_world.specs.Moments.{effective, is_refused_tick, is_too_late}
 use Rattle.am_world.specs.Reaction.{AcceptsBuilt, Here, Terms, asked, carried_out, decision_at, in_replica, output_of, terms_with, tick_if}
 use Rattle.am_world.specs.Roster.{Roster, opened_roster, put_at}
-use Rattle.am_world.specs.Setup.{Origin, numbers}
+use Rattle.am_setup.specs.Setup.{Origin, numbers}
 
 -- one thing that happens to the tenant
 pub data Happening : Type 0 where

@@ -6,7 +6,7 @@ use Rattle.am_world.specs.declared.world.World.{World}
 use Rattle.am_world.specs.Outputs.{outputs_of, front_outputs, front_told_all, are_owned}
 use Rattle.am_world.specs.Places.{AreBuilt}
 use Rattle.am_world.specs.PrivateCluster.{PrivateCluster, opened, after_all, told_all, fits_all, patterns_in}
-use Rattle.am_world.specs.Setup.{Origin}
+use Rattle.am_setup.specs.Setup.{Origin}
 use Rattle.am_world.specs.Simulation.{put_out, fault_count, refused_by, Follows, Stands, Opens, Faulted, Step}
 use Rattle.am_world.specs.View.{Watch, first_watch, watch_all, view, names_once}
 

@@ -23,7 +23,7 @@ use Rattle.am_world.specs.PrivateCluster.{PrivateCluster, AreAllBuilt, Asked, an
 use Rattle.am_world.specs.Reaction.{IsCause, IsRefusedBuild, asked_for, in_replica, terms_of}
 use Rattle.am_world.specs.Refusal.{refusal}
 use Rattle.am_world.specs.Roster.{IsSameRoster, roster_after}
-use Rattle.am_world.specs.Setup.{Origin, numbers}
+use Rattle.am_setup.specs.Setup.{Origin, numbers}
 use Rattle.am_world.specs.View.{Seen, Reading, AskedAs, FrontAnswered, Shut, Watch, first_watch, look, watch, adds}
 
 -- what a world has put out so far, and how many faults came

@@ -9,7 +9,7 @@ use Rattle.am_world.specs.declared.event.Event.TheVariants.{Open, Bytes, Close, 
 use Rattle.am_world.specs.Moments.{is_too_late}
 use Rattle.am_world.specs.PrivateCluster.{Happening, Asked, Limited, Ticked, Tried}
 use Rattle.am_world.specs.Roster.{Roster, opened_roster, roster_after}
-use Rattle.am_world.specs.Setup.{Origin}
+use Rattle.am_setup.specs.Setup.{Origin}
 
 -- what became of a connection so far
 pub data Seen : Type 0 where

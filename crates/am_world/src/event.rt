@@ -12,7 +12,7 @@ use std::fmt;
 pub const LAST_MOMENT: u64 = 250_000_000_000_000;
 
 /// An attempt to deliver a notice, by name.
-#[derive(Debug, Drop)]
+#[derive(Drop)]
 pub struct AttemptName {
     /// Whose notice it is.
     pub tenant: TenantName,
@@ -25,7 +25,7 @@ pub struct AttemptName {
 }
 
 /// One thing that happens. Events are handled one after the other, each wholly before the next.
-#[derive(Debug, Drop)]
+#[derive(Drop)]
 pub enum Event {
     /// A connection is opened to an instance. A known name starts anew, with no bytes.
     Open {
@@ -62,7 +62,7 @@ pub enum Event {
 }
 
 /// One thing that goes out.
-#[derive(Debug, Drop)]
+#[derive(Drop)]
 pub enum Output {
     /// The whole reply of a connection.
     Reply {
@@ -82,7 +82,7 @@ pub enum Output {
 }
 
 /// Why an event was refused. A refused event changes nothing.
-#[derive(Clone, Copy, Debug, PartialEq, Eq)]
+#[derive(Clone, Copy, PartialEq, Eq)]
 pub enum Refused {
     /// The moment is past [`LAST_MOMENT`], or a tick goes back.
     MomentRefused,

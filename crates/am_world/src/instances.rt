@@ -6,7 +6,7 @@ ghost use Rattle.am_replica.specs.Delivery.{outcome};
 ghost use Rattle.am_replica.specs.Held.{StopsFor as StopsReacting};
 ghost use Rattle.am_tenant.specs.Names.{same};
 ghost use Rattle.am_world.specs.Roster.{IsSameRoster, opened_roster};
-ghost use Rattle.am_world.specs.Setup.{Origin, is_instance, numbers};
+ghost use Rattle.am_setup.specs.Setup.{Origin, is_instance, numbers};
 ghost use Rattle.am_world.specs.Taking.{Takes};
 ghost use Rattle.am_world.specs.Ticks.{TakeTurns, TakesTurn};
 

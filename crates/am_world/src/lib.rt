@@ -4,11 +4,9 @@
 pub mod event;
 mod instance;
 mod instances;
-pub mod setup;
 pub mod theorem;
 pub mod world;
 
 pub use am_item::Fault;
 pub use event::{AttemptName, Event, LAST_MOMENT, Output, Refused};
-pub use setup::Setup;
 pub use world::World;

@@ -13,8 +13,8 @@ ghost use Rattle.am_world.specs.Simulation.{Follows, Stands, fault_count, put_ou
 ghost use Rattle.am_world.specs.View.{Watch, first_watch, names_once, view, watch_all};
 
 use crate::event::Event;
-use crate::setup::Setup;
 use crate::world::World;
+use am_setup::Setup;
 use std::alloc::{AllocError, Global};
 
 /// Opens a world and runs a list of events in it. Whatever the other tenants do, what the world puts out for a

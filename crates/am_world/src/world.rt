@@ -4,10 +4,10 @@ ghost use Rattle.std.specs.Prelude.{◌≡◌, ◌+◌, ◌-◌, ◌^◌, ◌≤
 
 use crate::event::{AttemptName, Event, LAST_MOMENT, Output, Refused};
 use crate::instances::Instances;
-use crate::setup::Setup;
 use am_http::ConnectionId;
 use am_item::Fault;
 use am_limit::{LimitBook, Limits};
+use am_setup::Setup;
 use am_tenant::TenantName;
 use am_text::{Moment, Octets};
 use std::alloc::{AllocError, Global};
@@ -45,7 +45,7 @@ impl World {
     ghost use Rattle.am_world.specs.Places.{IsDownAt, SameElsewhere, cause_at, incarnation_at, refused_at};
     ghost use Rattle.am_world.specs.Refusal.{refusal};
     ghost use Rattle.am_world.specs.Runs.{Run, Headline, Prefixes, Forgets};
-    ghost use Rattle.am_world.specs.Setup.{is_instance};
+    ghost use Rattle.am_setup.specs.Setup.{is_instance};
     ghost use Rattle.am_world.specs.Simulation.{Opens, Step, fault_count, put_out};
 
     /// A world at moment 0, in which no connection is open and nothing is held. Fails only where memory is refused.

@@ -1,15 +1,17 @@
-//! Worked examples: two worlds beside each other, one that is served, and command lines.
+//! Worked examples: heads of requests, requests and their replies, two worlds beside each other, and one that is served.
 #![tactic(auto)]
 
 #[cfg(test)]
-mod options;
+mod api;
+#[cfg(test)]
+mod http;
 #[cfg(test)]
 mod serving;
 #[cfg(test)]
 mod views;
 
 #[cfg(test)]
-use am_world::setup::Setup;
+use am_setup::Setup;
 #[cfg(test)]
 use std::test::Fail;
 

@@ -3,9 +3,9 @@
 use crate::setup;
 use am_expect::{equal, holds};
 use am_http::ConnectionId;
+use am_setup::Setup;
 use am_text::Octets;
 use am_world::event::{Event, Output};
-use am_world::setup::Setup;
 use am_world::theorem::run_both;
 use am_world::world::World;
 use std::alloc::Global;

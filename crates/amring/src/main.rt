@@ -9,7 +9,7 @@ use am_play::loopback::Loopback;
 use am_play::streams::Sink;
 use am_play::writing::WholeWriter;
 use am_play::{ending, play};
-use am_world::setup::Setup;
+use am_setup::Setup;
 use std::io::{BufReader, BufWriter, Write};
 use std::net::Net;
 use std::process::ExitCode;

@@ -11,7 +11,7 @@ use am_play::lines::LineReader;
 use am_play::play::{Played, play};
 use am_play::streams::{Sink, Source, StreamFailure};
 use am_play::writing::WholeWriter;
-use am_world::setup::Setup;
+use am_setup::Setup;
 use std::alloc::Global;
 use std::io;
 use std::io::{BufReader, ErrorKind, Read, Write};

@@ -6,11 +6,11 @@ use Rattle.clap.specs.Simple.{subcommand_rows_of}
 use Rattle.clap.specs.declared.error.Error.{Error}
 use Rattle.clap.specs.declared.error.kind.ErrorKind.{ErrorKind}
 use Rattle.clap.proofs.OnLiterals.{clap_on_literals}
-use Rattle.am_options.specs.CommandLine.{Asks, Tells, asked_by, asked_of, command_line, kinds, serving_in, settings_in}
+use Rattle.am_options.specs.CommandLine.{Asks, Tells, asked_of, command_line, kinds, serving_in, settings_in}
 use Rattle.am_options.specs.declared.command_line.CommandLine.{CommandLine}
 use Rattle.am_options.specs.declared.command_line.CommandLine.TheVariants.{Run, Serve, Help, Bad}
 use Rattle.am_options.specs.declared.command_line.Serving.{Serving}
-use Rattle.am_world.specs.Setup.{Settings}
+use Rattle.am_setup.specs.Setup.{Settings}
 use Rattle.am_options.proofs.command_line.options.Goals as goal
 
 -- clap says which words the command line's form takes, and what it finds in them

@@ -1,6 +1,6 @@
 use Rattle.std.proofs.Common.{◌∙◌, sym, ap}
 use Rattle.am_world.specs.PrivateCluster.{opened, told_all}
-use Rattle.am_world.specs.Setup.{Origin}
+use Rattle.am_setup.specs.Setup.{Origin}
 use Rattle.am_world.specs.View.{first_watch, view}
 use Rattle.am_world.proofs.theorem.run_both.Goals as goal
 

@@ -1,7 +1,7 @@
 use Rattle.std.proofs.Common.{◌∙◌, ◌++◌, ◌∷◌, [], ap, sym, take}
 use Rattle.std.proofs.lemmas.List.{take_all, take_more}
 use Rattle.am_world.specs.Roster.{serves}
-use Rattle.am_world.specs.Setup.{numbers}
+use Rattle.am_setup.specs.Setup.{numbers}
 use Rattle.am_world.proofs.Opening.{IsFresh, roster_opening, fresh_push, local_opening, numbers_push, refused_opening, unread_opening}
 use Rattle.am_world.proofs.instances.Instances.open.Goals as goal
 

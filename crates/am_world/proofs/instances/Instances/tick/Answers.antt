@@ -1,6 +1,6 @@
 use Rattle.std.proofs.Common.{◌≡◌, ◌≤◌, ◌+◌, arith, slice_index_or, take}
 use Rattle.std.proofs.lemmas.List.{take_more}
-use Rattle.am_world.specs.Setup.{numbers}
+use Rattle.am_setup.specs.Setup.{numbers}
 use Rattle.am_world.proofs.Working.{exists_up}
 use Rattle.am_world.proofs.Turns.{turns_more}
 use Rattle.am_world.proofs.instances.Instances.tick.Goals.{then-not-tick_at, else-not-tick_at}

@@ -1,6 +1,6 @@
 use Rattle.std.proofs.Common.{◌∙◌, length, refl, sym}
-use Rattle.am_world.proofs.RingLemmas.{padding_left_out, ring_numbers, ring_of_padded}
-use Rattle.am_world.proofs.setup.Setup.new.Goals as goal
+use Rattle.am_setup.proofs.RingLemmas.{padding_left_out, ring_numbers, ring_of_padded}
+use Rattle.am_setup.proofs.Setup.new.Goals as goal
 
 pub returns-clause-settings : goal.returns-clause-settings
 returns-clause-settings c =

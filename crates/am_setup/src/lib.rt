@@ -1,8 +1,9 @@
 //! What a world is opened with.
+#![tactic(auto)]
 
 ghost use Rattle.std.specs.Prelude.{◌≡◌, ◌↔◌, ◌<◌, IsTrue, IsSome, IfSome};
 ghost use Rattle.std.specs.List.{list_all};
-ghost use Rattle.am_world.specs.Setup.{all_differ, is_instance, is_ring, is_setup};
+ghost use Rattle.am_setup.specs.Setup.{all_differ, is_instance, is_ring, is_setup};
 
 use std::marker::Model;
 
@@ -17,7 +18,7 @@ pub struct Setup {
 
 impl Model for Setup {
     ghost use Rattle.std.specs.Prelude.{◌≡◌, ◌<◌, length};
-    ghost use Rattle.am_world.specs.Setup.{Settings, ring_in};
+    ghost use Rattle.am_setup.specs.Setup.{Settings, ring_in};
 
     ghost Value = { Settings };
 

@@ -1,0 +1,17 @@
+use Rattle.std.proofs.Common.{rules, ◌≡◌, ◌∙◌, ap, ap₂}
+use Rattle.std.proofs.lemmas.Result.{IfOk-weaker}
+use Rattle.clap.specs.Words.{app_of, new_app, with_rule}
+use Rattle.clap.specs.Simple.{app_of_fields}
+use Rattle.am_options.proofs.command_line.form_of.Goals as goal
+
+pub returns-clause-app : goal.returns-clause-app
+returns-clause-app c =
+    let named : app_of c.about.result ≡ new_app c.args.name.now = ap app_of_fields c.about.ensures ∙ c.new.ensures.app in
+    let cached = c.in_ok-arg.ensures.shape c.cache.ensures.local ∙ ap₂ with_rule named c.cache.ensures.rule in
+    IfOk-weaker c.arg-2.result _ _ (λ form added. added.shape c.option.ensures.local ∙ ap₂ with_rule cached c.option.ensures.rule) c.arg-2.ensures
+
+pub returns-clause-local : goal.returns-clause-local
+returns-clause-local c =
+    IfOk-weaker c.arg-2.result _ _
+    (λ form added. rw (added.globals, c.in_ok-arg.ensures.globals) (search (rules, c.about.ensures, c.new.ensures.local, c.cache.ensures.local, c.option.ensures.local)))
+    c.arg-2.ensures

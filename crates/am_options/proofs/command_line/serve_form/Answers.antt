@@ -1,0 +1,15 @@
+use Rattle.std.proofs.Common.{rules, ◌∙◌, ap₂}
+use Rattle.std.proofs.lemmas.Result.{IfOk-weaker}
+use Rattle.clap.specs.Words.{with_rule}
+use Rattle.am_options.proofs.command_line.serve_form.Goals as goal
+
+pub returns-clause-app : goal.returns-clause-app
+returns-clause-app c =
+    let ported = c.in_ok-arg.ensures.shape c.option.ensures.local ∙ ap₂ with_rule c.in_ok-form_of.ensures.app c.option.ensures.rule in
+    IfOk-weaker c.arg-2.result _ _ (λ form added. added.shape c.option-2.ensures.local ∙ ap₂ with_rule ported c.option-2.ensures.rule) c.arg-2.ensures
+
+pub returns-clause-local : goal.returns-clause-local
+returns-clause-local c =
+    IfOk-weaker c.arg-2.result _ _
+    (λ form added. rw (added.globals, c.in_ok-arg.ensures.globals) (search (rules, c.in_ok-form_of.ensures.local, c.option.ensures.local, c.option-2.ensures.local)))
+    c.arg-2.ensures
