@@ -1,14 +1,12 @@
 -- What is spelled is read again, whatever follows: numbers, texts, and things one after another.
-use Rattle.std.proofs.Common.{◌≡◌, ℕ, zero, suc, ◌+◌, ◌<◌, ◌≤◌, ◌^◌, Bool, true, false, List, [], ◌∷◌, ◌++◌, length, take, drop, Option, Some, None, Ok, Err, refl, sym, ap, ◌∙◌, append_assoc, append-nil, length-append, arith, nat_le, IsTrue, IsUtf8, if◌then◌else◌}
+use Rattle.std.proofs.Common.{◌≡◌, ℕ, suc, ◌+◌, ◌<◌, ◌≤◌, ◌^◌, Bool, true, false, List, [], ◌∷◌, ◌++◌, length, Option, Some, Ok, refl, sym, ap, ◌∙◌, append_assoc, append-nil, length-append, arith, nat_le, IsTrue, IsUtf8}
 use Rattle.std.specs.List.{flat_map}
-use Rattle.std.specs.Str.{is_utf8}
 use Rattle.std.proofs.lemmas.Bool.{le-leb}
 use Rattle.std.proofs.lemmas.List.{drop_at, take_at}
 use Rattle.std.proofs.lemmas.Str.{is_utf8-from_IsUtf8}
 use Rattle.byteorder.specs.Endian.{big_number}
 use Rattle.byteorder.specs.Numbers.{big_number-reads_back}
 use Rattle.am_text.specs.Moment.{greatest_moment}
-use Rattle.am_text.specs.Outcome.{◌>>=◌}
 use Rattle.am_ring.specs.Instances.{is_instance}
 use Rattle.am_wire.specs.Fields.{Chain, Reading, bytes_at, flag_at, flag_bytes, instance_at, moment_at, number_at, number_bytes, several, text_at, text_bytes}
 use Rattle.am_wire.proofs.Framed.{length-framed, length-number_bytes}

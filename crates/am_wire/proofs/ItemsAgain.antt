@@ -1,10 +1,9 @@
 -- What is spelled is read again: items.
-use Rattle.std.proofs.Common.{◌≡◌, ℕ, ◌+◌, ◌<◌, ◌≤◌, ◌^◌, List, [], ◌∷◌, ◌++◌, length, Option, Some, None, Ok, All, refl, ap, ◌∙◌, append_assoc, length-append, arith, IsUtf8}
+use Rattle.std.proofs.Common.{◌≡◌, ℕ, ◌<◌, ◌≤◌, ◌^◌, List, [], ◌∷◌, ◌++◌, length, Option, Some, None, Ok, All, refl, ap, ◌∙◌, append_assoc, length-append, arith, IsUtf8}
 use Rattle.std.specs.List.{flat_map}
 use Rattle.std.specs.Prelude.{IfSome}
 use Rattle.std.proofs.lemmas.List.Elements.{All-head, All-tail}
 use Rattle.std.proofs.lemmas.Str.{IsUtf8-from_ascii}
-use Rattle.am_text.specs.Outcome.{◌>>=◌}
 use Rattle.am_match.specs.declared.matcher.Operator.{Operator}
 use Rattle.am_match.specs.declared.matcher.Operator.TheVariants.{Equal, NotEqual, Match, NotMatch}
 use Rattle.am_match.specs.Matchers.{IsMatcher, MatcherText}
@@ -15,7 +14,7 @@ use Rattle.am_item.specs.declared.item.Alert.{Alert}
 use Rattle.am_item.specs.declared.stamp.Stamp.{Stamp}
 use Rattle.am_wire.specs.declared.kinds.ThingKind.{ThingKind}
 use Rattle.am_wire.specs.declared.kinds.ThingKind.TheVariants as kind
-use Rattle.am_wire.specs.Fields.{Chain, flag_at, number_bytes, several, text_bytes}
+use Rattle.am_wire.specs.Fields.{Chain, flag_at, number_bytes, text_bytes}
 use Rattle.am_wire.specs.LabelFields.{label_sets_bytes, labels_bytes}
 use Rattle.am_wire.specs.ItemFields.{AreMatchers, IsAlert, IsEntry, IsItem, IsSilence, IsStamp, IsThing, alert_at, alert_bytes, configuration_at, configuration_bytes, entry_at, entry_bytes, item_at, item_bytes, items_at, items_bytes, kind_of_thing, matcher_at, matcher_bytes, matcher_name_at, matchers_at, matchers_bytes, operator_at, silence_at, silence_bytes, stamp_at, stamp_bytes, thing_at, thing_bytes, thing_kind_at, thing_number}
 use Rattle.am_wire.specs.Values.{ItemValue, SilenceValue, ThingValue, ConfigurationValue, SilenceThing, AlertValue, EntryValue}

@@ -1,15 +1,14 @@
 -- What is spelled is read again: labels and label sets.
-use Rattle.std.proofs.Common.{◌≡◌, ℕ, ◌+◌, ◌<◌, ◌≤◌, ◌^◌, Bool, true, false, ◌&&◌, ◌||◌, List, [], ◌∷◌, ◌++◌, length, Option, Some, None, Ok, All, refl, sym, ap, ◌∙◌, append_assoc, length-append, arith, IsTrue}
+use Rattle.std.proofs.Common.{◌≡◌, ℕ, ◌<◌, ◌≤◌, ◌^◌, Bool, true, false, ◌||◌, List, [], ◌∷◌, ◌++◌, length, Option, Some, None, Ok, All, refl, ap, ◌∙◌, append_assoc, length-append, arith}
 use Rattle.std.specs.List.{flat_map, list_all, AllByRecursion}
 use Rattle.std.specs.List.Sorted.{IsStrictlySortedBy}
 use Rattle.std.specs.Ordering.{is_lt}
 use Rattle.std.specs.declared.cmp.Ordering.{Ordering}
 use Rattle.std.specs.declared.cmp.Ordering.TheVariants.{Less}
 use Rattle.std.proofs.lemmas.List.Elements.{All-head, All-tail}
-use Rattle.am_text.specs.Outcome.{◌>>=◌}
 use Rattle.am_labels.specs.declared.Label.{Label}
 use Rattle.am_labels.specs.Labels.{are_label_names, has_value, is_label_name, labels_cmp, name_cmp}
-use Rattle.am_wire.specs.Fields.{Chain, Rises, number_bytes, rises, several, text_bytes}
+use Rattle.am_wire.specs.Fields.{Chain, Rises, number_bytes, rises, text_bytes}
 use Rattle.am_wire.specs.LabelFields.{AreSetFields, HasTexts, IsAnnotationsField, IsLabelAfter, IsSetAfter, IsSetField, label_at, label_bytes, label_set_at, label_sets_at, label_sets_bytes, labels_at, labels_bytes, name_at, value_at}
 use Rattle.am_wire.proofs.FieldsAgain.{length-several, number_again, several_again, text_again}
 use Rattle.am_wire.proofs.Framed.{length-number_bytes}

@@ -1,15 +1,13 @@
 -- What is spelled is read again: messages. So no spelling begins another.
 use Rattle.std.specs.Prelude.{◌==◌}
-use Rattle.std.proofs.Common.{◌≡◌, ⊎_elim, ℕ, suc, ◌+◌, ◌-◌, ◌<◌, ◌≤◌, ◌^◌, Bool, true, false, List, [], ◌∷◌, ◌++◌, length, take, drop, Result, Ok, Err, refl, sym, ap, ◌∙◌, append_assoc, append-nil, length-append, arith, IsTrue, nat_le, inl, inr}
+use Rattle.std.proofs.Common.{◌≡◌, ⊎_elim, ℕ, suc, ◌-◌, ◌<◌, ◌^◌, Bool, false, List, [], ◌∷◌, ◌++◌, length, take, Ok, Err, refl, sym, ap, ◌∙◌, append_assoc, append-nil, length-append, arith, IsTrue, inl, inr}
 use Rattle.std.proofs.lemmas.Bool.{cases_lt}
 use Rattle.std.proofs.lemmas.Bool.Decides.{eqb_tells, leb_tells}
 use Rattle.std.proofs.lemmas.List.{length-take}
 use Rattle.std.proofs.Math.Seq.{take-append-add}
 use Rattle.am_tenant.specs.Names.{is_tenant_name}
-use Rattle.am_text.specs.Outcome.{◌>>=◌, outcome_as}
 use Rattle.am_wire.specs.declared.kinds.BodyKind.{BodyKind}
 use Rattle.am_wire.specs.declared.kinds.BodyKind.TheVariants as kind
-use Rattle.am_wire.specs.declared.refusal.WireRefusal.{WireRefusal}
 use Rattle.am_wire.specs.declared.refusal.WireRefusal.TheVariants.{BytesLeft, CutShort, FieldPastEnd}
 use Rattle.am_wire.specs.Fields.{Reading, bytes_at, flag_bytes, number_at, number_bytes}
 use Rattle.am_wire.specs.ItemFields.{items_bytes}

@@ -1,7 +1,6 @@
 -- What holds of labels and label sets that were read one behind the other.
-use Rattle.std.proofs.Common.{◌≡◌, ◌^◌, ◌<◌, Bool, true, false, ◌||◌, ◌&&◌, Result, List, [], ◌∷◌, length, Option, Some, None, Ok, Err, All, filter, refl, sym, ap, ◌∙◌, IsTrue}
-use Rattle.std.specs.Cmp.{IsTotalOrder, on_total}
-use Rattle.std.specs.Cmp.Lexicographic.{nat_list_cmp_total}
+use Rattle.std.proofs.Common.{◌≡◌, ◌^◌, ◌<◌, Bool, true, false, ◌&&◌, Result, List, [], ◌∷◌, length, Option, Some, None, Ok, All, filter, refl, ap, ◌∙◌}
+use Rattle.std.specs.Cmp.{IsTotalOrder}
 use Rattle.std.specs.List.{list_all, AllByRecursion}
 use Rattle.std.specs.List.Sorted.{IsStrictlySortedBy}
 use Rattle.std.specs.declared.cmp.Ordering.{Ordering}
@@ -18,7 +17,6 @@ use Rattle.am_labels.proofs.InOrder.{name_total}
 use Rattle.am_labels.proofs.Refusing.{annotations-rising, label_set_of}
 use Rattle.am_wire.specs.Fields.{Chain, Rises}
 use Rattle.am_wire.specs.LabelFields.{AreSetFields, HasTexts, IsAnnotationsField, IsLabelAfter, IsSetAfter, IsSetField}
-use Rattle.am_wire.proofs.Several.{all_of_chain}
 
 module _ {A : Type 0} (cmp : A → A → Ordering) (order : IsTotalOrder cmp) where
   -- each is greater than the one before it

@@ -15,7 +15,7 @@ use Rattle.am_item.specs.declared.stamp.Stamp.{Stamp}
 use Rattle.am_wire.specs.declared.kinds.ThingKind.{ThingKind}
 use Rattle.am_wire.specs.declared.kinds.ThingKind.TheVariants as kind
 use Rattle.am_wire.specs.declared.refusal.WireRefusal.TheVariants.{BadValue}
-use Rattle.am_wire.specs.Fields.{Reading, byte_at, bytes_at, flag_at, flag_bytes, instance_at, moment_at, number_at, number_bytes, several, text_at, text_bytes}
+use Rattle.am_wire.specs.Fields.{Reading, byte_at, bytes_at, flag_at, instance_at, moment_at, number_at, number_bytes, several, text_at, text_bytes}
 use Rattle.am_wire.specs.LabelFields.{AreSetFields, IsAnnotationsField, IsSetField, label_sets_at, label_sets_bytes, labels_at, labels_bytes}
 use Rattle.am_wire.specs.Values.{ItemValue, SilenceValue, ThingValue, ConfigurationValue, SilenceThing, AlertValue, EntryValue}
 

@@ -1,5 +1,5 @@
 -- Labels, and sets of label sets: how they are spelled, which may be, and how they are read.
-use Rattle.std.specs.Prelude.{◌≡◌, ℕ, ◌<◌, ◌^◌, Bool, true, false, ◌&&◌, ◌||◌, not, ◌==◌, All, List, ◌++◌, length, Option, None, Ok, Err, IsTrue, IsUtf8, if◌then◌else◌}
+use Rattle.std.specs.Prelude.{ℕ, ◌<◌, ◌^◌, Bool, false, ◌&&◌, ◌||◌, not, ◌==◌, All, List, ◌++◌, length, Option, None, Ok, Err, IsTrue, IsUtf8, if◌then◌else◌}
 use Rattle.std.specs.List.{flat_map}
 use Rattle.std.specs.List.Sorted.{IsStrictlySortedBy}
 use Rattle.am_text.specs.Outcome.{◌>>=◌}

@@ -11,7 +11,7 @@ use Rattle.am_wire.specs.declared.refusal.WireRefusal.{WireRefusal}
 use Rattle.am_wire.specs.declared.refusal.WireRefusal.TheVariants.{CutShort, UnknownKind, BadTenant, BytesLeft}
 use Rattle.am_wire.specs.Fields.{Reading, byte_at, bytes_at, flag_at, flag_bytes, instance_at, number_at, number_bytes}
 use Rattle.am_wire.specs.ItemFields.{IsItem, items_at, items_bytes}
-use Rattle.am_wire.specs.Values.{ItemValue, BodyValue, MessageValue, GetValue, AnswerValue, PutValue, AckValue, AskValue, StateValue, GotValue}
+use Rattle.am_wire.specs.Values.{BodyValue, MessageValue, GetValue, AnswerValue, PutValue, AckValue, AskValue, StateValue, GotValue}
 
 -- ---- as they are spelled
 

@@ -7,7 +7,7 @@ ghost use Rattle.am_wire.specs.Messages.{IsBody, IsMessage, IsRefusalOf, Spells,
 ghost use Rattle.am_wire.specs.Refusals.{IsBadBy};
 ghost use Rattle.am_wire.specs.Values.{body_value, message_value};
 
-use crate::kinds::BodyKind;
+use crate::kinds::body_number;
 use crate::message::{Body, Message};
 use crate::refusal::EncodeRefusal;
 use crate::write_fields::{push_u32, push_u64};
@@ -83,7 +83,7 @@ fn push_message(out: &mut Vec<u8>, message: &Message) -> Result<(), Failure<Enco
 {
     let tenant = message.tenant.as_bytes();
     out.push(1)?;
-    out.push(BodyKind::of(&message.body).number())?;
+    out.push(body_number(&message.body))?;
     out.push(message.from.number())?;
     push_u32(out, message.incarnation)?;
     out.push(message.to.number())?;

@@ -9,7 +9,7 @@ use crate::message::Body;
 use am_item::Thing;
 
 /// The kind of a thing that an item holds.
-#[derive(Clone, Copy, Debug, PartialEq, Eq)]
+#[derive(Drop)]
 pub(crate) enum ThingKind {
     Configuration,
     Silence,
@@ -17,34 +17,20 @@ pub(crate) enum ThingKind {
     SentEntry,
 }
 
-impl ThingKind {
-    /// The kind of a thing.
-    pub fn of(thing: &Thing) -> ThingKind
-        ensures { result ≡ kind_of_thing (thing_value thing.now) }
-    {
-        match thing {
-            Thing::Configuration(_) => ThingKind::Configuration,
-            Thing::Silence(_) => ThingKind::Silence,
-            Thing::Alert(_) => ThingKind::Alert,
-            Thing::SentEntry(_) => ThingKind::SentEntry,
-        }
-    }
-
-    /// Its number, 1 to 4.
-    pub fn number(self) -> u8
-        ensures { result ≡ thing_number self }
-    {
-        match self {
-            ThingKind::Configuration => 1,
-            ThingKind::Silence => 2,
-            ThingKind::Alert => 3,
-            ThingKind::SentEntry => 4,
-        }
+/// The number of a thing's kind, 1 to 4.
+pub(crate) fn thing_number(thing: &Thing) -> u8
+    ensures { result ≡ thing_number (kind_of_thing (thing_value thing.now)) }
+{
+    match thing {
+        Thing::Configuration(_) => 1,
+        Thing::Silence(_) => 2,
+        Thing::Alert(_) => 3,
+        Thing::SentEntry(_) => 4,
     }
 }
 
 /// The kind of a message.
-#[derive(Clone, Copy, Debug, PartialEq, Eq)]
+#[derive(Drop)]
 pub(crate) enum BodyKind {
     Get,
     Answer,
@@ -55,34 +41,17 @@ pub(crate) enum BodyKind {
     Got,
 }
 
-impl BodyKind {
-    /// The kind of what a message says.
-    pub fn of(body: &Body) -> BodyKind
-        ensures { result ≡ kind_of_body (body_value body.now) }
-    {
-        match body {
-            Body::Get { .. } => BodyKind::Get,
-            Body::Answer { .. } => BodyKind::Answer,
-            Body::Put { .. } => BodyKind::Put,
-            Body::Ack { .. } => BodyKind::Ack,
-            Body::Ask { .. } => BodyKind::Ask,
-            Body::State { .. } => BodyKind::State,
-            Body::Got { .. } => BodyKind::Got,
-        }
-    }
-
-    /// Its number, 1 to 7.
-    pub fn number(self) -> u8
-        ensures { result ≡ body_number self }
-    {
-        match self {
-            BodyKind::Get => 1,
-            BodyKind::Answer => 2,
-            BodyKind::Put => 3,
-            BodyKind::Ack => 4,
-            BodyKind::Ask => 5,
-            BodyKind::State => 6,
-            BodyKind::Got => 7,
-        }
+/// The number of a body's kind, 1 to 7.
+pub(crate) fn body_number(body: &Body) -> u8
+    ensures { result ≡ body_number (kind_of_body (body_value body.now)) }
+{
+    match body {
+        Body::Get { .. } => 1,
+        Body::Answer { .. } => 2,
+        Body::Put { .. } => 3,
+        Body::Ack { .. } => 4,
+        Body::Ask { .. } => 5,
+        Body::State { .. } => 6,
+        Body::Got { .. } => 7,
     }
 }

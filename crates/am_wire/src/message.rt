@@ -5,7 +5,7 @@ use am_ring::Instance;
 use am_tenant::TenantName;
 
 /// A message about one tenant. Tenant, sender, incarnation, receiver and count are its name.
-#[derive(Debug, Drop)]
+#[derive(Drop)]
 pub struct Message {
     /// The instance that sent it.
     pub from: Instance,
@@ -22,7 +22,7 @@ pub struct Message {
 }
 
 /// What a message says.
-#[derive(Debug, Drop)]
+#[derive(Drop)]
 pub enum Body {
     /// The best items are asked for.
     Get {

@@ -7,7 +7,7 @@ use std::error::Error;
 use std::fmt;
 
 /// Why bytes are no message: what is met first from left to right.
-#[derive(Clone, Copy, Debug, PartialEq, Eq)]
+#[derive(Clone, Copy, Debug)]
 pub enum WireRefusal {
     /// The bytes end before the length that they state.
     CutShort,
@@ -50,7 +50,7 @@ impl fmt::Display for WireRefusal {
 impl Error for WireRefusal {}
 
 /// Why a message has no bytes.
-#[derive(Clone, Copy, Debug, PartialEq, Eq)]
+#[derive(Clone, Copy, Debug)]
 pub enum EncodeRefusal {
     /// An item's stamp names no instance, or an item has more than 65,535 labels, annotations or matchers.
     BadItem,

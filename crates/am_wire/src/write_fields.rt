@@ -6,19 +6,9 @@ ghost use Rattle.am_wire.specs.Fields.{number_bytes, text_bytes};
 ghost use Rattle.am_wire.specs.Refusals.{IsBadBy};
 
 use crate::refusal::EncodeRefusal;
-use am_text::{Failure, Moment, Text};
+use am_text::{Failure, Moment};
 use byteorder::{BigEndian, ByteOrder};
 use std::alloc::AllocError;
-
-/// A number in 2 bytes.
-#[tactic(auto, unfolding(crate::specs::Fields::number_bytes))]
-fn push_u16(out: &mut Vec<u8>, number: u16) -> Result<(), AllocError>
-    ensures { OnOk result (out.new.items ≡ out.old.items ++ number_bytes 2 number) }
-{
-    let mut field = [0; 2];
-    BigEndian::write_u16(&mut field, number);
-    out.extend_from_slice(&field)
-}
 
 /// A number in 4 bytes.
 #[tactic(auto, unfolding(crate::specs::Fields::number_bytes))]
@@ -59,6 +49,7 @@ pub fn push_length(out: &mut Vec<u8>, length: usize) -> Result<(), AllocError>
 }
 
 /// A number of labels or matchers, in 2 bytes.
+#[tactic(auto, unfolding(crate::specs::Fields::number_bytes))]
 pub fn push_few(out: &mut Vec<u8>, count: usize) -> Result<(), Failure<EncodeRefusal>>
     ensures bytes { OnOk result (out.new.items ≡ out.old.items ++ number_bytes 2 count) }
     ensures few { OnOk result (count < 2 ^ 16) }
@@ -67,7 +58,9 @@ pub fn push_few(out: &mut Vec<u8>, count: usize) -> Result<(), Failure<EncodeRef
     let Ok(count) = u16::try_from(count) else {
         return Err(Failure::Refused(EncodeRefusal::BadItem));
     };
-    push_u16(out, count)?;
+    let mut field = [0; 2];
+    BigEndian::write_u16(&mut field, count);
+    out.extend_from_slice(&field)?;
     Ok(())
 }
 
@@ -79,12 +72,4 @@ pub fn push_str(out: &mut Vec<u8>, text: &str) -> Result<(), AllocError>
 {
     push_length(out, text.len())?;
     out.extend_from_slice(text.as_bytes())
-}
-
-/// A text behind its length.
-pub fn push_text(out: &mut Vec<u8>, text: &Text) -> Result<(), AllocError>
-    ensures bytes { OnOk result (out.new.items ≡ out.old.items ++ text_bytes text.now) }
-    ensures valid { OnOk result (IsUtf8 text.now) }
-{
-    push_str(out, text.as_str())
 }

@@ -8,11 +8,9 @@ ghost use Rattle.am_wire.specs.ItemFields.{AreMatchers, IsAlert, IsEntry, IsItem
 ghost use Rattle.am_wire.specs.Refusals.{IsBadBy};
 ghost use Rattle.am_wire.specs.Values.{item_value, item_values, silence_value, thing_value};
 
-use crate::kinds::ThingKind;
+use crate::kinds::thing_number;
 use crate::refusal::EncodeRefusal;
-use crate::write_fields::{
-    push_few, push_length, push_moment, push_str, push_text, push_u32, push_u64,
-};
+use crate::write_fields::{push_few, push_length, push_moment, push_str, push_u32, push_u64};
 use crate::write_labels::{push_annotations, push_label_set, push_label_sets};
 use am_item::{Alert, Item, SentEntry, Silence, Stamp, Thing};
 use am_match::{Matcher, Operator};
@@ -20,23 +18,18 @@ use am_ring::Instance;
 use am_text::{Failure, Text};
 use std::alloc::AllocError;
 
-fn number_of(operator: Operator) -> u8
-    ensures { result ≡ operator_number operator }
-{
-    match operator {
-        Operator::Equal => 0,
-        Operator::NotEqual => 1,
-        Operator::Match => 2,
-        Operator::NotMatch => 3,
-    }
-}
-
 #[tactic(auto, unfolding(crate::specs::ItemFields::matcher_bytes))]
 fn push_matcher(out: &mut Vec<u8>, matcher: &Matcher) -> Result<(), AllocError>
     ensures bytes { OnOk result (out.new.items ≡ out.old.items ++ matcher_bytes matcher.now) }
     ensures valid { OnOk result (IsMatcher matcher.now) }
 {
-    out.push(number_of(matcher.operator()))?;
+    let number = match matcher.operator() {
+        Operator::Equal => 0,
+        Operator::NotEqual => 1,
+        Operator::Match => 2,
+        Operator::NotMatch => 3,
+    };
+    out.push(number)?;
     push_str(out, matcher.name())?;
     push_str(out, matcher.value())
 }
@@ -87,7 +80,7 @@ fn push_configuration(out: &mut Vec<u8>, text: &Option<Text>) -> Result<(), Allo
         None => out.push(0)?,
         Some(text) => {
             out.push(1)?;
-            push_text(out, text)?;
+            push_str(out, text.as_str())?;
         }
     }
     Ok(())
@@ -103,8 +96,8 @@ fn push_silence(out: &mut Vec<u8>, silence: &Silence) -> Result<(), Failure<Enco
     push_moment(out, silence.starts_at)?;
     push_moment(out, silence.ends_at)?;
     push_moment(out, silence.kept_until)?;
-    push_text(out, &silence.created_by)?;
-    push_text(out, &silence.comment)?;
+    push_str(out, silence.created_by.as_str())?;
+    push_str(out, silence.comment.as_str())?;
     push_matchers(out, silence.matchers.as_slice())?;
     Ok(())
 }
@@ -119,7 +112,7 @@ fn push_alert(out: &mut Vec<u8>, alert: &Alert) -> Result<(), Failure<EncodeRefu
     push_annotations(out, &alert.annotations)?;
     push_moment(out, alert.starts_at)?;
     push_moment(out, alert.ends_at)?;
-    push_text(out, &alert.generator_url)?;
+    push_str(out, alert.generator_url.as_str())?;
     Ok(())
 }
 
@@ -129,8 +122,8 @@ fn push_entry(out: &mut Vec<u8>, entry: &SentEntry) -> Result<(), Failure<Encode
     ensures valid { OnOk result (IsEntry entry.now) }
     ensures refused { IfErr result (IsBadBy (¬ IsEntry entry.now)) }
 {
-    push_text(out, &entry.receiver)?;
-    push_text(out, &entry.group)?;
+    push_str(out, entry.receiver.as_str())?;
+    push_str(out, entry.group.as_str())?;
     out.push(entry.webhook)?;
     push_moment(out, entry.ends_at)?;
     push_label_sets(out, &entry.firing)?;
@@ -158,7 +151,7 @@ fn push_item(out: &mut Vec<u8>, item: &Item) -> Result<(), Failure<EncodeRefusal
     ensures valid { OnOk result (IsItem (item_value item.now)) }
     ensures refused { IfErr result (IsBadBy (¬ IsItem (item_value item.now))) }
 {
-    out.push(ThingKind::of(&item.thing).number())?;
+    out.push(thing_number(&item.thing))?;
     push_stamp(out, &item.stamp)?;
     push_thing(out, &item.thing)?;
     Ok(())

@@ -6,7 +6,7 @@ ghost use Rattle.am_wire.specs.LabelFields.{AreSetFields, HasTexts, IsAnnotation
 ghost use Rattle.am_wire.specs.Refusals.{IsBadBy};
 
 use crate::refusal::EncodeRefusal;
-use crate::write_fields::{push_few, push_length, push_text};
+use crate::write_fields::{push_few, push_length, push_str};
 use am_item::LabelSets;
 use am_labels::{Annotations, Label, LabelSet};
 use am_text::Failure;
@@ -17,8 +17,8 @@ fn push_label(out: &mut Vec<u8>, label: &Label) -> Result<(), AllocError>
     ensures bytes { OnOk result (out.new.items ≡ out.old.items ++ label_bytes label.now) }
     ensures texts { OnOk result (HasTexts label.now) }
 {
-    push_text(out, &label.name)?;
-    push_text(out, &label.value)
+    push_str(out, label.name.as_str())?;
+    push_str(out, label.value.as_str())
 }
 
 fn push_several(out: &mut Vec<u8>, labels: &[Label]) -> Result<(), AllocError>
