@@ -104,11 +104,8 @@ fn are_due(
 ) -> Result<(), Fail> {
     let due = queue.due(alloc, at(now))?;
     let wanted = timers(alloc, wanted)?;
-    equal(
-        (due.as_slice(), queue.looked()),
-        (wanted.as_slice(), looked),
-        now,
-    )
+    holds(due.as_slice() == wanted.as_slice(), now)?;
+    equal(queue.looked(), looked, now)
 }
 
 // Timers in the order in which they fall due.

@@ -4,10 +4,10 @@ mod codes;
 mod greatest;
 mod told;
 
-use am_config::{Config, ConfigRefusal, Receiver, Route, Rule};
+use am_config::{Config, ConfigRefusal};
 use am_pattern::PatternCache;
 use am_text::Failure;
-use std::alloc::{AllocError, Global};
+use std::alloc::Global;
 
 type Read = Result<Config, Failure<ConfigRefusal>>;
 
@@ -45,21 +45,4 @@ fn code_of_text(alloc: Global, text: &str) -> &'static str {
 
 fn code_of_document(alloc: Global, document: &str) -> &'static str {
     code_of(read_document(alloc, document))
-}
-
-// Adds a text so many times.
-fn add_times(text: &mut String, part: &str, count: usize) -> Result<(), AllocError> {
-    for _ in 0..count {
-        text.push_str(part)?;
-    }
-    Ok(())
-}
-
-// Adds so many receivers, each with its number as name.
-fn add_numbered(alloc: Global, text: &mut String, count: usize) -> Result<(), AllocError> {
-    for number in 0..count {
-        let receiver = format!(in alloc; "{{\"name\":\"{number}\"}},")?;
-        text.push_str(receiver.as_str())?;
-    }
-    Ok(())
 }

@@ -1,4 +1,7 @@
+//! Texts of matchers, and the labels that matchers take.
+
 use crate::labels::label_set;
+use am_expect::{equal, holds};
 use am_labels::LabelSet;
 use am_match::{
     Matcher, MatcherRefusal, SpellRefusal, TakeRefusal, print_matchers, read_matchers,
@@ -42,121 +45,102 @@ a=~"(",b→M1"#;
 
 type Read = Result<Vec<Matcher>, Failure<MatcherRefusal>>;
 
-// The matchers as they are printed, or the code of the refusal.
-fn said(alloc: Global, read: Read) -> Result<String, AllocError> {
-    match read {
-        Ok(matchers) => Ok(print_matchers(alloc, &matchers)?.into_string()),
-        Err(failure) => format!(in alloc; "{failure}"),
-    }
-}
-
-// What is said of a text that is read.
-fn said_first(alloc: Global, text: &str) -> Result<String, AllocError> {
+fn read(alloc: Global, text: &str) -> Read {
     let mut cache = PatternCache::new(alloc, 1, [7; 16])?;
-    said(alloc, read_matchers(alloc, text, &mut cache))
+    read_matchers(alloc, text, &mut cache)
 }
 
-// What is said of a text that is read again: nothing is built.
-fn said_again(alloc: Global, text: &str) -> Result<String, AllocError> {
-    said(alloc, reread_matchers(alloc, text))
-}
-
-// Whether a text is read with what is expected, and read again with that or with something else.
-fn is_as_told(alloc: Global, line: &str) -> Result<bool, AllocError> {
-    let (text, expected) = line.split_once('→').unwrap_or((line, ""));
-    let (first, again) = expected.split_once('→').unwrap_or((expected, expected));
-    let said = said_first(alloc, text)?;
-    if said.as_str() != first {
-        return Ok(false);
+// What is read is printed so, or refused with this code.
+fn says(alloc: Global, read: Read, wanted: &str, text: &str) -> Result<(), Fail> {
+    match read {
+        Ok(matchers) => equal(print_matchers(alloc, &matchers)?.as_str(), wanted, text),
+        Err(Failure::Refused(refusal)) => equal(refusal.code(), wanted, text),
+        Err(Failure::OutOfMemory) => Err(Fail::new("out of memory")),
     }
-    let said = said_again(alloc, text)?;
-    Ok(said.as_str() == again)
+}
+
+fn line_says(alloc: Global, line: &str) -> Result<(), Fail> {
+    let (text, told) = line.split_once('→').unwrap_or((line, ""));
+    let (first, again) = told.split_once('→').unwrap_or((told, told));
+    says(alloc, read(alloc, text), first, text)?;
+    says(alloc, reread_matchers(alloc, text), again, text)
 }
 
 #[test]
 fn texts_are_read(rt: HostRuntime) -> Result<(), Fail> {
     for line in TEXTS.lines() {
-        assert!(rt; is_as_told(rt.alloc(), line)?, "{line}");
+        line_says(rt.alloc(), line)?;
     }
-    assert!(rt; is_as_told(rt.alloc(), "\ta=b→M1")?);
-    // A pattern that is too long comes after one that is none.
-    for (end, expected) in [("", "M3"), (",b=~\"(\"", "M2")] {
-        let text = with_many(rt.alloc(), "a=~", 'a', 257, end)?;
-        assert_eq!(rt; said_first(rt.alloc(), text.as_str())?.as_str(), expected);
-    }
-    Ok(())
+    line_says(rt.alloc(), "\ta=b→M1")
 }
 
-// A text with so many of a character within it.
-fn with_many(
-    alloc: Global,
-    before: &str,
-    c: char,
-    count: usize,
-    after: &str,
-) -> Result<String, AllocError> {
-    let mut text = String::from_str(alloc, before)?;
-    for _ in 0..count {
-        text.push(c)?;
-    }
-    text.push_str(after)?;
-    Ok(text)
+// A pattern that is too long comes after one that is none.
+#[test]
+fn long_patterns_are_refused(rt: HostRuntime) -> Result<(), Fail> {
+    let alone = format!(in rt.alloc(); "a=~{:a<257}→M3", "")?;
+    line_says(rt.alloc(), alone.as_str())?;
+    let before_none = format!(in rt.alloc(); "a=~{:a<257},b=~\"(\"→M2", "")?;
+    line_says(rt.alloc(), before_none.as_str())
 }
 
 #[test]
-fn refusals_print_their_codes(rt: HostRuntime) -> Result<(), Fail> {
-    let (long, short, bad) = (SpellRefusal::TooLong, TakeRefusal::Short, TakeRefusal::Bad);
-    let printed = format!(in rt.alloc(); "{long} {short} {bad}")?;
-    assert_eq!(rt; printed.as_str(), "Mb1 Mb2 Mb3");
-    Ok(())
+fn refusals_have_codes() -> Result<(), Fail> {
+    equal(SpellRefusal::TooLong.code(), "Mb1", "too long")?;
+    equal(TakeRefusal::Short.code(), "Mb2", "short")?;
+    equal(TakeRefusal::Bad.code(), "Mb3", "bad")
 }
 
-const ASKED: &str = "a=~\"a|b\",a=~\"(a.)?\",c=~\"(a.)?\",c!~\"a|b\",c=\"\",c!=\"\",a!~\"(a.)?\"";
+// Matchers, and whether each takes the label `a="ab"`.
+const ASKED: &[(&str, bool)] = &[
+    ("a=~\"a|b\"", false),
+    ("a=~\"(a.)?\"", true),
+    ("c=~\"(a.)?\"", true),
+    ("c!~\"a|b\"", true),
+    ("c=\"\"", true),
+    ("c!=\"\"", false),
+    ("a!~\"(a.)?\"", false),
+];
 
-// For each of the matchers whether it takes the labels.
-fn taken(
+fn takes(
     alloc: Global,
-    matchers: &[Matcher],
+    text: &str,
     labels: &LabelSet,
     cache: &mut PatternCache,
-) -> Result<String, Fail> {
-    let mut taken = String::new(alloc);
-    for matcher in matchers {
-        let is_taken = matcher.matches(alloc, labels, cache)?;
-        taken.push(if is_taken { 'y' } else { 'n' })?;
+) -> Result<bool, Fail> {
+    let matchers = read_matchers(alloc, text, cache)?;
+    match matchers.as_slice() {
+        [matcher] => Ok(matcher.matches(alloc, labels, cache)?),
+        _ => Err(Fail::new(text)),
     }
-    Ok(taken)
 }
 
-// Whether so many patterns of another tenant are refused, each for its depth.
-fn are_refused(alloc: Global, count: usize, cache: &mut PatternCache) -> Result<bool, AllocError> {
-    let deep = with_many(alloc, "", '+', 250, "")?;
-    let refused = Some(Failure::Refused(PatternRefusal::BadPattern));
-    for number in 0..count {
-        let pattern = format!(in alloc; "{number}{deep}")?;
-        if cache.answer(alloc, pattern.as_str(), "").err() != refused {
+// Whether many patterns are refused, each for its depth.
+fn are_refused(alloc: Global, cache: &mut PatternCache) -> Result<bool, AllocError> {
+    for number in 0..1000 {
+        if !is_refused(alloc, number, cache)? {
             return Ok(false);
         }
     }
     Ok(true)
 }
 
-// Which matchers take the label `a="ab"` where so many patterns were refused before.
-fn taken_after(alloc: Global, refused_before: usize) -> Result<String, Fail> {
-    let mut cache = PatternCache::new(alloc, 2, [7; 16])?;
-    if !are_refused(alloc, refused_before, &mut cache)? {
-        return Ok(String::new(alloc));
+// The pattern is the number and many plus signs, of which each nests a level deeper.
+fn is_refused(alloc: Global, number: usize, cache: &mut PatternCache) -> Result<bool, AllocError> {
+    let pattern = format!(in alloc; "{number:+<253}")?;
+    let refused = Some(Failure::Refused(PatternRefusal::BadPattern));
+    Ok(cache.answer(alloc, pattern.as_str(), "").err() == refused)
+}
+
+fn each_is_matched(alloc: Global, labels: &LabelSet, cache: &mut PatternCache) -> Result<(), Fail> {
+    for (text, wanted) in ASKED {
+        equal(takes(alloc, text, labels, cache)?, *wanted, *text)?;
     }
-    let labels = label_set(alloc, "a", "ab")?;
-    let matchers = read_matchers(alloc, ASKED, &mut cache)?;
-    taken(alloc, &matchers, &labels, &mut cache)
+    Ok(())
 }
 
 #[test]
-fn labels_are_matched(rt: HostRuntime) -> Result<(), Fail> {
-    for refused_before in [0, 1000] {
-        let taken = taken_after(rt.alloc(), refused_before)?;
-        assert_eq!(rt; taken.as_str(), "nyyyynn", "{refused_before}");
-    }
-    Ok(())
+fn labels_are_matched_after_many_refusals(rt: HostRuntime) -> Result<(), Fail> {
+    let mut cache = PatternCache::new(rt.alloc(), 2, [7; 16])?;
+    holds(are_refused(rt.alloc(), &mut cache)?, "many patterns")?;
+    each_is_matched(rt.alloc(), &label_set(rt.alloc(), "a", "ab")?, &mut cache)
 }

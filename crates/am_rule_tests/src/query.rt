@@ -1,95 +1,92 @@
 //! Queries, and what they ask.
 
-use crate::pattern::word;
+use am_expect::equal;
 use am_pattern::PatternCache;
 use am_query::{Query, QueryRefusal, read_filters, read_group_query, read_query};
 use am_text::{Failure, Text};
-use std::alloc::{AllocError, Global};
+use std::alloc::Global;
 use std::test::Fail;
 
-// What is asked by a query, the query, and what it says: the code of its refusal; or how many matchers its filters have,
-// and but for silences its receiver, and which alerts are asked for: active ones, silenced ones, inhibited ones.
-const ROWS: [(&str, &str, &str); 12] = [
-    ("alerts", "", "0 none true true true"),
+// How many matchers a query's filters have, its receiver, and which alerts are asked for: active ones, silenced ones,
+// inhibited ones; or the code of its refusal.
+type Told = Result<(usize, &'static str, bool, bool, bool), &'static str>;
+
+// What is asked by a query, the query, and what it says.
+const QUERIES: &[(&str, &str, Told)] = &[
+    ("alerts", "", Ok((0, "none", true, true, true))),
     (
         "alerts",
         "filter=a%3Db&filter=c%3Dd,e%3D",
-        "3 none true true true",
+        Ok((3, "none", true, true, true)),
     ),
     (
         "alerts",
         "active=false&silenced=true",
-        "0 none false true true",
+        Ok((0, "none", false, true, true)),
     ),
     (
         "alerts",
         "silenced=false&inhibited=false&inhibited=true",
-        "0 none true false true",
+        Ok((0, "none", true, false, true)),
     ),
     (
         "alerts",
         "inhibited=false&receiver=r&receiver=s+t&x=%FF&&=",
-        "0 s t true true false",
+        Ok((0, "s t", true, true, false)),
     ),
     // The first parameter that is refused decides.
-    ("alerts", "active=1&filter=%7B", "P1"),
-    ("alerts", "filter=%7B&active=1", "M1"),
-    ("alerts", "unprocessed=", "P1"),
-    ("alerts", "receiver=(&receiver=r", "M2"),
-    // Silences are asked for by filters alone; of groups `unprocessed` says nothing.
-    ("silences", "active=1&filter=a%3Db&receiver=(", "1"),
+    ("alerts", "active=1&filter=%7B", Err("P1")),
+    ("alerts", "filter=%7B&active=1", Err("M1")),
+    ("alerts", "unprocessed=", Err("P1")),
+    ("alerts", "receiver=(&receiver=r", Err("M2")),
+    // Of groups `unprocessed` says nothing.
     (
         "groups",
         "unprocessed=1&active=false",
-        "0 none false true true",
+        Ok((0, "none", false, true, true)),
     ),
-    ("groups", "unprocessed=1&active=2", "P1"),
+    ("groups", "unprocessed=1&active=2", Err("P1")),
 ];
 
-fn query_said(alloc: Global, query: &Query) -> Result<String, AllocError> {
-    let matchers = query.matchers.as_slice().len();
-    let receiver = query.receiver.as_ref().map_or("none", Text::as_str);
-    let (active, silenced) = (word(query.active), word(query.silenced));
-    let inhibited = word(query.inhibited);
-    format!(in alloc; "{matchers} {receiver} {active} {silenced} {inhibited}")
-}
-
-fn read_said(
-    alloc: Global,
-    read: Result<Query, Failure<QueryRefusal>>,
-) -> Result<String, AllocError> {
-    match read {
-        Ok(query) => query_said(alloc, &query),
-        Err(failure) => format!(in alloc; "{failure}"),
-    }
-}
-
-fn filters_said(alloc: Global, text: &str, cache: &mut PatternCache) -> Result<String, AllocError> {
-    match read_filters(alloc, text, cache) {
-        Ok(matchers) => format!(in alloc; "{}", matchers.len()),
-        Err(failure) => format!(in alloc; "{failure}"),
-    }
-}
-
-fn said(
+fn read(
     alloc: Global,
     asked: &str,
     text: &str,
     cache: &mut PatternCache,
-) -> Result<String, AllocError> {
+) -> Result<Query, Failure<QueryRefusal>> {
     match asked {
-        "silences" => filters_said(alloc, text, cache),
-        "groups" => read_said(alloc, read_group_query(alloc, text, cache)),
-        _ => read_said(alloc, read_query(alloc, text, cache)),
+        "groups" => read_group_query(alloc, text, cache),
+        _ => read_query(alloc, text, cache),
+    }
+}
+
+fn asks(read: Result<Query, Failure<QueryRefusal>>, wanted: Told, text: &str) -> Result<(), Fail> {
+    match read {
+        Ok(query) => {
+            let receiver = query.receiver.as_ref().map_or("none", Text::as_str);
+            let matchers = query.matchers.as_slice().len();
+            let (active, silenced) = (query.active, query.silenced);
+            let found = (matchers, receiver, active, silenced, query.inhibited);
+            equal(Ok(found), wanted, text)
+        }
+        Err(Failure::Refused(refusal)) => equal(Err(refusal.code()), wanted, text),
+        Err(Failure::OutOfMemory) => Err(Fail::new("out of memory")),
     }
 }
 
 #[test]
 fn queries_are_read(rt: HostRuntime) -> Result<(), Fail> {
     let mut cache = PatternCache::new(rt.alloc(), 1, [0; 16])?;
-    for (asked, text, expected) in ROWS {
-        let said = said(rt.alloc(), asked, text, &mut cache)?;
-        assert_eq!(rt; said.as_str(), expected, "{text}");
+    for (asked, text, wanted) in QUERIES {
+        asks(read(rt.alloc(), asked, text, &mut cache), *wanted, text)?;
     }
     Ok(())
+}
+
+// Silences are asked for by filters alone.
+#[test]
+fn filters_are_read(rt: HostRuntime) -> Result<(), Fail> {
+    let mut cache = PatternCache::new(rt.alloc(), 1, [0; 16])?;
+    let matchers = read_filters(rt.alloc(), "active=1&filter=a%3Db&receiver=(", &mut cache)?;
+    equal(matchers.len(), 1, "matchers")
 }

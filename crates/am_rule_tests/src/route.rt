@@ -1,9 +1,11 @@
+//! The routes of labels.
+
 use crate::labels::label_set;
 use am_config::Config;
-use am_labels::LabelSet;
+use am_expect::{equal, holds};
 use am_pattern::PatternCache;
-use am_route::routes_of;
-use std::alloc::{AllocError, Global};
+use am_route::{RouteId, routes_of};
+use std::alloc::Global;
 use std::test::Fail;
 
 // Routes one behind the other.
@@ -13,57 +15,62 @@ const SIBLINGS: &str = r#"{"route":{"receiver":"r0","routes":[
 ]},"receivers":[{"name":"r0"},{"name":"r1"},{"name":"r2"}]}"#;
 
 // Routes within one another, sixteen deep.
-fn nested(alloc: Global) -> Result<String, AllocError> {
-    let mut text = String::from_str(alloc, "{\"route\":{\"receiver\":\"r\"")?;
-    for _ in 1..16 {
-        text.push_str(",\"routes\":[{\"matchers\":[\"a=b\"]")?;
-    }
-    for _ in 1..16 {
-        text.push_str("}]")?;
-    }
-    text.push_str("},\"receivers\":[{\"name\":\"r\"}]}")?;
-    Ok(text)
-}
+const NESTED: &str = r#"{"receivers":[{"name":"r"}],"route":{"receiver":"r"
+,"routes":[{"matchers":["a=b"]
+,"routes":[{"matchers":["a=b"]
+,"routes":[{"matchers":["a=b"]
+,"routes":[{"matchers":["a=b"]
+,"routes":[{"matchers":["a=b"]
+,"routes":[{"matchers":["a=b"]
+,"routes":[{"matchers":["a=b"]
+,"routes":[{"matchers":["a=b"]
+,"routes":[{"matchers":["a=b"]
+,"routes":[{"matchers":["a=b"]
+,"routes":[{"matchers":["a=b"]
+,"routes":[{"matchers":["a=b"]
+,"routes":[{"matchers":["a=b"]
+,"routes":[{"matchers":["a=b"]
+,"routes":[{"matchers":["a=b"]
+}]}]}]}]}]}]}]}]}]}]}]}]}]}]}]}}"#;
 
-fn read(alloc: Global, text: &str, cache: &mut PatternCache) -> Result<Config, Fail> {
-    Ok(Config::read_text(alloc, text.as_bytes(), cache)?)
-}
+// A configuration and a label, how many routes it has there, and the numbers of the first and the last.
+type Row = (
+    &'static str,
+    &'static str,
+    &'static str,
+    usize,
+    usize,
+    usize,
+);
 
-// The numbers of the routes of these labels, each with a space behind it.
-fn numbers_of(
-    alloc: Global,
-    config: &Config,
-    labels: &LabelSet,
-    cache: &mut PatternCache,
-) -> Result<String, Fail> {
-    let mut numbers = String::new(alloc);
-    for route in &routes_of(alloc, config, labels, cache)? {
-        let number = format!(in alloc; "{} ", route.number())?;
-        numbers.push_str(number.as_str())?;
-    }
-    Ok(numbers)
-}
+const ROWS: &[Row] = &[
+    (SIBLINGS, "a", "b", 2, 1, 2),
+    (SIBLINGS, "a", "c", 1, 2, 2),
+    (SIBLINGS, "x", "y", 1, 0, 0),
+    (NESTED, "a", "b", 1, 15, 15),
+    (NESTED, "a", "c", 1, 0, 0),
+];
 
-// The numbers of the routes of one label in the configuration of this text.
-fn numbers(alloc: Global, text: &str, name: &str, value: &str) -> Result<String, Fail> {
+fn routes(alloc: Global, text: &str, name: &str, value: &str) -> Result<Vec<RouteId>, Fail> {
     let mut cache = PatternCache::new(alloc, 16, [0; 16])?;
-    let config = read(alloc, text, &mut cache)?;
+    let config = Config::read_text(alloc, text.as_bytes(), &mut cache)?;
     let labels = label_set(alloc, name, value)?;
-    numbers_of(alloc, &config, &labels, &mut cache)
+    Ok(routes_of(alloc, &config, &labels, &mut cache)?)
+}
+
+fn leads_to(alloc: Global, row: &Row) -> Result<(), Fail> {
+    let (text, name, value, len, first, last) = row;
+    let routes = routes(alloc, text, name, value)?;
+    let ends = (routes.first().copied(), routes.last().copied());
+    let wanted = (Some(RouteId::new(*first)), Some(RouteId::new(*last)));
+    holds(ends == wanted, *value)?;
+    equal(routes.len(), *len, *value)
 }
 
 #[test]
 fn routes_of_labels(rt: HostRuntime) -> Result<(), Fail> {
-    let nested = nested(rt.alloc())?;
-    for (text, name, value, expected) in [
-        (SIBLINGS, "a", "b", "1 2 "),
-        (SIBLINGS, "a", "c", "2 "),
-        (SIBLINGS, "x", "y", "0 "),
-        (nested.as_str(), "a", "b", "15 "),
-        (nested.as_str(), "a", "c", "0 "),
-    ] {
-        let numbers = numbers(rt.alloc(), text, name, value)?;
-        assert_eq!(rt; numbers.as_str(), expected, "{name}={value}");
+    for row in ROWS {
+        leads_to(rt.alloc(), row)?;
     }
     Ok(())
 }

@@ -1,52 +1,33 @@
 //! Texts and documents with the codes of their refusals.
 
 use super::*;
+use am_expect::equal;
+use std::alloc::AllocError;
 use std::test::Fail;
 
-// What stands before and after one part of a text that is right but for that part.
-type Frame = (&'static str, &'static str);
+// Texts that are right, with `@` where a part may stand.
+const TOP: &str = r#"{"route":{"receiver":"a"},"receivers":[{"name":"a"}],@}"#;
 
-const WHOLE: Frame = ("", "");
+const ROUTE: &str = r#"{"receivers":[{"name":"a"},{"name":"b"}],"route":{"receiver":"a",@}}"#;
 
-const TOP: Frame = (
-    r#"{"route":{"receiver":"a"},"receivers":[{"name":"a"}],"#,
-    "}",
-);
+const WITHIN: &str =
+    r#"{"receivers":[{"name":"a"},{"name":"b"}],"route":{"receiver":"a","routes":[{},{@}]}}"#;
 
-const ROUTE: Frame = (
-    r#"{"receivers":[{"name":"a"},{"name":"b"}],"route":{"receiver":"a","#,
-    "}}",
-);
+const RECEIVER: &str = r#"{"route":{"receiver":"a"},"receivers":[{"name":"a"},@]}"#;
 
-const WITHIN: Frame = (
-    r#"{"receivers":[{"name":"a"},{"name":"b"}],"route":{"receiver":"a","routes":[{},{"#,
-    "}]}}",
-);
+const WEBHOOK: &str =
+    r#"{"route":{"receiver":"a"},"receivers":[{"name":"a","webhook_configs":[@]}]}"#;
 
-const RECEIVER: Frame = (
-    r#"{"route":{"receiver":"a"},"receivers":[{"name":"a"},"#,
-    "]}",
-);
+const RULE: &str = r#"{"route":{"receiver":"a"},"receivers":[{"name":"a"}],"inhibit_rules":[@]}"#;
 
-const WEBHOOK: Frame = (
-    r#"{"route":{"receiver":"a"},"receivers":[{"name":"a","webhook_configs":["#,
-    "]}]}",
-);
+// A document around such a text.
+const DOCUMENT: &str =
+    r#"{"alertmanager_config":"{\"route\":{\"receiver\":\"a\"},\"receivers\":[{\"name\":\"a\"}]}"@}"#;
 
-const RULE: Frame = (
-    r#"{"route":{"receiver":"a"},"receivers":[{"name":"a"}],"inhibit_rules":["#,
-    "]}",
-);
-
-// A document around a text that is right.
-const DOCUMENT: Frame = (
-    r#"{"alertmanager_config":"{\"route\":{\"receiver\":\"a\"},\"receivers\":[{\"name\":\"a\"}]}""#,
-    "}",
-);
-
-// Each line has a frame, the code of the text or the document, and the part within the frame.
-const TABLE: &str = r##"# wrong in one way
-whole C1
+// Each line has a frame, the code of the text or the document, and the part within the frame: first those that are wrong
+// in one way, then texts that are wrong in two ways, where the first check that fails gives the code, then texts that are
+// right, and documents last.
+const TABLE: &str = r##"whole C1
 whole C1 {"route":{"receiver":"a"},"receivers":[{"name":"a"}]
 whole C1 route: {receiver: a}
 top C1 "timeout":1e999
@@ -126,7 +107,6 @@ webhook C9 {"url":"http://127.0.0.1:65536/"}
 webhook C9 {"url":"http://256.0.0.1/"}
 webhook C9 {"url":"http://example.com/"}
 webhook C9 {"url":"http://localhost/"},{"url":"http://127.0.0.1/#a"}
-# wrong in two ways: the first check that fails gives the code
 top C1 "x":1e999
 within C2 "x":1,"receiver":"c"
 within C2 "match":1,"x":1
@@ -138,7 +118,6 @@ route C5 "group_interval":"0","match":{}
 within C5 "matchers":["a"],"routes":[{"group_interval":"0"}]
 within C6 "matchers":["a"],"match":{}
 webhook C6 {"url":"","timeout":1}
-# right
 whole ok {"route":{"receiver":"default"},"receivers":[{"name":"default"}]}
 whole ok {"route":1,"route":{"receiver":""},"receivers":[{"name":""}]}
 top ok "templates":[],"template_files":{},"global":{}
@@ -151,7 +130,6 @@ receiver ok {"name":"A"},{"name":""}
 webhook ok {"url":"http://localhost"},{"url":"http://001.2.3.4:0080/a?b"}
 webhook ok {"url":"http://255.255.255.255:65535","max_alerts":18446744073709551615,"send_resolved":false}
 rule ok {},{"source_matchers":["a=b"],"target_matchers":["c!=d"],"equal":["zone"]}
-# documents
 posted C1
 posted C1 {"alertmanager_config":"{"}
 posted C1 {"alertmanager_config":"","x":1}
@@ -168,7 +146,7 @@ posted C7 {"alertmanager_config":"{\"route\":{\"receiver\":\"\",\"routes\":[{\"m
 document ok
 document ok ,"template_files":{}"##;
 
-fn frame_named(name: &str) -> Frame {
+fn frame(name: &str) -> &'static str {
     match name {
         "top" => TOP,
         "route" => ROUTE,
@@ -177,39 +155,34 @@ fn frame_named(name: &str) -> Frame {
         "webhook" => WEBHOOK,
         "rule" => RULE,
         "document" => DOCUMENT,
-        _ => WHOLE,
+        _ => "@",
     }
 }
 
 // A part within its frame.
 fn framed(alloc: Global, name: &str, part: &str) -> Result<String, AllocError> {
-    let (before, after) = frame_named(name);
+    let (before, after) = frame(name).split_once('@').unwrap_or(("", ""));
     format!(in alloc; "{before}{part}{after}")
 }
 
-// The code of a part within its frame.
-fn code_within(alloc: Global, name: &str, part: &str) -> Result<&'static str, AllocError> {
-    let text = framed(alloc, name, part)?;
-    if matches!(name, "posted" | "document") {
-        return Ok(code_of_document(alloc, text.as_str()));
+fn code(alloc: Global, name: &str, text: &str) -> &'static str {
+    match name {
+        "posted" | "document" => code_of_document(alloc, text),
+        _ => code_of_text(alloc, text),
     }
-    Ok(code_of_text(alloc, text.as_str()))
 }
 
-// Whether a line of the table has its code, or begins with `#`.
-fn is_as_told(alloc: Global, line: &str) -> Result<bool, AllocError> {
+fn has_code(alloc: Global, line: &str) -> Result<(), Fail> {
     let (name, rest) = line.split_once(' ').unwrap_or((line, ""));
-    let (code, part) = rest.split_once(' ').unwrap_or((rest, ""));
-    if name == "#" {
-        return Ok(true);
-    }
-    Ok(code_within(alloc, name, part)? == code)
+    let (wanted, part) = rest.split_once(' ').unwrap_or((rest, ""));
+    let text = framed(alloc, name, part)?;
+    equal(code(alloc, name, text.as_str()), wanted, line)
 }
 
 #[test]
 fn texts_and_documents(rt: HostRuntime) -> Result<(), Fail> {
     for line in TABLE.lines() {
-        assert!(rt; is_as_told(rt.alloc(), line)?, "{line}");
+        has_code(rt.alloc(), line)?;
     }
     Ok(())
 }

@@ -1,9 +1,28 @@
 //! Everything that a configuration tells.
 
 use super::*;
+use am_config::{Receiver, Rule, Webhook};
 use am_draft::Grouping;
-use am_text::{Node, Text};
+use am_expect::holds;
+use am_text::Text;
 use std::test::Fail;
+
+// How many names of labels there are, the first and the last.
+type Names<'a> = (usize, &'a str, &'a str);
+
+// All labels, as they are written.
+const ALL: Names = (1, "...", "...");
+
+// Of a route: how many routes are within it, the name of its receiver, the names that it groups by, its `group_wait`,
+// `group_interval` and `repeat_interval` in milliseconds, `continue`, and how many matchers it has.
+type RouteTold = (
+    usize,
+    &'static str,
+    Option<Names<'static>>,
+    [u64; 3],
+    bool,
+    usize,
+);
 
 const TREE: &str = r#"{
   "global": {"resolve_timeout": "7m"},
@@ -25,147 +44,147 @@ const TREE: &str = r#"{
   }
 }"#;
 
-// The timeout; of each route in order the routes within it, its receiver, the route whose `group_by` holds, its
-// durations in milliseconds, `continue`, and how many matchers it has; of each route its receiver's name and the labels
-// that it groups by; of each receiver its name and webhooks; and of each inhibit rule how many matchers take the source
-// and the target, and the names of labels.
-const TREE_TOLD: &str = "420000
-6 1 None 1000 300000 14400000 false 0
-2 2 Some(1) 1000 2000 14400000 true 0
-0 2 Some(1) 1000 2000 14400000 false 0
-0 0 Some(3) 1000 2000 3600000 false 0
-1 1 Some(4) 0 300000 14400000 false 0
-0 2 Some(4) 0 300000 14400000 false 3
-0 1 None 1000 300000 14400000 false 0
-r1 none
- b a
- b a
-r0
-r1 all
- all
-r1 none
-r0
-r1 http://localhost true 3 http://127.0.0.1:9/b false 0
-
-3 1 z y
-";
+const TREE_ROUTES: &[RouteTold] = &[
+    (6, "r1", None, [1000, 300_000, 14_400_000], false, 0),
+    (
+        2,
+        "",
+        Some((2, "b", "a")),
+        [1000, 2000, 14_400_000],
+        true,
+        0,
+    ),
+    (
+        0,
+        "",
+        Some((2, "b", "a")),
+        [1000, 2000, 14_400_000],
+        false,
+        0,
+    ),
+    (
+        0,
+        "r0",
+        Some((0, "", "")),
+        [1000, 2000, 3_600_000],
+        false,
+        0,
+    ),
+    (1, "r1", Some(ALL), [0, 300_000, 14_400_000], false, 0),
+    (0, "", Some(ALL), [0, 300_000, 14_400_000], false, 3),
+    (0, "r1", None, [1000, 300_000, 14_400_000], false, 0),
+];
 
 const DEFAULT: &str = r#"{"route":{"receiver":"default"},"receivers":[{"name":"default"}]}"#;
 
-const DEFAULT_TOLD: &str = "300000
-0 0 None 30000 300000 14400000 false 0
-default none
-default
-";
+const DEFAULT_ROUTES: &[RouteTold] = &[(
+    0,
+    "default",
+    None,
+    [30_000, 300_000, 14_400_000],
+    false,
+    0,
+)];
 
-fn add_routes(alloc: Global, told: &mut String, config: &Config) -> Result<(), AllocError> {
-    for node in config.routes() {
-        add_route(alloc, told, node)?;
-    }
-    Ok(())
+fn names_told(names: &[Text]) -> Names<'_> {
+    let first = names.first().map_or("", Text::as_str);
+    let last = names.last().map_or("", Text::as_str);
+    (names.len(), first, last)
 }
 
-fn add_route(alloc: Global, told: &mut String, node: &Node<Route>) -> Result<(), AllocError> {
+fn grouping_told(grouping: Option<&Grouping>) -> Option<Names<'_>> {
+    match grouping? {
+        Grouping::All => Some(ALL),
+        Grouping::Names(names) => Some(names_told(names.as_slice())),
+    }
+}
+
+fn is_route(config: &Config, number: usize, wanted: &RouteTold) -> bool {
+    let (within, receiver, names, spans, goes_on, matchers) = wanted;
+    let Some(node) = config.routes().get(number) else {
+        return false;
+    };
     let settings = node.item.settings;
-    let (within, receiver, grouping) = (node.within, settings.receiver, settings.grouping);
-    let (wait, interval) = (settings.group_wait, settings.group_interval);
-    let (repeat, goes_on) = (settings.repeat_interval, node.item.goes_on);
-    let matchers = node.item.matchers.as_slice().len();
-    let place = format!(in alloc; "{within} {receiver} {grouping:?}")?;
-    let spans = format!(in alloc; " {wait} {interval} {repeat} {goes_on} {matchers}\n")?;
-    told.push_str(place.as_str())?;
-    told.push_str(spans.as_str())
+    node.within == *within
+        && config.receiver_of(number).name.as_str() == *receiver
+        && grouping_told(config.grouping_of(number)) == *names
+        && [
+            settings.group_wait,
+            settings.group_interval,
+            settings.repeat_interval,
+        ] == *spans
+        && node.item.goes_on == *goes_on
+        && node.item.matchers.as_slice().len() == *matchers
 }
 
-fn add_names(told: &mut String, config: &Config) -> Result<(), AllocError> {
-    for number in 0..config.routes().len() {
-        told.push_str(config.receiver_of(number).name.as_str())?;
-        add_grouping(told, config.grouping_of(number))?;
+fn routes_are(config: &Config, wanted: &[RouteTold]) -> Result<(), Fail> {
+    for (number, route) in wanted.iter().enumerate() {
+        holds(is_route(config, number, route), number)?;
     }
-    Ok(())
+    holds(config.routes().len() == wanted.len(), "no more routes")
 }
 
-fn add_grouping(told: &mut String, grouping: Option<&Grouping>) -> Result<(), AllocError> {
-    match grouping {
-        None => told.push_str(" none\n"),
-        Some(Grouping::All) => told.push_str(" all\n"),
-        Some(Grouping::Names(names)) => add_texts(told, names.as_slice()),
-    }
+fn is_receiver(receiver: &Receiver, name: &str, webhooks: usize) -> bool {
+    receiver.name.as_str() == name && receiver.webhooks.as_slice().len() == webhooks
 }
 
-// Adds texts with a space before each, and the end of the line.
-fn add_texts(told: &mut String, texts: &[Text]) -> Result<(), AllocError> {
-    for text in texts {
-        told.push(' ')?;
-        told.push_str(text.as_str())?;
-    }
-    told.push('\n')
+fn is_webhook(webhook: &Webhook, url: &str, send_resolved: bool, max_alerts: u64) -> bool {
+    webhook.url.as_str() == url
+        && webhook.send_resolved == send_resolved
+        && webhook.max_alerts == max_alerts
 }
 
-fn add_receivers(alloc: Global, told: &mut String, config: &Config) -> Result<(), AllocError> {
-    for receiver in config.receivers() {
-        add_receiver(alloc, told, receiver)?;
-    }
-    Ok(())
+fn are_tree_receivers(receivers: &[Receiver]) -> bool {
+    let [first, second, third] = receivers else {
+        return false;
+    };
+    let [one, other] = second.webhooks.as_slice() else {
+        return false;
+    };
+    is_receiver(first, "r0", 0)
+        && is_receiver(second, "r1", 2)
+        && is_receiver(third, "", 0)
+        && is_webhook(one, "http://localhost", true, 3)
+        && is_webhook(other, "http://127.0.0.1:9/b", false, 0)
 }
 
-fn add_receiver(alloc: Global, told: &mut String, receiver: &Receiver) -> Result<(), AllocError> {
-    told.push_str(receiver.name.as_str())?;
-    for webhook in receiver.webhooks.as_slice() {
-        let (url, resolved) = (webhook.url.as_str(), webhook.send_resolved);
-        let most = webhook.max_alerts;
-        let line = format!(in alloc; " {url} {resolved} {most}")?;
-        told.push_str(line.as_str())?;
-    }
-    told.push('\n')
+fn are_tree_rules(rules: &[Rule]) -> bool {
+    let [rule] = rules else {
+        return false;
+    };
+    rule.source.as_slice().len() == 3
+        && rule.target.as_slice().len() == 1
+        && names_told(rule.equal.as_slice()) == (2, "z", "y")
 }
 
-fn add_rules(alloc: Global, told: &mut String, config: &Config) -> Result<(), AllocError> {
-    for rule in config.rules() {
-        let (source, target) = (rule.source.as_slice().len(), rule.target.as_slice().len());
-        let line = format!(in alloc; "{source} {target}")?;
-        told.push_str(line.as_str())?;
-        add_texts(told, rule.equal.as_slice())?;
-    }
-    Ok(())
+fn is_tree(config: &Config) -> Result<(), Fail> {
+    let is_head = config.text() == TREE && config.resolve_timeout() == 420_000;
+    holds(is_head, "the text and resolve_timeout")?;
+    routes_are(config, TREE_ROUTES)?;
+    holds(are_tree_receivers(config.receivers()), "receivers")?;
+    holds(are_tree_rules(config.rules()), "rules")
 }
 
-fn told(alloc: Global, config: &Config) -> Result<String, AllocError> {
-    let timeout = config.resolve_timeout();
-    let mut told = format!(in alloc; "{timeout}\n")?;
-    add_parts(alloc, &mut told, config)?;
-    Ok(told)
+#[test]
+fn a_tree_is_told(rt: HostRuntime) -> Result<(), Fail> {
+    is_tree(&read_text(rt.alloc(), TREE)?)?;
+    is_tree(&reread(rt.alloc(), TREE)?)
 }
 
-fn add_parts(alloc: Global, told: &mut String, config: &Config) -> Result<(), AllocError> {
-    add_routes(alloc, told, config)?;
-    add_names(told, config)?;
-    add_receivers(alloc, told, config)?;
-    add_rules(alloc, told, config)
-}
-
-// What a configuration tells that was read of this text.
-fn told_of(alloc: Global, text: &str, read: Read) -> Result<String, AllocError> {
-    match read {
-        Ok(config) if config.text() == text => told(alloc, &config),
-        _ => String::from_str(alloc, "no configuration of this text"),
+fn is_default(config: &Config) -> Result<(), Fail> {
+    let is_head = config.text() == DEFAULT && config.resolve_timeout() == 300_000;
+    holds(is_head, "the text and resolve_timeout")?;
+    routes_are(config, DEFAULT_ROUTES)?;
+    holds(config.rules().is_empty(), "no rules")?;
+    match config.receivers() {
+        [receiver] => holds(is_receiver(receiver, "default", 0), "the receiver"),
+        _ => Err(Fail::new("receivers")),
     }
 }
 
 #[test]
-fn everything_told(rt: HostRuntime) -> Result<(), Fail> {
-    let alloc = rt.alloc();
-    for (text, expected) in [(TREE, TREE_TOLD), (DEFAULT, DEFAULT_TOLD)] {
-        let first = told_of(alloc, text, read_text(alloc, text))?;
-        assert_eq!(rt; first.as_str(), expected);
-        let again = told_of(alloc, text, reread(alloc, text))?;
-        assert_eq!(rt; again.as_str(), expected);
-    }
-    let default = told_of(alloc, DEFAULT, default_read(alloc))?;
-    assert_eq!(rt; default.as_str(), DEFAULT_TOLD);
-    Ok(())
-}
-
-fn default_read(alloc: Global) -> Read {
-    Ok(Config::default_config(alloc)?)
+fn the_default_is_told(rt: HostRuntime) -> Result<(), Fail> {
+    is_default(&read_text(rt.alloc(), DEFAULT)?)?;
+    is_default(&reread(rt.alloc(), DEFAULT)?)?;
+    is_default(&Config::default_config(rt.alloc())?)
 }
