@@ -21,7 +21,6 @@ use std::collections::{BTreeMap, BTreeSet};
 use std::marker::Model;
 
 /// The items of all tenants: for each tenant the best of what was put, in the order of keys, but what retired.
-#[derive(Debug)]
 pub struct Book {
     tenants: BTreeMap<TenantName, Held>,
     rows: BTreeSet<Row>,

@@ -8,7 +8,7 @@ use am_text::Moment;
 use std::cmp::Ordering;
 
 // When the item of a tenant's key retires, and its stamp.
-#[derive(Debug, Drop)]
+#[derive(Drop)]
 pub struct Row {
     pub retires_at: Moment,
     pub stamp: Stamp,

@@ -6,7 +6,7 @@ use am_text::{Listed, Text};
 use am_url::WebhookUrl;
 
 /// What holds for a route: what it says itself, for the rest what the nearest route around it says, else the default.
-#[derive(Clone, Copy, Debug, PartialEq, Eq)]
+#[derive(Clone, Copy, PartialEq, Eq)]
 pub struct Settings {
     /// The place of its receiver in the configuration's list.
     pub receiver: usize,

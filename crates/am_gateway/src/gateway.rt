@@ -17,7 +17,7 @@ use am_world::{AttemptName, Event, LAST_MOMENT, World};
 use std::alloc::{AllocError, Global};
 
 /// A try that went out of the world, of which no outcome came yet.
-#[derive(Debug, Drop)]
+#[derive(Drop)]
 pub struct Try {
     /// The attempt.
     pub attempt: AttemptName,

@@ -4,7 +4,7 @@ use am_text::Text;
 /// A group of alerts, as it is listed.
 ///
 /// Groups are ordered by the names of their receivers, then by their labels, then by their routes.
-#[derive(Debug, PartialEq, Eq, PartialOrd, Ord, Drop)]
+#[derive(PartialEq, Eq, PartialOrd, Ord, Drop)]
 pub struct ListedGroup {
     /// The name of the receiver of its route.
     pub receiver: Text,

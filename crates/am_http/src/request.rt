@@ -7,7 +7,7 @@ use am_text::{Octets, Text};
 use std::marker::Model;
 
 /// The name of a connection.
-#[derive(Clone, Copy, Debug, PartialEq, Eq, PartialOrd, Ord)]
+#[derive(Clone, Copy, PartialEq, Eq, PartialOrd, Ord)]
 pub struct ConnectionId {
     number: u64,
 }
@@ -42,7 +42,7 @@ impl ConnectionId {
 }
 
 /// What a request does.
-#[derive(Clone, Copy, Debug, PartialEq, Eq)]
+#[derive(Clone, Copy, PartialEq, Eq)]
 pub enum Method {
     /// `GET`, it reads.
     Get,
@@ -53,7 +53,7 @@ pub enum Method {
 }
 
 /// What a request speaks of, by its path.
-#[derive(Debug, Drop)]
+#[derive(Drop)]
 pub enum Endpoint {
     /// `/alertmanager/api/v2/alerts`, by GET and POST: the alerts.
     Alerts,
@@ -70,7 +70,7 @@ pub enum Endpoint {
 }
 
 /// A whole request of a tenant.
-#[derive(Debug, Drop)]
+#[derive(Drop)]
 pub struct Request {
     /// The tenant that the header `X-Scope-OrgID` names.
     pub tenant: TenantName,
@@ -85,7 +85,7 @@ pub struct Request {
 }
 
 /// What a connection's bytes say so far.
-#[derive(Debug, Drop)]
+#[derive(Drop)]
 pub enum Fed {
     /// More bytes are needed.
     Waits,

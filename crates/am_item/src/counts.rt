@@ -11,7 +11,7 @@ use std::marker::Model;
 pub const GREATEST_COUNT: u64 = 1 << 62;
 
 /// How many stamp counts each tenant has used.
-#[derive(Debug, Drop)]
+#[derive(Drop)]
 pub struct Counts {
     used: BTreeMap<TenantName, u64>,
 }

@@ -7,7 +7,7 @@ use am_text::{Moment, Text};
 use std::cmp::Ordering;
 
 /// What names a sent entry: whom was told of what.
-#[derive(Debug, Drop)]
+#[derive(Drop)]
 pub struct EntryKey {
     /// The receiver's name.
     pub receiver: Text,
@@ -68,7 +68,7 @@ impl Ord for EntryKey {
 }
 
 /// What a webhook of a receiver was last told of a group.
-#[derive(Debug, Drop)]
+#[derive(Drop)]
 pub struct SentEntry {
     /// The receiver's name.
     pub receiver: Text,
@@ -86,7 +86,7 @@ pub struct SentEntry {
 }
 
 /// What a sent entry is beside its key.
-#[derive(Debug, Drop)]
+#[derive(Drop)]
 pub struct EntryDetails {
     /// Until when the entry is of use.
     pub ends_at: Moment,

@@ -25,7 +25,7 @@ use std::collections::btree_map::Entry;
 use std::marker::Model;
 
 /// The stamp of an item that is held, and from when on the item is retired.
-#[derive(Clone, Copy, Debug, PartialEq, Eq)]
+#[derive(Clone, Copy, PartialEq, Eq)]
 pub struct Standing {
     /// When and where it was written.
     pub stamp: Stamp,
@@ -34,7 +34,7 @@ pub struct Standing {
 }
 
 /// What a put did.
-#[derive(Clone, Copy, Debug)]
+#[derive(Clone, Copy)]
 pub enum Put {
     /// No item of its key was held: it is held now.
     New,
@@ -46,7 +46,6 @@ pub enum Put {
 
 /// What is held of one tenant: of each key the item with the greatest stamp, kind by kind, each kind in the
 /// order of its keys.
-#[derive(Debug)]
 pub struct Held {
     configuration: Option<Stamped<Option<Text>>>,
     silences: BTreeMap<SilenceId, Stamped<SilenceDetails>>,

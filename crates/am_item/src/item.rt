@@ -8,7 +8,7 @@ use am_text::{Moment, Text};
 
 /// What is stored of a tenant: a thing, and when and where it was written. Of two items of one key the one with
 /// the greater stamp stays.
-#[derive(Debug, Drop)]
+#[derive(Drop)]
 pub struct Item {
     /// When and where it was written.
     pub stamp: Stamp,
@@ -17,7 +17,7 @@ pub struct Item {
 }
 
 /// A thing that is stored. Its kind and what names it within the kind are its key.
-#[derive(Debug, Drop)]
+#[derive(Drop)]
 pub enum Thing {
     /// The tenant's configuration as it was posted; without a text it was deleted. A tenant has one.
     Configuration(Option<Text>),
@@ -30,7 +30,7 @@ pub enum Thing {
 }
 
 /// An alert as it was posted.
-#[derive(Debug, Drop)]
+#[derive(Drop)]
 pub struct Alert {
     /// What identifies the alert.
     pub labels: LabelSet,
@@ -45,7 +45,7 @@ pub struct Alert {
 }
 
 /// What an alert is beside its label set.
-#[derive(Debug, Drop)]
+#[derive(Drop)]
 pub struct AlertDetails {
     /// What is told of the alert beside its labels.
     pub annotations: Annotations,

@@ -10,7 +10,7 @@ use std::alloc::{AllocError, Global};
 use std::cmp::Ordering;
 
 /// What names an item within its tenant.
-#[derive(Debug, Drop)]
+#[derive(Drop)]
 pub enum ThingKey {
     /// Of the configuration, of which there is one.
     Configuration,

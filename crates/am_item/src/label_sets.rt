@@ -6,7 +6,6 @@ use am_labels::LabelSet;
 use std::marker::Model;
 
 /// Label sets in their order, each once.
-#[derive(Debug)]
 pub struct LabelSets {
     sets: Vec<LabelSet>,
 }

@@ -4,7 +4,6 @@ use am_match::Matcher;
 use std::marker::Model;
 
 /// The matchers of a silence, in their order.
-#[derive(Debug)]
 pub struct Matchers {
     items: Vec<Matcher>,
 }

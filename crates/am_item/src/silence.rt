@@ -9,7 +9,7 @@ use std::cmp::Ordering;
 use std::marker::Model;
 
 /// The identifier of a silence: 16 bytes.
-#[derive(Clone, Copy, Debug)]
+#[derive(Clone, Copy)]
 pub struct SilenceId {
     bytes: [u8; 16],
 }
@@ -80,7 +80,7 @@ impl Ord for SilenceId {
 }
 
 /// A silence: from its start until before its end it mutes the alerts that all its matchers take.
-#[derive(Debug, Drop)]
+#[derive(Drop)]
 pub struct Silence {
     /// What identifies the silence.
     pub id: SilenceId,
@@ -100,7 +100,7 @@ pub struct Silence {
 }
 
 /// What a silence is beside its identifier.
-#[derive(Debug, Drop)]
+#[derive(Drop)]
 pub struct SilenceDetails {
     /// Since when it mutes.
     pub starts_at: Moment,

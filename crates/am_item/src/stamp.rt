@@ -5,7 +5,7 @@ use am_text::Moment;
 
 /// When and where an item was written. Stamps are ordered by moment, then instance, then incarnation, then
 /// count.
-#[derive(Clone, Copy, Debug, PartialEq, Eq, PartialOrd, Ord)]
+#[derive(Clone, Copy, PartialEq, Eq, PartialOrd, Ord)]
 pub struct Stamp {
     /// The moment of the write.
     pub moment: Moment,
@@ -30,7 +30,7 @@ impl Stamp {
 }
 
 /// A value with the stamp of its write.
-#[derive(Debug, Drop)]
+#[derive(Drop)]
 pub struct Stamped<V> {
     /// When and where it was written.
     pub stamp: Stamp,

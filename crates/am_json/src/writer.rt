@@ -8,7 +8,7 @@ ghost use Rattle.serde_json.specs.Written.{compact_text};
 ghost use Rattle.am_text.specs.Printing.{moment_text};
 ghost use Rattle.am_labels.specs.Hashes.{fingerprint, fingerprint_text};
 ghost use Rattle.am_labels.specs.Labels.{name_cmp};
-ghost use Rattle.am_json.specs.Written.{data_tokens, member_tokens, labels_data, texts_data};
+ghost use Rattle.am_json.specs.Written.{data_tokens, member_tokens, labels_data};
 
 use am_labels::{Annotations, Label, LabelSet, print_fingerprint};
 use am_text::{Moment, Octets, Text, print_moment};
@@ -167,17 +167,5 @@ impl JsonWriter {
             self.text_member(pair.name.as_str(), &pair.value)?;
         }
         self.end_object()
-    }
-
-    /// A member whose value is a list of texts.
-    pub fn texts_member(&mut self, name: &str, texts: &[Text]) -> Result<(), AllocError>
-        ensures { OnOk result (self.new ≡ self.old ++ member_tokens name.now (texts_data texts.now)) }
-    {
-        self.key(name)?;
-        self.begin_array()?;
-        for text in texts {
-            self.string(text.as_str())?;
-        }
-        self.end_array()
     }
 }

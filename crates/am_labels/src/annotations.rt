@@ -10,7 +10,6 @@ use std::alloc::{AllocError, Global};
 use std::marker::Model;
 
 /// A finite map from label names to texts, which may be empty: its pairs in order of name.
-#[derive(Debug)]
 pub struct Annotations {
     labels: Vec<Label>,
 }

@@ -16,13 +16,12 @@ use std::rc::Rc;
 /// A finite map from label names to values that aren't empty: its labels in order of name.
 ///
 /// Label sets are ordered by their lists of labels.
-#[derive(Debug)]
 pub struct LabelSet {
     parts: Rc<Parts>,
 }
 
 // The labels, and the text that stands for them in comparisons: one text compares faster than many.
-#[derive(Debug, Drop)]
+#[derive(Drop)]
 struct Parts {
     labels: Vec<Label>,
     flat: Option<Text>,

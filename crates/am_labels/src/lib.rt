@@ -21,7 +21,7 @@ use std::error::Error;
 use std::fmt;
 
 /// A name and its value. Labels are ordered by name, then by value, each by bytes.
-#[derive(Debug, PartialEq, Eq, PartialOrd, Ord, Drop)]
+#[derive(PartialEq, Eq, PartialOrd, Ord, Drop)]
 pub struct Label {
     /// The name.
     pub name: Text,

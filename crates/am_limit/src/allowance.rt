@@ -12,7 +12,7 @@ const MINUTE: u64 = 60_000;
 /// It holds the last minute alone, so it counts right for a clock that does not go back: then it gives in
 /// each minute as many notices as its limit says, and what it holds is the count of those that it gave
 /// ([`laws`](crate::laws)). A moment in an earlier minute than the last begins a new count.
-#[derive(Clone, Copy, Debug)]
+#[derive(Clone, Copy)]
 pub struct Allowance {
     limit: u64,
     minute: u64,

@@ -12,7 +12,6 @@ use std::marker::Model;
 
 /// How many notices one instance may still send to each tenant in a minute of the clock. What one tenant uses is nothing to
 /// the others.
-#[derive(Debug)]
 pub struct Allowances {
     own: BTreeMap<TenantName, Allowance>,
 }

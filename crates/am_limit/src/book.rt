@@ -9,7 +9,6 @@ use std::collections::BTreeMap;
 use std::marker::Model;
 
 /// The limits of all tenants: those that were set last, and the default ones of a tenant for which none were.
-#[derive(Debug)]
 pub struct LimitBook {
     limits: BTreeMap<TenantName, Limits>,
 }

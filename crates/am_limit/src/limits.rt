@@ -1,5 +1,5 @@
 /// How much a tenant may have. Each number is the greatest that is still accepted.
-#[derive(Clone, Copy, Debug, PartialEq, Eq)]
+#[derive(Clone, Copy, PartialEq, Eq)]
 pub struct Limits {
     /// Alerts that are held, resolved ones too.
     pub alerts: u64,

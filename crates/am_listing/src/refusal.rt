@@ -1,7 +1,7 @@
 //! Why alerts aren't listed.
 
 /// Whose pattern gave no answer, so that no alert is listed.
-#[derive(Clone, Copy, Debug, PartialEq, Eq)]
+#[derive(Clone, Copy, PartialEq, Eq)]
 pub enum Unanswered {
     /// One of the query.
     Asked,

@@ -16,7 +16,7 @@ use std::alloc::{AllocError, Global};
 use std::marker::Model;
 
 /// How a matcher compares the value of a label.
-#[derive(Clone, Copy, PartialEq, Eq, Debug)]
+#[derive(Clone, Copy, PartialEq, Eq)]
 pub enum Operator {
     /// `=`: equal to the value.
     Equal,
@@ -38,7 +38,7 @@ impl Operator {
 }
 
 /// A condition on one label: its name, an operator and a value.
-#[derive(PartialEq, Eq, Debug)]
+#[derive(PartialEq, Eq)]
 pub struct Matcher {
     operator: Operator,
     name: Text,

@@ -7,7 +7,7 @@ use std::alloc::{AllocError, Global};
 /// The name of a group of alerts: a route, and the labels that the route groups its members by.
 ///
 /// Groups are ordered by their routes, then by their labels.
-#[derive(Debug, PartialEq, Eq, PartialOrd, Ord, Drop)]
+#[derive(PartialEq, Eq, PartialOrd, Ord, Drop)]
 pub struct Group {
     /// The number of the route.
     pub route: usize,

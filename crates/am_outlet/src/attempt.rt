@@ -5,7 +5,7 @@ use am_url::WebhookUrl;
 use std::alloc::{AllocError, Global};
 
 /// What a webhook is to be told of a group, and what is recorded once it was told.
-#[derive(Debug, Drop)]
+#[derive(Drop)]
 pub struct Notice {
     /// Who is told of what.
     pub key: EntryKey,
@@ -22,7 +22,7 @@ pub struct Notice {
 }
 
 /// A notice that no answer has settled yet.
-#[derive(Debug, Drop)]
+#[derive(Drop)]
 pub struct Attempt {
     /// What is told.
     pub notice: Notice,
@@ -33,7 +33,7 @@ pub struct Attempt {
 }
 
 /// A try of an attempt, which goes out.
-#[derive(Debug, Drop)]
+#[derive(Drop)]
 pub struct Sending {
     /// The number of the attempt, one more than that of the tenant's attempt before it, from 1 on.
     pub number: u64,

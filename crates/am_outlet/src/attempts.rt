@@ -21,7 +21,6 @@ use std::marker::Model;
 
 /// The open attempts of all tenants on one instance. Each tenant's attempts are numbered from 1 on, whatever the other
 /// tenants' are, and no number is used again.
-#[derive(Debug)]
 pub struct Attempts {
     desks: BTreeMap<TenantName, Desk>,
 }

@@ -15,7 +15,7 @@ use std::collections::BTreeMap;
 use std::marker::Model;
 
 /// A tenant's open attempts, and how many it has had.
-#[derive(Debug, Drop)]
+#[derive(Drop)]
 pub struct Desk {
     used: u64,
     attempts: BTreeMap<u64, Attempt>,

@@ -8,7 +8,7 @@ use am_text::Moment;
 const WAITS: [u64; 4] = [10_000, 20_000, 40_000, 80_000];
 
 /// What the outcome of a try made of its attempt.
-#[derive(Debug, Drop)]
+#[derive(Drop)]
 pub enum Outcome {
     /// No outcome of that try is awaited. Nothing changed.
     NotOpen,

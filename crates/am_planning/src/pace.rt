@@ -1,7 +1,7 @@
 use am_text::Text;
 
 /// Whom the groups of a route tell, and how long they wait.
-#[derive(Debug, Drop)]
+#[derive(Drop)]
 pub struct Pace {
     /// The name of the route's receiver.
     pub receiver: Text,

@@ -10,7 +10,7 @@ use serde_json::Value;
 use std::alloc::{AllocError, Global};
 
 /// A try that went out, of which no outcome came yet.
-#[derive(Debug, Drop)]
+#[derive(Drop)]
 pub struct Try {
     /// Of which attempt it is.
     pub attempt: AttemptName,

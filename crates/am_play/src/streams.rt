@@ -10,7 +10,7 @@ use std::io;
 use std::io::ErrorKind;
 
 /// Why a scenario, or a call of one of its streams, ended early.
-#[derive(Debug, Drop)]
+#[derive(Drop)]
 pub enum StreamFailure {
     /// Memory ran out.
     OutOfMemory,

@@ -2,7 +2,7 @@ use am_outlet::Sending;
 use am_tenant::TenantName;
 
 /// A try that goes out.
-#[derive(Debug, Drop)]
+#[derive(Drop)]
 pub struct Dispatch {
     /// Whose it is.
     pub tenant: TenantName,

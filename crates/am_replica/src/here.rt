@@ -2,7 +2,7 @@ use am_limit::Limits;
 use am_text::Moment;
 
 /// What an instance goes by where something happens to a tenant.
-#[derive(Clone, Copy, Debug)]
+#[derive(Clone, Copy)]
 pub struct Here {
     /// The number of the instance, 1 to 8.
     pub instance: u8,

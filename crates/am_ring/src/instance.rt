@@ -4,7 +4,7 @@ ghost use Rattle.am_ring.specs.Instances.{is_instance};
 use std::marker::Model;
 
 /// The number of an instance, 1 to 8.
-#[derive(Clone, Copy, Debug, PartialEq, Eq, PartialOrd, Ord, Hash)]
+#[derive(Clone, Copy, PartialEq, Eq, PartialOrd, Ord)]
 pub struct Instance {
     number: u8,
 }

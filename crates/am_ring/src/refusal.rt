@@ -2,7 +2,7 @@ use std::error::Error;
 use std::fmt;
 
 /// Why an instance can't join or leave a ring.
-#[derive(Clone, Copy, Debug, PartialEq, Eq, Hash)]
+#[derive(Clone, Copy, Debug, PartialEq, Eq)]
 pub enum RingRefusal {
     /// All eight instances are in the ring already.
     Full,

@@ -12,7 +12,7 @@ use am_tenant::TenantName;
 use std::marker::Model;
 
 /// The instances that serve: 3 to 8 of them.
-#[derive(Clone, Copy, Debug, PartialEq, Eq)]
+#[derive(Clone, Copy, PartialEq, Eq)]
 pub struct Ring {
     epoch: u64,
     // whether instance 1, 2, .. is in the ring

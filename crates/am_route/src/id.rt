@@ -4,7 +4,7 @@ use std::marker::Model;
 
 /// The number of a route in its configuration: its place in the list that has each route before those
 /// within it. The root's is 0.
-#[derive(Clone, Copy, Debug, PartialEq, Eq, PartialOrd, Ord, Hash)]
+#[derive(Clone, Copy, PartialEq, Eq, PartialOrd, Ord)]
 pub struct RouteId {
     number: usize,
 }

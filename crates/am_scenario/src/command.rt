@@ -7,7 +7,7 @@ use am_text::Text;
 use std::alloc::{AllocError, Global};
 
 /// What one line of a scenario asks for.
-#[derive(Debug, Drop)]
+#[derive(Drop)]
 pub enum Command {
     /// An empty line or a comment.
     Skip,
@@ -43,7 +43,7 @@ pub enum Command {
 }
 
 /// The request of a `call` line.
-#[derive(Debug, Drop)]
+#[derive(Drop)]
 pub struct Request {
     pub tenant: Option<Text>,
     pub method: Text,

@@ -13,7 +13,7 @@ use std::time::Instant;
 const CALL_SECONDS: u64 = 5;
 
 // What a call's turn came to.
-#[derive(Clone, Copy, Debug, PartialEq, Eq)]
+#[derive(Clone, Copy, PartialEq, Eq)]
 pub enum Step {
     // It may go on at once.
     More,

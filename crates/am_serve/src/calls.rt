@@ -12,7 +12,7 @@ use std::alloc::{AllocError, Global};
 use std::time::Instant;
 
 /// What a call's turn came to.
-#[derive(Debug, Drop)]
+#[derive(Drop)]
 pub enum Progress<N> {
     /// The call is kept, and may go on at once: all steps of the turn were made. It is to be given another turn.
     More,

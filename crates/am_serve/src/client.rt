@@ -19,7 +19,7 @@ const WHOLE_SECONDS: u64 = 40;
 const STATUS_INDEX: usize = 9;
 
 /// What a client's turn came to.
-#[derive(Clone, Copy, Debug, PartialEq, Eq)]
+#[derive(Clone, Copy, PartialEq, Eq)]
 pub enum Turn {
     /// The client is kept, and may go on at once: all steps of the turn were made. It is to be given another turn.
     More,

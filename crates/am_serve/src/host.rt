@@ -3,7 +3,7 @@ ghost use Rattle.std.specs.Prelude.{ℕ, List, Bool, ⊤};
 ghost use Rattle.am_serve.specs.declared.host.Verdict.{Verdict};
 
 /// What became of a piece of a request.
-#[derive(Debug, Drop)]
+#[derive(Drop)]
 pub enum Verdict {
     /// The request isn't whole yet.
     Undecided,

@@ -12,7 +12,7 @@ pub const PIECE_BYTES: usize = 4_096;
 pub const STEPS: u32 = 16;
 
 /// What came of a read or a write that never waits.
-#[derive(Clone, Copy, Debug, PartialEq, Eq)]
+#[derive(Clone, Copy, PartialEq, Eq)]
 pub enum Moved {
     /// So many bytes were moved, at least one.
     Bytes(usize),

@@ -5,7 +5,7 @@ use am_text::{Octets, Text};
 use std::alloc::AllocError;
 
 /// A notice whose call wasn't begun yet.
-#[derive(Debug, Drop)]
+#[derive(Drop)]
 pub struct Notice<N: Drop> {
     /// What the service knows the call by.
     pub name: N,

@@ -4,7 +4,7 @@ ghost use Rattle.am_silence.specs.Silences.{has_expired, is_active, state_at};
 use am_text::Moment;
 
 /// What a silence is at a moment.
-#[derive(Clone, Copy, Debug, PartialEq, Eq)]
+#[derive(Clone, Copy, PartialEq, Eq)]
 pub enum SilenceState {
     /// It has not started.
     Pending,

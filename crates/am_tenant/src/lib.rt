@@ -153,12 +153,6 @@ impl Ord for TenantName {
     }
 }
 
-impl fmt::Debug for TenantName {
-    fn fmt<W: fmt::Write>(&self, f: &mut fmt::Formatter<W>) -> fmt::Result {
-        fmt::Debug::fmt(&self.as_str(), f)
-    }
-}
-
 // The first refusal that a name meets.
 #[tactic(auto, unfolding(crate::specs::Names::name_refusal))]
 fn refusal_of(name: &[u8]) -> Option<NameRefusal>

@@ -5,7 +5,7 @@ ghost use Rattle.am_text.specs.Moment.{greatest_moment};
 use std::marker::Model;
 
 /// A moment in milliseconds since 1970-01-01T00:00:00Z, at most 9999-12-31T23:59:59.999Z.
-#[derive(Clone, Copy, Debug, PartialEq, Eq, PartialOrd, Ord, Hash)]
+#[derive(Clone, Copy, PartialEq, Eq, PartialOrd, Ord)]
 pub struct Moment {
     milliseconds: u64,
 }

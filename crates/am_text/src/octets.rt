@@ -8,7 +8,7 @@ use std::cmp::Ordering;
 use std::marker::Model;
 
 /// Bytes that are owned and may be no text. A clause sees the list of them.
-#[derive(Debug, Drop)]
+#[derive(Drop)]
 pub struct Octets {
     bytes: Vec<u8>,
 }

@@ -8,7 +8,6 @@ use std::cmp::Ordering;
 use std::marker::Model;
 
 /// A text that is owned. A clause sees its UTF-8 bytes.
-#[derive(Debug)]
 pub struct Text {
     string: String,
 }
@@ -35,14 +34,6 @@ impl Text {
         ensures { result ≡ string_bytes string }
     {
         Text { string }
-    }
-
-    /// The `String` itself, which is not copied.
-    pub fn into_string(self) -> String
-        ensures { string_bytes result ≡ self }
-    {
-        let Text { string } = self;
-        string
     }
 
     /// A copy of a text that is borrowed.

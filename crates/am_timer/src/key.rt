@@ -8,7 +8,7 @@ use std::alloc::{AllocError, Global};
 use std::cmp::Ordering;
 
 /// What names the flush of a group of alerts within its tenant. Flushes are ordered by receiver, then labels, then route.
-#[derive(Debug, PartialEq, Eq, PartialOrd, Ord, Drop)]
+#[derive(PartialEq, Eq, PartialOrd, Ord, Drop)]
 pub struct FlushKey {
     /// The name of the receiver of the group's route.
     pub receiver: Text,
@@ -32,7 +32,7 @@ impl FlushKey {
 }
 
 /// What a timer is for. Of each a tenant has one timer at most.
-#[derive(Debug, Drop)]
+#[derive(Drop)]
 pub enum TimerKey {
     /// The deadline of the operation with this number.
     Operation(u64),

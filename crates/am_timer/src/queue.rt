@@ -16,7 +16,6 @@ use std::collections::{BTreeMap, BTreeSet};
 use std::marker::Model;
 
 /// The timers of all tenants, of which each name has one at most.
-#[derive(Debug)]
 pub struct TimerQueue {
     by_due: BTreeSet<Timer>,
     dues: BTreeMap<TimerName, Moment>,

@@ -6,7 +6,7 @@ use am_text::Moment;
 use std::alloc::{AllocError, Global};
 
 /// What names a timer: whose it is, and what it is for. Names are ordered by tenant, then key.
-#[derive(Debug, PartialEq, Eq, PartialOrd, Ord, Drop)]
+#[derive(PartialEq, Eq, PartialOrd, Ord, Drop)]
 pub struct TimerName {
     /// Whose it is.
     pub tenant: TenantName,
@@ -27,7 +27,7 @@ impl TimerName {
 }
 
 /// A moment at which something is to be done. Timers are ordered by that moment, then by name.
-#[derive(Debug, PartialEq, Eq, PartialOrd, Ord, Drop)]
+#[derive(PartialEq, Eq, PartialOrd, Ord, Drop)]
 pub struct Timer {
     /// When it is due.
     pub due: Moment,

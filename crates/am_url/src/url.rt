@@ -11,7 +11,7 @@ use std::marker::Model;
 
 /// The URL of a webhook: `http://`, then `localhost` or four numbers from 0 to 255 with dots between, perhaps `:` and
 /// a port from 1 to 65535 (without one it is 80), then nothing, or `/` and visible ASCII without `#`.
-#[derive(PartialEq, Eq, Debug)]
+#[derive(PartialEq, Eq)]
 pub struct WebhookUrl {
     text: Text,
     host: Text,

@@ -55,7 +55,7 @@ impl Place {
 }
 
 /// How far the words of each tenant are used.
-#[derive(Debug, Drop)]
+#[derive(Drop)]
 pub struct Places {
     used: BTreeMap<TenantName, Place>,
 }
