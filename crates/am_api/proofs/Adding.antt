@@ -83,7 +83,7 @@ text_adds None old new matcher.BuildRefused found = absurd found
 text_adds (Some ms) old new refusal found = patterns_add (patterns_of ms) old new refusal found
 
 -- among the texts of an element of a list
-among_all : {A : Type 0} (texts : A → List (List ℕ)) (front : List A) (x : A) (back xs : List A) → xs ≡ front ++ x ∷ back →
+pub among_all : {A : Type 0} (texts : A → List (List ℕ)) (front : List A) (x : A) (back xs : List A) → xs ≡ front ++ x ∷ back →
     (text : List ℕ) → Contains (texts x) text → Contains (flat_map texts xs) text
 among_all texts front x back xs order text there =
     rw (order, flat_map-append texts front (x ∷ back))

@@ -1,5 +1,5 @@
 -- Patterns whose build was refused, and what that lets a call return.
-use Rattle.std.proofs.Common.{◌≡◌, ℕ, List, All, Result, Ok, Err, sym, subst, inl, inr, arith}
+use Rattle.std.proofs.Common.{◌≡◌, ◌∙◌, ℕ, List, All, Result, Ok, Err, sym, subst, inl, inr, arith}
 use Rattle.rand_chacha.specs.ChaCha.{ChaCha}
 use Rattle.std.proofs.lemmas.List.Elements.{All-nil}
 use Rattle.am_pattern.specs.Cache.{Cache}
@@ -18,7 +18,7 @@ use Rattle.am_item.specs.declared.item.Item.{Item}
 use Rattle.am_alert.specs.declared.maker.Maker.{Maker}
 use Rattle.am_current.specs.Current.{configuration_in}
 use Rattle.am_query.specs.Patterns.{Among}
-use Rattle.am_query.proofs.Builds.{never_both, refused_among}
+use Rattle.am_query.proofs.Builds.{never_both}
 use Rattle.am_muting.proofs.Failures.{unanswered_later}
 use Rattle.am_listing.proofs.Failures.{refused_pattern}
 use Rattle.am_api.specs.declared.decision.Decided.{Decided}
@@ -29,32 +29,32 @@ use Rattle.am_api.specs.Refusing.{Refuses, RefusesBy, asked_by, asked_by_method,
 use Rattle.am_api.specs.Replied.{Decision}
 
 -- a decision where no pattern is asked
-pub decides_unless : (Refuses : Decision → Type 0) (refused own stored : List (List ℕ)) (result : Result Decided Fault) (decision : Decision) →
-    Decides result decision → DecidesBy Refuses refused own stored result decision
-decides_unless Refuses refused own stored (Ok d) decision is = inl is
-decides_unless Refuses refused own stored (Err CountsExhausted) decision is = is
-decides_unless Refuses refused own stored (Err OutOfMemory) decision is = tt
-decides_unless Refuses refused own stored (Err PatternNotBuilt) decision is = absurd is
+pub decides_unless : (Refuses : Decision → Type 0) (had refused own stored : List (List ℕ)) (result : Result Decided Fault) (decision : Decision) →
+    refused ≡ had → Decides result decision → DecidesBy Refuses had refused own stored result decision
+decides_unless Refuses had refused own stored (Ok d) decision same is = inl (is, same)
+decides_unless Refuses had refused own stored (Err CountsExhausted) decision same is = is
+decides_unless Refuses had refused own stored (Err OutOfMemory) decision same is = tt
+decides_unless Refuses had refused own stored (Err PatternNotBuilt) decision same is = absurd is
 
--- where a pattern may be refused in more ways
-pub decides_weaker : (Refuses Others : Decision → Type 0) (refused own stored : List (List ℕ)) (result : Result Decided Fault) (decision : Decision) →
-    ((d : Decision) → Refuses d → Others d) → DecidesBy Refuses refused own stored result decision →
-    DecidesBy Others refused own stored result decision
-decides_weaker Refuses Others refused own stored (Ok d) decision more (inl is) = inl is
-decides_weaker Refuses Others refused own stored (Ok d) decision more (inr found) = inr (more _ found.0, found.1)
-decides_weaker Refuses Others refused own stored (Err CountsExhausted) decision more is = is
-decides_weaker Refuses Others refused own stored (Err OutOfMemory) decision more is = tt
-decides_weaker Refuses Others refused own stored (Err PatternNotBuilt) decision more found = found
+-- where a pattern may be refused in more ways, and no text was refused before
+pub decides_weaker : (Refuses Others : Decision → Type 0) (had since refused own stored : List (List ℕ)) (result : Result Decided Fault) (decision : Decision) →
+    since ≡ had → ((d : Decision) → Refuses d → Others d) → DecidesBy Refuses since refused own stored result decision →
+    DecidesBy Others had refused own stored result decision
+decides_weaker Refuses Others had since refused own stored (Ok d) decision same more (inl is) = inl (is.0, is.1 ∙ same)
+decides_weaker Refuses Others had since refused own stored (Ok d) decision same more (inr found) = inr (more _ found.0, found.1)
+decides_weaker Refuses Others had since refused own stored (Err CountsExhausted) decision same more is = is
+decides_weaker Refuses Others had since refused own stored (Err OutOfMemory) decision same more is = tt
+decides_weaker Refuses Others had since refused own stored (Err PatternNotBuilt) decision same more found = found
 
 -- where nothing was refused wrongly it is the decision
-pub decides_rightly : (Refuses : Decision → Type 0) (refused own stored : List (List ℕ)) (result : Result Decided Fault) (decision : Decision) →
-    DecidesBy Refuses refused own stored result decision → AreRefusedRightly refused own → AreRefusedRightly refused stored →
+pub decides_rightly : (Refuses : Decision → Type 0) (had refused own stored : List (List ℕ)) (result : Result Decided Fault) (decision : Decision) →
+    DecidesBy Refuses had refused own stored result decision → AreRefusedRightly refused own → AreRefusedRightly refused stored →
     All IsPattern stored → Decides result decision
-decides_rightly Refuses refused own stored (Ok d) decision (inl is) rightly held patterns = is
-decides_rightly Refuses refused own stored (Ok d) decision (inr found) rightly held patterns = absurd (never_both refused own rightly found.1.1)
-decides_rightly Refuses refused own stored (Err CountsExhausted) decision is rightly held patterns = is
-decides_rightly Refuses refused own stored (Err OutOfMemory) decision is rightly held patterns = tt
-decides_rightly Refuses refused own stored (Err PatternNotBuilt) decision found rightly held patterns =
+decides_rightly Refuses had refused own stored (Ok d) decision (inl is) rightly held patterns = is.0
+decides_rightly Refuses had refused own stored (Ok d) decision (inr found) rightly held patterns = absurd (never_both refused own rightly found.1.1)
+decides_rightly Refuses had refused own stored (Err CountsExhausted) decision is rightly held patterns = is
+decides_rightly Refuses had refused own stored (Err OutOfMemory) decision is rightly held patterns = tt
+decides_rightly Refuses had refused own stored (Err PatternNotBuilt) decision found rightly held patterns =
     never_both refused stored held (refused_pattern refused stored patterns found)
 
 -- ---- the stored patterns that are asked are in use
@@ -94,13 +94,13 @@ unfolding stored_asked
 among_in_use request in_use text there = among_by request.endpoint request.method in_use text there
 
 -- so much the more among those in use
-pub decides_in_use : (Refuses : Decision → Type 0) (refused own in_use : List (List ℕ)) (request : Request) (result : Result Decided Fault) (decision : Decision) →
-    DecidesBy Refuses refused own (stored_asked request in_use) result decision → DecidesUnless refused own in_use result decision
-decides_in_use Refuses refused own in_use request (Ok d) decision (inl is) = inl is
-decides_in_use Refuses refused own in_use request (Ok d) decision (inr found) = inr found.1
-decides_in_use Refuses refused own in_use request (Err CountsExhausted) decision is = is
-decides_in_use Refuses refused own in_use request (Err OutOfMemory) decision is = tt
-decides_in_use Refuses refused own in_use request (Err PatternNotBuilt) decision found =
+pub decides_in_use : (Refuses : Decision → Type 0) (had refused own in_use : List (List ℕ)) (request : Request) (result : Result Decided Fault) (decision : Decision) →
+    DecidesBy Refuses had refused own (stored_asked request in_use) result decision → DecidesUnless refused own in_use result decision
+decides_in_use Refuses had refused own in_use request (Ok d) decision (inl is) = inl is.0
+decides_in_use Refuses had refused own in_use request (Ok d) decision (inr found) = inr found.1
+decides_in_use Refuses had refused own in_use request (Err CountsExhausted) decision is = is
+decides_in_use Refuses had refused own in_use request (Err OutOfMemory) decision is = tt
+decides_in_use Refuses had refused own in_use request (Err PatternNotBuilt) decision found =
     unanswered_later refused (stored_asked request in_use) in_use (among_in_use request in_use) found
 
 -- ---- by what the request speaks of
@@ -108,39 +108,30 @@ decides_in_use Refuses refused own in_use request (Err PatternNotBuilt) decision
 -- by the configuration in use
 pub in_use_decides : (old new : Cache) (in_use : List (List ℕ)) (result : Result Decided Fault) (request : Request) (held : List Item) (limits : Limits) (moment : ℕ)
     (maker : Maker) (words : ChaCha) (c : Configuration) → c ≡ configuration_in held →
-    DecidesBy (RefusesBy request.endpoint request limits old new) new.refused (patterns_by request.endpoint request)
+    DecidesBy (RefusesBy request.endpoint request limits old new) old.refused new.refused (patterns_by request.endpoint request)
     (asked_by request.endpoint request.method in_use) result (decided_by c request request.endpoint held limits moment maker words) →
-    DecidesBy (Refuses request limits old new) new.refused (patterns_of_request request) (stored_asked request in_use) result
+    DecidesBy (Refuses request limits old new) old.refused new.refused (patterns_of_request request) (stored_asked request in_use) result
     (decided request held limits moment maker words)
 unfolding decided patterns_of_request Refuses stored_asked
 in_use_decides old new in_use result request held limits moment maker words c is decides =
-    subst (λ (d : Configuration). DecidesBy (RefusesBy request.endpoint request limits old new) new.refused (patterns_by request.endpoint request)
+    subst (λ (d : Configuration). DecidesBy (RefusesBy request.endpoint request limits old new) old.refused new.refused (patterns_by request.endpoint request)
     (asked_by request.endpoint request.method in_use) result (decided_by d request request.endpoint held limits moment maker words)) is decides
 
 -- by the endpoint that the request has
 pub at_endpoint : (old new : Cache) (in_use : List (List ℕ)) (result : Result Decided Fault) (request : Request) (c : Configuration) (held : List Item) (limits : Limits)
     (moment : ℕ) (maker : Maker) (words : ChaCha) (endpoint' : Endpoint) → request.endpoint ≡ endpoint' →
-    DecidesBy (RefusesBy endpoint' request limits old new) new.refused (patterns_by endpoint' request) (asked_by endpoint' request.method in_use) result
+    DecidesBy (RefusesBy endpoint' request limits old new) old.refused new.refused (patterns_by endpoint' request) (asked_by endpoint' request.method in_use) result
     (decided_by c request endpoint' held limits moment maker words) →
-    DecidesBy (RefusesBy request.endpoint request limits old new) new.refused (patterns_by request.endpoint request)
+    DecidesBy (RefusesBy request.endpoint request limits old new) old.refused new.refused (patterns_by request.endpoint request)
     (asked_by request.endpoint request.method in_use) result (decided_by c request request.endpoint held limits moment maker words)
 at_endpoint old new in_use result request c held limits moment maker words endpoint' is decides =
-    subst (λ (e : Endpoint). DecidesBy (RefusesBy e request limits old new) new.refused (patterns_by e request)
+    subst (λ (e : Endpoint). DecidesBy (RefusesBy e request limits old new) old.refused new.refused (patterns_by e request)
     (asked_by e request.method in_use) result (decided_by c request e held limits moment maker words)) (sym is) decides
 
 -- by the method that the request has
-pub with_method : (refused : List (List ℕ)) (result : Result Decided Fault) (Refuse : Method → Decision → Type 0) (patterns stored : Method → List (List ℕ))
+pub with_method : (had refused : List (List ℕ)) (result : Result Decided Fault) (Refuse : Method → Decision → Type 0) (patterns stored : Method → List (List ℕ))
     (decision : Method → Decision) (own method' : Method) → own ≡ method' →
-    DecidesBy (Refuse method') refused (patterns method') (stored method') result (decision method') →
-    DecidesBy (Refuse own) refused (patterns own) (stored own) result (decision own)
-with_method refused result Refuse patterns stored decision own method' is decides =
-    subst (λ (m : Method). DecidesBy (Refuse m) refused (patterns m) (stored m) result (decision m)) (sym is) decides
-
--- by more texts of the request
-pub decides_among : (Refuses : Decision → Type 0) (refused xs ys stored : List (List ℕ)) (result : Result Decided Fault) (decision : Decision) → Among xs ys →
-    DecidesBy Refuses refused xs stored result decision → DecidesBy Refuses refused ys stored result decision
-decides_among Refuses refused xs ys stored (Ok d) decision among (inl is) = inl is
-decides_among Refuses refused xs ys stored (Ok d) decision among (inr found) = inr (found.0, (found.1.0, refused_among refused xs ys among found.1.1))
-decides_among Refuses refused xs ys stored (Err CountsExhausted) decision among is = is
-decides_among Refuses refused xs ys stored (Err OutOfMemory) decision among is = tt
-decides_among Refuses refused xs ys stored (Err PatternNotBuilt) decision among found = found
+    DecidesBy (Refuse method') had refused (patterns method') (stored method') result (decision method') →
+    DecidesBy (Refuse own) had refused (patterns own) (stored own) result (decision own)
+with_method had refused result Refuse patterns stored decision own method' is decides =
+    subst (λ (m : Method). DecidesBy (Refuse m) had refused (patterns m) (stored m) result (decision m)) (sym is) decides

@@ -23,11 +23,8 @@ use Rattle.am_query.proofs.Builds.{rightly_or_refused}
 use Rattle.am_api.specs.Decision.{accepted_or_refused, configuration_posted, status_of}
 use Rattle.am_api.specs.Refusing.{ConfigurationRefuses, refused_document}
 use Rattle.am_api.proofs.Builds.{decides_unless}
+use Rattle.am_api.proofs.Keeping.{IsOfMatcher, configuration_kept}
 use Rattle.am_api.proofs.Replies.{refuses_decides}
-
--- a refusal of a matcher
-abbrev pub IsOfMatcher : ConfigRefusal → Type 0
-IsOfMatcher refusal = (refusal ≡ BuildRefused) ⊎ (refusal ≡ BadMatcher)
 
 module _ (drafted : Result Draft DraftRefusal) (old new : Cache) where
   of_matcher : (refusal : ConfigRefusal) → IsOfMatcher refusal → (AreRefusedRightly new.refused (patterns_of_draft drafted) → configuration drafted ≡ Err refusal) →
@@ -58,23 +55,33 @@ matcher_unbuilt refusal (inr bad) = inr (inr (ap refused_document bad))
 
 by_refusal : (document : List ℕ) (limits : Limits) (old new : Cache) (own stored : List (List ℕ)) (refusal : ConfigRefusal) (held : List Item) (moment : ℕ) (maker : Maker)
     (outcome : Result config.Configuration ConfigRefusal) (result : Result Decided Fault) → length document ≤ limits.configuration →
-    IsRefusalOf (posted document) old new refusal → (outcome ≡ Err refusal) ⊎ (IsOfMatcher refusal × HasRefused new.refused own) →
-    Decides result (refused_document refusal) →
-    DecidesBy (ConfigurationRefuses document limits old new) new.refused own stored result (accepted_or_refused held moment maker outcome)
-by_refusal document limits old new own stored refusal held moment maker outcome result within found (inl is) decides =
-    rw is (decides_unless (ConfigurationRefuses document limits old new) new.refused own stored result (refused_document refusal) decides)
-by_refusal document limits old new own stored refusal held moment maker outcome result within found (inr unbuilt) decides =
-    refuses_decides (ConfigurationRefuses document limits old new) new.refused own stored (status_of refusal) (config_refusals.code_of refusal)
-    (accepted_or_refused held moment maker outcome) result (within, refusal, refl, found) (matcher_unbuilt refusal unbuilt.0) unbuilt.1 decides
+    IsRefusalOf (posted document) old new refusal → (new.refused ≡ old.refused) ⊎ (IsOfMatcher refusal × HasRefused new.refused own) →
+    (outcome ≡ Err refusal) ⊎ (IsOfMatcher refusal × HasRefused new.refused own) → Decides result (refused_document refusal) →
+    DecidesBy (ConfigurationRefuses document limits old new) old.refused new.refused own stored result (accepted_or_refused held moment maker outcome)
+by_refusal document limits old new own stored refusal held moment maker outcome result within found kept told decides = settled kept told
+  where
+    unbuilt : IsOfMatcher refusal × HasRefused new.refused own →
+        DecidesBy (ConfigurationRefuses document limits old new) old.refused new.refused own stored result (accepted_or_refused held moment maker outcome)
+    unbuilt of =
+        refuses_decides (ConfigurationRefuses document limits old new) old.refused new.refused own stored (status_of refusal) (config_refusals.code_of refusal)
+        (accepted_or_refused held moment maker outcome) result (within, refusal, refl, found) (matcher_unbuilt refusal of.0) of.1 decides
+
+    settled : (new.refused ≡ old.refused) ⊎ (IsOfMatcher refusal × HasRefused new.refused own) →
+        (outcome ≡ Err refusal) ⊎ (IsOfMatcher refusal × HasRefused new.refused own) →
+        DecidesBy (ConfigurationRefuses document limits old new) old.refused new.refused own stored result (accepted_or_refused held moment maker outcome)
+    settled (inl same) (inl is) =
+        rw is (decides_unless (ConfigurationRefuses document limits old new) old.refused new.refused own stored result (refused_document refusal) same decides)
+    settled (inr of) told' = unbuilt of
+    settled (inl same) (inr of) = unbuilt of
 
 -- a document within the limit that is refused
 pub refusal_decides : (old new : Cache) (refusal : ConfigRefusal) (limits : Limits) (held : List Item) (moment : ℕ) (maker : Maker) (document : List ℕ) →
     length document ≤ limits.configuration → IsRefusalOf (posted document) old new refusal →
     (AreRefusedRightly new.refused (patterns_of_draft (posted document)) → configuration (posted document) ≡ Err refusal) →
     (result : Result Decided Fault) → Decides result (refused_document refusal) →
-    DecidesBy (ConfigurationRefuses document limits old new) new.refused (patterns_of_draft (posted document)) [] result
+    DecidesBy (ConfigurationRefuses document limits old new) old.refused new.refused (patterns_of_draft (posted document)) [] result
     (configuration_posted limits held moment maker document)
 refusal_decides old new refusal limits held moment maker document within found means result decides =
     let fits : nat_lt limits.configuration (length document) ≡ false = grind (arith, nat_tests) in
     rw fits (by_refusal document limits old new (patterns_of_draft (posted document)) [] refusal held moment maker (configuration (posted document)) result within found
-    (configuration_refused (posted document) old new refusal found means) decides)
+    (configuration_kept (posted document) old new refusal found) (configuration_refused (posted document) old new refusal found means) decides)

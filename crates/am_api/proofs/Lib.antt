@@ -4,6 +4,8 @@ pub mod Builds
 pub mod ConfigurationLemmas
 -- for callers: the counts of a decision's items
 pub mod Counts
+-- what no refusal adds but that of a pattern which is not built
+mod Keeping
 -- the replies to requests whose patterns are refused
 mod Replies
 -- how many alerts are held once posted ones have come

@@ -39,12 +39,11 @@ DecidesUnless refused own stored (Err CountsExhausted) decision = counts_fit dec
 DecidesUnless refused own stored (Err OutOfMemory) decision = Unit {0}
 DecidesUnless refused own stored (Err PatternNotBuilt) decision = HasUnanswered refused stored
 
--- .. where such a pattern refuses the request so alone
-abbrev pub DecidesBy : (Decision → Type 0) → List (List ℕ) → List (List ℕ) → List (List ℕ) → Result Decided Fault → Decision →
-    Type 0
-DecidesBy Refuses refused own stored (Ok d) decision =
-    IsDecision d decision ⊎ (Refuses (decision_of d) × (IsUnbuilt (decision_of d) × HasRefused refused own))
-DecidesBy Refuses refused own stored (Err fault) decision = DecidesUnless refused own stored (Err fault) decision
+-- .. where such a pattern refuses the request so alone. Where it is the decision, no text is refused that wasn't before
+abbrev pub DecidesBy : (Decision → Type 0) → (had refused own stored : List (List ℕ)) → Result Decided Fault → Decision → Type 0
+DecidesBy Refuses had refused own stored (Ok d) decision =
+    (IsDecision d decision × (refused ≡ had)) ⊎ (Refuses (decision_of d) × (IsUnbuilt (decision_of d) × HasRefused refused own))
+DecidesBy Refuses had refused own stored (Err fault) decision = DecidesUnless refused own stored (Err fault) decision
 
 -- the request is accepted: something is stored, or the reply is no refusal
 abbrev pub IsAccepted : Decided → Type 0

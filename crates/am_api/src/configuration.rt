@@ -46,7 +46,7 @@ pub(crate) fn post_configuration(
     maker: Maker,
     cache: &mut PatternCache,
 ) -> Result<Decided, Fault>
-    ensures decides { DecidesBy (ConfigurationRefuses document.now limits cache.old cache.new) cache.new.refused
+    ensures decides { DecidesBy (ConfigurationRefuses document.now limits cache.old cache.new) cache.old.refused cache.new.refused
         (patterns_of_draft (posted document.now)) [] result (configuration_posted limits held.now moment maker document.now) }
     ensures built { IfOk result (AcceptsBuilt (patterns_of_draft (posted document.now))) }
     ensures asked { Grows cache.old cache.new }

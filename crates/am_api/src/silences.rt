@@ -41,7 +41,7 @@ pub(crate) fn decide_silences(
     words: Words,
     cache: &mut PatternCache,
 ) -> Result<Decided, Fault>
-    ensures decides { DecidesBy (SilencesRefuse request.now.method request.now limits cache.old cache.new) cache.new.refused
+    ensures decides { DecidesBy (SilencesRefuse request.now.method request.now limits cache.old cache.new) cache.old.refused cache.new.refused
         (patterns_of_silences request.now.method request.now) [] result
         (silences_decided request.now request.now.method held.now limits moment maker words) }
     ensures built { IfOk result (AcceptsBuilt (patterns_of_silences request.now.method request.now)) }
@@ -85,7 +85,7 @@ fn list_silences(
     moment: Moment,
     cache: &mut PatternCache,
 ) -> Result<Decided, Fault>
-    ensures decides { DecidesBy (QueryRefuses (filters_among (parameters_in query.now)) cache.old cache.new) cache.new.refused
+    ensures decides { DecidesBy (QueryRefuses (filters_among (parameters_in query.now)) cache.old cache.new) cache.old.refused cache.new.refused
         (patterns_of_filters query.now) [] result (silences_or_refused held.now moment (filters_in query.now)) }
     ensures built { IfOk result (AcceptsBuilt (patterns_of_filters query.now)) }
     ensures asked { Grows cache.old cache.new }
@@ -173,7 +173,7 @@ fn post_silence(
     words: Words,
     cache: &mut PatternCache,
 ) -> Result<Decided, Fault>
-    ensures decides { DecidesBy (SilenceRefuses body.now limits cache.old cache.new) cache.new.refused
+    ensures decides { DecidesBy (SilenceRefuses body.now limits cache.old cache.new) cache.old.refused cache.new.refused
         (patterns_in_body body.now) [] result (silence_posted limits held.now moment maker words body.now) }
     ensures built { IfOk result (AcceptsBuilt (patterns_in_body body.now)) }
     ensures asked { Grows cache.old cache.new }

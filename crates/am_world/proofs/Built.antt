@@ -1,5 +1,6 @@
 -- patterns that were refused a build, and what that leaves of others
-use Rattle.std.proofs.Common.{◌≡◌, ◌∙◌, ◌||◌, ℕ, Bool, true, false, List, [], ◌∷◌, ◌++◌, All, refl, sym, ap}
+use Rattle.std.proofs.Common.{◌≡◌, ◌∙◌, ◌||◌, inl, inr, arith, ℕ, Bool, true, false, List, [], ◌∷◌, ◌++◌, All, refl, sym, ap}
+use Rattle.std.specs.List.{Contains}
 use Rattle.std.specs.Str.{bytes_eq}
 use Rattle.std.proofs.lemmas.Grind.{flat_map-append}
 use Rattle.std.proofs.lemmas.List.{append-nil, append_assoc}
@@ -9,9 +10,14 @@ use Rattle.am_muting.specs.Failing.{AddsAmong}
 use Rattle.am_query.specs.Patterns.{HasRefused}
 use Rattle.am_match.specs.Checking.{AreRefusedRightly}
 use Rattle.am_pattern.specs.Refused.{IsRefusedRightly, has_text}
+use Rattle.am_world.specs.declared.event.Event.{Event}
+use Rattle.am_world.specs.declared.event.Event.TheVariants.{Open, Bytes, Close, Limits, Tick, Outcome}
+use Rattle.am_world.specs.declared.event.Output.{Output}
 use Rattle.am_world.specs.declared.instance.Instance.{Instance}
+use Rattle.am_world.specs.declared.world.World.{World}
 use Rattle.am_world.specs.Places.{AreBuilt, HasMore, KeepRefused, refused_at}
 use Rattle.am_world.specs.PrivateCluster.{Happening, patterns_brought, patterns_in}
+use Rattle.am_world.specs.Simulation.{KeepsBuilds, refused_by}
 
 -- ---- what grows
 
@@ -25,8 +31,37 @@ more_nothing xs ys e = ([], e ∙ sym (append-nil xs))
 pub adds_none : (texts old new : List (List ℕ)) → new ≡ old → AddsAmong texts old new
 adds_none texts old new e = record { more = []; refused = e ∙ sym (append-nil old); each = All-nil _ }
 
+-- and what only texts of none were added to, stays
+no_more : (more : List (List ℕ)) → All (λ text. Contains (let none : List (List ℕ) = [] in none) text) more → more ≡ []
+no_more [] each = refl
+no_more (text ∷ more) each =
+    let there = All-contains (λ text. Contains (let none : List (List ℕ) = [] in none) text) (text ∷ more) text each (0, omega arith, refl) in
+    let within = there.1 in absurd (omega (arith, within))
+
+pub added_none : (old new : List (List ℕ)) → AddsAmong [] old new → new ≡ old
+added_none old new adds = adds.refused ∙ ap (λ more. old ++ more) (no_more adds.more adds.each) ∙ append-nil old
+
+-- an event that refuses no build
+pub builds_kept : (w w' : World) (e : Event) (i : ℕ) (outs : List Output) → refused_by w' i ≡ refused_by w i → KeepsBuilds w e i outs w'
+builds_kept w w' (Open c j) i outs same = same
+builds_kept w w' (Bytes c m piece) i outs same = inl same
+builds_kept w w' (Close c) i outs same = same
+builds_kept w w' (Limits tenant limits) i outs same = same
+builds_kept w w' (Tick m) i outs same = same
+builds_kept w w' (Outcome attempt tries m status) i outs same = same
+
 pub more_among : (texts old new : List (List ℕ)) → AddsAmong texts old new → HasMore old new
 more_among texts old new adds = (adds.more, adds.refused)
+
+-- and what any event leaves
+pub builds_more : (w w' : World) (e : Event) (i : ℕ) (outs : List Output) → KeepsBuilds w e i outs w' → HasMore (refused_by w i) (refused_by w' i)
+builds_more w w' (Open c j) i outs same = more_nothing _ _ same
+builds_more w w' (Bytes c m piece) i outs (inl same) = more_nothing _ _ same
+builds_more w w' (Bytes c m piece) i outs (inr refuses) = more_among _ _ _ refuses.adds
+builds_more w w' (Close c) i outs same = more_nothing _ _ same
+builds_more w w' (Limits tenant limits) i outs same = more_nothing _ _ same
+builds_more w w' (Tick m) i outs same = more_nothing _ _ same
+builds_more w w' (Outcome attempt tries m status) i outs same = more_nothing _ _ same
 
 pub keep_then : (xs ys zs : List Instance) → KeepRefused xs ys → KeepRefused ys zs → KeepRefused xs zs
 keep_then xs ys zs first next i = more_then _ _ _ (first i) (next i)

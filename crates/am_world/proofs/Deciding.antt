@@ -50,7 +50,7 @@ no_items d (inr (inr e)) = ap (λ (x : Decision). x.items) e
 -- what was returned for a request of a tenant of whom the instance has this
 abbrev pub Returns : (old new : Cache) → Result Decided Fault → Request → Here → Local → Type 0
 Returns old new result request here local =
-    DecidesBy (Refuses request here.terms.limits old new) new.refused (patterns_of_request request)
+    DecidesBy (Refuses request here.terms.limits old new) old.refused new.refused (patterns_of_request request)
     (stored_asked request (patterns_in_use (configuration_in local.held) here.moment local.held)) result
     (decision_at here request local)
 
@@ -58,7 +58,7 @@ pub returned_at : (old new : Cache) (result : Result Decided Fault) (request : R
     (config : Configuration) (used drawn : ℕ) (next : ChaCha) → held ≡ local.held → config ≡ configuration_in local.held →
     used ≡ local.ledger.stamps → drawn ≡ local.ledger.drawn →
     next ≡ generator_of here.terms.service_key here.terms.tenant here.instance here.incarnation drawn →
-    DecidesBy (Refuses request here.terms.limits old new) new.refused (patterns_of_request request)
+    DecidesBy (Refuses request here.terms.limits old new) old.refused new.refused (patterns_of_request request)
     (stored_asked request (patterns_in_use config here.moment held)) result
     (decided request held here.terms.limits here.moment (record { instance = here.instance; incarnation = here.incarnation; used = used }) next) →
     Returns old new result request here local
@@ -69,7 +69,7 @@ returned_at old new result request here local held config used drawn next held_i
 pub may_decide : (old new : Cache) (result : Result Decided Fault) (request : Request) (here : Here) (local : Local) →
     Returns old new result request here local →
     IfOk result (λ d. MayDecide old.refused new.refused request here.terms.limits (decision_at here request local) (decision_of d))
-may_decide old new (Ok d) request here local (inl right) = inl right.0
+may_decide old new (Ok d) request here local (inl right) = inl (right.0.0, right.1)
 may_decide old new (Ok d) request here local (inr (refuses, (unbuilt, own))) = inr (record {
   old = old;
   new = new;
@@ -83,7 +83,7 @@ may_decide old new (Err fault) request here local returned = tt
 
 pub items_fit : (old new : Cache) (result : Result Decided Fault) (request : Request) (here : Here) (local : Local) →
     Returns old new result request here local → IfOk result (λ d. counts_fit d.items.items ≡ true)
-items_fit old new (Ok d) request here local (inl right) = ap (λ (x : Decision). counts_fit x.items) right.0 ∙ right.1
+items_fit old new (Ok d) request here local (inl right) = ap (λ (x : Decision). counts_fit x.items) right.0.0 ∙ right.0.1
 items_fit old new (Ok d) request here local (inr (refuses, (unbuilt, own))) = ap counts_fit (no_items (decision_of d) unbuilt)
 items_fit old new (Err fault) request here local returned = tt
 
@@ -92,8 +92,8 @@ pub items_have_room : (old new : Cache) (result : Result Decided Fault) (request
     IfOk result (λ d. 0 < length d.items.items → local.ledger.stamps + length d.items.items ≤ greatest_count)
 unfolding decision_at
 items_have_room old new (Ok d) request here local (inl right) = λ some.
-    let items = ap (λ (x : Decision). x.items) right.0 in
-    rw items (room request local.held here.terms.limits here.moment (maker here local.ledger) (words here local.ledger) right.1 (rw items at some))
+    let items = ap (λ (x : Decision). x.items) right.0.0 in
+    rw items (room request local.held here.terms.limits here.moment (maker here local.ledger) (words here local.ledger) right.0.1 (rw items at some))
 items_have_room old new (Ok d) request here local (inr (refuses, (unbuilt, own))) = λ some.
     let none = no_items (decision_of d) unbuilt in
     let never : 0 < 0 = rw none at some in absurd (omega arith)
@@ -137,7 +137,7 @@ pub stops_accepting : (old between new : List (List ℕ)) (request : Request) (l
 stops_accepting old between new request limits here local after OutOfMemory d may built same stops = tt
 stops_accepting old between new request limits here local after CountsExhausted d may built same stops = absurd stops
 stops_accepting old between new request limits here local after PatternNotBuilt d (inl right) built same stops =
-    inr (rw (same, right) at stops, subst (AcceptsBuilt request) right built)
+    inr (rw (same, right.0) at stops, subst (AcceptsBuilt request) right.0 built)
 stops_accepting old between new request limits here local after PatternNotBuilt d (inr refused) built same stops =
     let none = no_items d refused.unbuilt in
     let (text, (there, unanswered)) = rw (same, none) at stops in
@@ -160,7 +160,7 @@ pub brings_waits : (c m : ℕ) (terms : List ℕ → Terms) (x x' : Instance) (o
     ((t : List ℕ) → local_in t x' ≡ local_in t x) → x'.cache.refused ≡ x.cache.refused → Brings fed.Waits c m terms x x' outs outs
 brings_waits c m terms x x' outs local refused = record {
   decide = any_decision m terms x;
-  decided = λ r is. inl refl;
+  decided = λ r is. inl (refl, refused);
   outputs = sym (append-nil outs);
   fits = refl;
   local = local;
@@ -173,7 +173,7 @@ pub brings_refused : (reason : FrontRefusal) (c m : ℕ) (terms : List ℕ → T
     x'.cache.refused ≡ x.cache.refused → Brings (fed.Refused reason) c m terms x x' outs outs'
 brings_refused reason c m terms x x' outs outs' said local refused = record {
   decide = any_decision m terms x;
-  decided = λ r is. inl refl;
+  decided = λ r is. inl (refl, refused);
   outputs = said;
   fits = refl;
   local = local;
@@ -186,7 +186,7 @@ pub brings_ready : (c m : ℕ) (terms : List ℕ → Terms) (x x' : Instance) (o
     x'.cache.refused ≡ x.cache.refused → Brings fed.Ready c m terms x x' outs outs'
 brings_ready c m terms x x' outs outs' said local refused = record {
   decide = any_decision m terms x;
-  decided = λ r is. inl refl;
+  decided = λ r is. inl (refl, refused);
   outputs = said;
   fits = refl;
   local = local;

@@ -1,5 +1,5 @@
 -- each kind of event but bytes keeps the simulation
-use Rattle.std.proofs.Common.{◌≡◌, ◌∙◌, inl, inr, ℕ, ◌||◌, ◌==◌, nat_eq, nat_lt, Bool, true, false, List, [], ◌∷◌, ◌++◌, Option, None, Some, IsSome, is_some, map, filter, not, ◌&&◌, refl, sym, ap, arith, max, ◌≤◌, if◌then◌else◌}
+use Rattle.std.proofs.Common.{◌≡◌, ◌∙◌, inl, inr, ℕ, ◌||◌, ◌==◌, nat_eq, nat_lt, Bool, true, false, List, [], ◌∷◌, ◌++◌, Option, None, Some, IsSome, is_some, ◌&&◌, refl, sym, ap, arith, max, ◌≤◌, if◌then◌else◌}
 use Rattle.std.proofs.lemmas.List.{append-nil}
 use Rattle.std.proofs.lemmas.Bool.{cases_Bool}
 use Rattle.std.proofs.lemmas.Bool.Decides.{nat_tests}
@@ -17,9 +17,9 @@ use Rattle.am_world.specs.Roster.{IsSameRoster, Roster, roster_after}
 use Rattle.am_limit.specs.Books.{limits_of}
 use Rattle.am_limit.specs.declared.limits.Limits as limit
 use Rattle.am_tenant.specs.Names.{same}
-use Rattle.am_world.specs.Simulation.{Follows, Kept, Premises, Stands, asked_at, bytes_read, fault_count, limits_after, put_out}
+use Rattle.am_world.specs.Simulation.{Follows, Kept, Premises, Stands, bytes_read, fault_count, limits_after, put_out}
 use Rattle.am_world.specs.View.{Reading, Seen, AskedAs, FrontAnswered, Shut, Watch, adds, look, watch}
-use Rattle.am_world.proofs.Built.{adds_none}
+use Rattle.am_world.proofs.Built.{builds_kept}
 use Rattle.am_world.proofs.Faults.{incarnations_stay}
 
 pub same_again : (r : Roster) → IsSameRoster r r
@@ -107,7 +107,7 @@ kept_quiet w w' e follows nothing unsaid roster clock limits same outputs faults
   clock = clock;
   limits = limits;
   service_key = same.service_key;
-  refused = λ i. adds_none (asked_at w e i) _ _ (same.refused i);
+  refused = λ i. builds_kept w w' e i [] (same.refused i);
   faults = faults;
 }
 
@@ -202,7 +202,7 @@ kept_limits w w' tenant limits set service_key clock instances outputs faults = 
   clock = clock;
   limits = set;
   service_key = service_key;
-  refused = λ i. adds_none [] _ _ (ap (refused_at i) instances);
+  refused = λ i. ap (refused_at i) instances;
   faults = faults;
 }
 

@@ -1,5 +1,5 @@
 -- the outcome of a try keeps the simulation
-use Rattle.std.proofs.Common.{◌≡◌, ◌⊎◌, ◌∙◌, ℕ, ◌&&◌, nat_lt, nat_eq, inl, inr, Bool, true, false, is_some, List, [], ◌∷◌, ◌++◌, map, Option, Some, None, refl, sym, ap, if◌then◌else◌}
+use Rattle.std.proofs.Common.{◌≡◌, ◌⊎◌, ◌∙◌, ℕ, ◌&&◌, nat_lt, inl, inr, Bool, true, false, is_some, List, [], ◌∷◌, ◌++◌, Option, Some, None, refl, sym, ap, if◌then◌else◌}
 use Rattle.std.proofs.lemmas.List.{append-nil}
 use Rattle.am_limit.specs.Books.{limits_of}
 use Rattle.am_outlet.specs.declared.outcome.Outcome.TheVariants as fate
@@ -16,13 +16,12 @@ use Rattle.am_world.specs.declared.event.Refused.TheVariants.{MomentRefused, Not
 use Rattle.am_world.specs.declared.world.World.{World}
 use Rattle.am_world.specs.Moments.{effective, last_moment}
 use Rattle.am_world.specs.Outputs.{front_told}
-use Rattle.am_world.specs.Places.{SameElsewhere, awaits_at, bytes_at, here_in, local_at, local_where, refused_at, roster_of}
+use Rattle.am_world.specs.Places.{SameElsewhere, awaits_at, bytes_at, here_in, local_at, refused_at, roster_of}
 use Rattle.am_world.specs.PrivateCluster.{AreAllBuilt, Course, PrivateCluster, Tried, after_all, awaits, course, fits_all, handled, here_at, put_out_at, told_all, unchanged}
-use Rattle.am_world.specs.Reaction.{in_replica, output_of, terms_of}
+use Rattle.am_world.specs.Reaction.{in_replica, terms_of}
 use Rattle.am_world.specs.Roster.{IsSameRoster, put_at}
 use Rattle.am_world.specs.Simulation.{Kept, Stands, fault_count, put_out}
 use Rattle.am_world.specs.View.{adds, watch}
-use Rattle.am_world.proofs.Built.{adds_none}
 use Rattle.am_world.proofs.Kept.{kept_nothing, none_asked, roster_then, same_again}
 use Rattle.am_world.proofs.KeptBytes.{Reacts, here_same, local_everywhere, stands_kept, stands_reacts}
 use Rattle.am_world.proofs.RefusalSeen.{awaits_same}
@@ -176,6 +175,6 @@ kept_outcome w w' attempt tries m status allowed awaited local fit others readin
   clock = clock;
   limits = λ t. ap (limits_of t) limits;
   service_key = service_key;
-  refused = λ i. adds_none [] _ _ (refused i);
+  refused = refused;
   faults = faults;
 }

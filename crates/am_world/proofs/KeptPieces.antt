@@ -1,5 +1,5 @@
 -- a piece of a connection keeps the simulation, also where it makes a request whole that is refused for a pattern of its own
-use Rattle.std.proofs.Common.{◌≡◌, ◌⊎◌, inl, inr, ◌∙◌, ℕ, nat_lt, true, false, List, [], ◌∷◌, ◌++◌, Some, refl, sym, ap, arith, nat_eq, subst}
+use Rattle.std.proofs.Common.{◌≡◌, ◌⊎◌, inl, inr, ◌∙◌, ℕ, nat_lt, true, false, List, ◌++◌, Some, refl, sym, ap, arith, nat_eq, subst}
 use Rattle.std.proofs.lemmas.Bool.{cases_Bool}
 use Rattle.std.proofs.lemmas.Bool.Decides.{nat_tests}
 use Rattle.am_api.specs.Replied.{Decision}
@@ -23,10 +23,10 @@ use Rattle.am_world.specs.Places.{SameElsewhere, bytes_at, incarnation_at, incar
 use Rattle.am_world.specs.PrivateCluster.{AreAllBuilt, Course, PrivateCluster, answered, here_at, put_out_at}
 use Rattle.am_world.specs.Reaction.{AcceptsBuilt, IsRefusedBuild, MayDecide, Terms, asked_for, carried_out, decision_at, terms_of}
 use Rattle.am_world.specs.Roster.{IsSameRoster, put_at}
-use Rattle.am_world.specs.Simulation.{IsRefusedAlone, Kept, Later, Stands, asked_at, fault_count, put_out, refused_by}
+use Rattle.am_world.specs.Simulation.{IsRefusedAlone, KeepsBuilds, Kept, Later, RefusesBuild, Stands, fault_count, put_out, refused_by}
 use Rattle.am_world.specs.Taking.{Takes, taken_at}
 use Rattle.am_world.specs.View.{AskedAs, Watch, adds, asked_by, look, watch}
-use Rattle.am_world.proofs.Built.{adds_none}
+use Rattle.am_world.proofs.Built.{added_none}
 use Rattle.am_world.proofs.Kept.{roster_then}
 use Rattle.am_world.proofs.KeptBytes.{IsRight, Reacts, brings, decision_in, fits_bytes, front_bytes, gives, here_same, look_here, of_tenant, owned_bytes, reading_after, says, seen_reading, sees, stands_bytes, stands_reacts, then_seen, told_bytes}
 
@@ -64,7 +64,7 @@ right_or_refused t n m w w' (fed.Request r) decide decided = elim (same_tells t 
   | inl mine ↦ elim (decided r refl) [
     | inl right ↦ inl (λ s is own.
         let same : r ≡ s = cc in
-        ap decide (sym same) ∙ right ∙ ap (λ k. decision_in k n m r w) (sym mine.1) ∙ ap (λ x. decision_in t n m x w) same)
+        ap decide (sym same) ∙ right.0 ∙ ap (λ k. decision_in k n m r w) (sym mine.1) ∙ ap (λ x. decision_in t n m x w) same)
     | inr refused ↦ inr (record { request = r; is = refl; own = mine.1; refused = rw mine.1 refused })
   ]
 ]
@@ -126,21 +126,40 @@ built_bytes (fed.Request r) decide t n c m w p s right built = elim (same_tells 
   | inr e ↦ rw e.0 tt
 ]
 
--- what its bytes have the instance ask
-asked_reading : (w : World) (n c m : ℕ) (before piece : List ℕ) → bytes_at c n w.instances ≡ Some before →
-    asked_at w (Bytes c m piece) n ≡ asked_for (verdict (before ++ piece)) (effective m w.clock) (λ t. local_at t n w.instances)
-asked_reading w n c m before piece here = rw here refl
+-- the instance that reads the connection is refused no build, but where its request is refused for it
+builds_here : (w w' : World) (n c m : ℕ) (before piece : List ℕ) (told : Fed) (decide : Request → Decision) →
+    bytes_at c n w.instances ≡ Some before → verdict (before ++ piece) ≡ told →
+    ((r : Request) → told ≡ fed.Request r →
+    MayDecide (refused_by w n) (refused_by w' n) r (limits_of r.tenant w.limits) (decision_in r.tenant n m r w) (decide r)) →
+    AddsAmong (asked_for told (effective m w.clock) (λ t. local_at t n w.instances)) (refused_by w n) (refused_by w' n) →
+    (refused_by w' n ≡ refused_by w n) ⊎ RefusesBuild w c m piece n (brings told decide n c m w).outputs w'
+builds_here w w' n c m before piece fed.Waits decide here is may adds = inl (added_none _ _ adds)
+builds_here w w' n c m before piece (fed.Refused reason) decide here is may adds = inl (added_none _ _ adds)
+builds_here w w' n c m before piece fed.Ready decide here is may adds = inl (added_none _ _ adds)
+builds_here w w' n c m before piece (fed.Request r) decide here is may adds = elim (may r refl) [
+  | inl right ↦ inl right.1
+  | inr refused ↦ inr (record {
+    before = before;
+    read = here;
+    request = r;
+    whole = is;
+    decision = decide r;
+    refused = refused;
+    told = refl;
+    adds = adds;
+  })
+]
 
--- no instance was refused a build but of what it was asked
-adds_bytes : (w w' : World) (n c m : ℕ) (before piece : List ℕ) → bytes_at c n w.instances ≡ Some before →
-    AddsAmong (asked_for (verdict (before ++ piece)) (effective m w.clock) (λ t. local_at t n w.instances)) (refused_by w n) (refused_by w' n) →
-    SameElsewhere n w.instances w'.instances → (i : ℕ) → AddsAmong (asked_at w (Bytes c m piece) i) (refused_by w i) (refused_by w' i)
+-- and no other instance
+builds_bytes : (w w' : World) (n c m : ℕ) (piece : List ℕ) (outs : List Output) →
+    (refused_by w' n ≡ refused_by w n) ⊎ RefusesBuild w c m piece n outs w' → SameElsewhere n w.instances w'.instances →
+    (i : ℕ) → KeepsBuilds w (Bytes c m piece) i outs w'
 unfolding refused_at
-adds_bytes w w' n c m before piece here adds others i = elim (cases_Bool (nat_eq i n)) [
+builds_bytes w w' n c m piece outs builds others i = elim (cases_Bool (nat_eq i n)) [
   | inl h ↦
       let number : i ≡ n = grind (arith, nat_tests) in
-      rw number (rw (asked_reading w n c m before piece here) adds)
-  | inr h ↦ adds_none (asked_at w (Bytes c m piece) i) _ _ (ap refused_where (others i h))
+      rw number builds
+  | inr h ↦ inl (ap refused_where (others i h))
 ]
 
 pub kept_bytes : (w w' : World) (n c m : ℕ) (before piece : List ℕ) → nat_lt last_moment m ≡ false → bytes_at c n w.instances ≡ Some before →
@@ -179,6 +198,6 @@ kept_bytes w w' n c m before piece allowed here takes clock limits service_key f
       clock = clock;
       limits = λ t. ap (limits_of t) limits;
       service_key = service_key;
-      refused = adds_bytes w w' n c m before piece here takes.adds takes.others;
+      refused = builds_bytes w w' n c m piece _ (builds_here w w' n c m before piece told takes.decide here refl takes.decided takes.adds) takes.others;
       faults = faults;
     }

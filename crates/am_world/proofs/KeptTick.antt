@@ -1,32 +1,28 @@
 -- a tick keeps the simulation, or stops instances
-use Rattle.std.proofs.Common.{◌≡◌, ◌≢◌, ◌∙◌, ℕ, ◌+◌, ◌-◌, ◌^◌, ◌||◌, ◌&&◌, nat_le, nat_lt, filter, inl, inr, Bool, true, false, List, [], ◌∷◌, ◌++◌, length, map, max, min, refl, sym, ap, arith, if◌then◌else◌}
+use Rattle.std.proofs.Common.{◌≡◌, ◌≢◌, ◌∙◌, ℕ, ◌+◌, ◌-◌, ◌^◌, ◌||◌, ◌&&◌, nat_le, nat_lt, filter, inl, inr, Bool, true, false, List, [], ◌∷◌, ◌++◌, length, map, min, refl, sym, ap, arith, if◌then◌else◌}
 use Rattle.std.specs.List.{flat_map, list_all}
 use Rattle.std.proofs.lemmas.Bool.{cases_Bool}
 use Rattle.std.proofs.lemmas.Bool.Decides.{nat_tests}
 use Rattle.std.proofs.lemmas.List.{append-nil}
 use Rattle.am_limit.specs.Books.{limits_of}
 use Rattle.am_limit.specs.declared.limits.Limits.{Limits}
-use Rattle.am_replica.specs.declared.here.Here.{Here as ReplicaHere}
-use Rattle.am_replica.specs.Local.{Local, Reaction}
-use Rattle.am_replica.specs.Ticks.{here_for}
+use Rattle.am_replica.specs.Local.{Reaction}
 use Rattle.am_world.specs.declared.event.Event.TheVariants.{Tick}
-use Rattle.am_world.specs.declared.event.Output.{Output}
 use Rattle.am_world.specs.declared.instance.Instance.{Instance}
 use Rattle.am_world.specs.declared.world.World.{World}
 use Rattle.am_world.specs.Moments.{last_moment}
-use Rattle.am_world.specs.Outputs.{front_told, outputs_of}
+use Rattle.am_world.specs.Outputs.{front_told}
 use Rattle.am_world.specs.Places.{incarnation_at, local_at, roster_of, up_at}
 use Rattle.am_world.specs.PrivateCluster.{Course, PrivateCluster, Ticked, course, put_out_at, tick_at, ticks}
-use Rattle.am_world.specs.Reaction.{output_of, tick_if}
+use Rattle.am_world.specs.Reaction.{output_of}
 use Rattle.am_world.specs.Roster.{IsSameRoster}
 use Rattle.am_setup.specs.Setup.{is_instance, numbers}
-use Rattle.am_world.specs.Simulation.{Faulted, Follows, Kept, Stands, fault_count, faults_of, put_out}
+use Rattle.am_world.specs.Simulation.{Faulted, Kept, Stands, fault_count, faults_of, put_out}
 use Rattle.am_world.specs.Ticks.{TakeTurns}
 use Rattle.am_world.specs.View.{adds, watch}
 use Rattle.am_world.proofs.InstancesLemmas.{CountsFrom}
-use Rattle.am_world.proofs.Built.{adds_none}
 use Rattle.am_world.proofs.Kept.{roster_then, tick_course}
-use Rattle.am_world.proofs.Turns.{AllTicked, all_ticked, has, has_between, some_stopped, turn}
+use Rattle.am_world.proofs.Turns.{all_ticked, has, has_between, some_stopped, turn}
 
 counts : CountsFrom 1 numbers
 counts = (refl, (refl, (refl, (refl, (refl, (refl, (refl, (refl, tt))))))))
@@ -131,7 +127,7 @@ kept_tick w w' m faults allowed clock turns none exist limits service_key counte
       clock = rw allowed clock;
       limits = λ t. ap (limits_of t) limits;
       service_key = service_key;
-      refused = λ i. adds_none [] _ _ (all.refused i);
+      refused = all.refused;
       faults = counted;
     }
 

@@ -18,7 +18,7 @@ use Rattle.am_world.specs.Runs.{Alone, Headline, Prefixes, Run}
 use Rattle.am_setup.specs.Setup.{Origin}
 use Rattle.am_world.specs.Simulation.{Faulted, Follows, IsAsAlone, IsRefusedAlone, Kept, Later, Opens, Premises, Stands, Step, fault_count, put_out, refused_by}
 use Rattle.am_world.specs.View.{AskedAs, FrontAnswered, Reading, Seen, Shut, Table, Watch, adds, first_watch, left, look, names_once, noted, opens_new, table_after, view, watch, watch_all}
-use Rattle.am_world.proofs.Built.{built_before, built_parts, keep_equal, keep_then, more_among, none_refused}
+use Rattle.am_world.proofs.Built.{built_before, built_parts, builds_more, keep_equal, keep_then, none_refused}
 
 -- ---- what was decided of a connection stays decided
 
@@ -141,7 +141,7 @@ run_more w (x ∷ es) mid e w' (next, first, run) step = (next, first, run_more 
 
 -- no pattern that was refused is forgotten
 pub step_refused : (w : World) (e : Event) (w' : World) → Step w e w' → KeepRefused w.instances w'.instances
-step_refused w e w' (inl kept) = λ i. more_among _ _ _ (kept.refused i)
+step_refused w e w' (inl kept) = λ i. builds_more w w' e i kept.outs (kept.refused i)
 step_refused w e w' (inr faulted) = faulted.refused
 
 run_refused : (w : World) (es : List Event) (w' : World) → Run w es w' → KeepRefused w.instances w'.instances

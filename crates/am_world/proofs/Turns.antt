@@ -1,5 +1,5 @@
 -- what a tick of all instances comes to, where none stopped and where some did
-use Rattle.std.proofs.Common.{◌≡◌, ◌≢◌, ◌∙◌, inl, inr, ℕ, ◌+◌, ◌<◌, ◌≤◌, ◌==◌, nat_eq, suc, Bool, true, false, not, ◌&&◌, ◌||◌, is_some, List, [], ◌∷◌, ◌++◌, map, filter, length, Option, Some, None, refl, sym, ap, arith, if◌then◌else◌}
+use Rattle.std.proofs.Common.{◌≡◌, ◌≢◌, ◌∙◌, inl, inr, ℕ, ◌+◌, ◌<◌, ◌≤◌, ◌==◌, nat_eq, suc, Bool, true, false, not, ◌&&◌, ◌||◌, is_some, List, [], ◌∷◌, ◌++◌, map, filter, length, Option, refl, sym, ap, arith, if◌then◌else◌}
 use Rattle.std.specs.List.{flat_map, list_all, list_any}
 use Rattle.std.proofs.lemmas.Bool.{cases_Bool}
 use Rattle.std.proofs.lemmas.Bool.Decides.{nat_tests}
@@ -8,7 +8,7 @@ use Rattle.std.proofs.lemmas.List.Elements.{filter-append}
 use Rattle.std.proofs.lemmas.List.Folds.{list_all-append}
 use Rattle.am_limit.specs.declared.limits.Limits.{Limits}
 use Rattle.am_replica.specs.declared.dispatch.Dispatch.{Dispatch}
-use Rattle.am_replica.specs.Local.{Local, Reaction, Said, Tells}
+use Rattle.am_replica.specs.Local.{Reaction}
 use Rattle.am_replica.specs.Ticks.{here_for, said_of}
 use Rattle.am_tenant.specs.Names.{same}
 use Rattle.am_tenant.proofs.Same.{same_tells}
@@ -18,7 +18,7 @@ use Rattle.am_world.specs.Outputs.{are_owned, front_outputs, is_front, is_tenant
 use Rattle.am_world.specs.Places.{IsDownAt, KeepRefused, SameElsewhere, bytes_at, bytes_where, cause_at, cause_where, incarnation_at, incarnation_where, instance_at, local_at, local_where, refused_at, refused_where, roster_of, up_at, up_where}
 use Rattle.am_world.specs.Reaction.{notice, output_of, tick_if}
 use Rattle.am_world.specs.Roster.{IsSameRoster}
-use Rattle.am_world.specs.Ticks.{CauseAt, StopsAt, TakeTurns, TakesTurn, TicksAt, notice_from}
+use Rattle.am_world.specs.Ticks.{CauseAt, TakeTurns, TakesTurn, TicksAt, notice_from}
 use Rattle.am_world.specs.View.{Watch}
 use Rattle.am_world.proofs.Built.{keep_equal, keep_then}
 use Rattle.am_world.proofs.InstancesLemmas.{CountsFrom}

@@ -1,5 +1,5 @@
 -- what stands at the place of an instance
-use Rattle.std.specs.Prelude.{◌≡◌, ℕ, ◌==◌, ◌&&◌, Bool, false, is_some, List, [], ◌∷◌, ◌++◌, map, find, Option, None, Some, IsSome, option_map}
+use Rattle.std.specs.Prelude.{◌≡◌, ℕ, ◌==◌, ◌&&◌, Bool, false, is_some, List, [], ◌++◌, map, find, Option, None, Some, IsSome, option_map}
 use Rattle.am_http.specs.Connections.{bytes_of}
 use Rattle.am_item.specs.declared.fault.Fault.{Fault}
 use Rattle.am_match.specs.Checking.{AreRefusedRightly}

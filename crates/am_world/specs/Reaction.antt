@@ -8,7 +8,6 @@ use Rattle.am_http.specs.declared.refusal.FrontRefusal.{FrontRefusal}
 use Rattle.am_http.specs.declared.request.Fed.{Fed}
 use Rattle.am_http.specs.declared.request.Fed.TheVariants as fed
 use Rattle.am_http.specs.declared.request.Request.{Request}
-use Rattle.am_item.specs.Best.{all_joined}
 use Rattle.am_item.specs.declared.fault.Fault.{Fault}
 use Rattle.am_item.specs.declared.fault.Fault.TheVariants.{OutOfMemory, CountsExhausted, PatternNotBuilt}
 use Rattle.am_pattern.specs.Cache.{Cache}
@@ -103,9 +102,9 @@ pub record IsRefusedBuild (before after : List (List ℕ)) (request : Request) (
   pub unbuilt : IsUnbuilt d
   pub own : HasRefused after (patterns_of_request request)
 
--- what may be decided on a request: the decision; or, for a pattern of its own, such a refusal
+-- what may be decided on a request: the decision, which refuses no build; or, for a pattern of its own, such a refusal
 abbrev pub MayDecide : (before after : List (List ℕ)) → Request → Limits → Decision → Decision → Type 0
-MayDecide before after request limits decision d = (d ≡ decision) ⊎ IsRefusedBuild before after request limits d
+MayDecide before after request limits decision d = ((d ≡ decision) × (after ≡ before)) ⊎ IsRefusedBuild before after request limits d
 
 -- the tick of an instance, where it is up
 abbrev pub tick_if : Bool → List ℕ → ReplicaHere → Local → Reaction

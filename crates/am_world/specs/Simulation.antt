@@ -3,9 +3,12 @@ use Rattle.std.specs.Prelude.{ℕ, ◌≡◌, ◌⊎◌, ◌==◌, if◌then◌e
 use Rattle.am_world.specs.declared.event.Event.{Event}
 use Rattle.am_world.specs.declared.event.Event.TheVariants as event
 use Rattle.am_world.specs.declared.event.Output.{Output}
+use Rattle.am_world.specs.declared.event.Output.TheVariants.{Reply}
 use Rattle.am_world.specs.declared.world.World.{World}
 use Rattle.am_api.specs.Replied.{Decision}
+use Rattle.am_http.specs.Replies.{reply}
 use Rattle.am_http.specs.Verdict.{verdict}
+use Rattle.am_http.specs.declared.request.Fed.TheVariants as fed
 use Rattle.am_http.specs.declared.request.Request.{Request}
 use Rattle.am_item.specs.declared.fault.Fault.{Fault}
 use Rattle.am_item.specs.declared.fault.Fault.TheVariants.{OutOfMemory}
@@ -104,22 +107,29 @@ pub record IsRefusedAlone (t : List ℕ) (v : Watch) (p : PrivateCluster) (w : W
   pub stands : Stands t w' (answered connection instance moment decision p).cluster
   pub told : (u : Watch) → Later (watch v e) u → outputs_of t u outs ≡ (answered connection instance moment decision p).outputs
 
--- ---- what is asked
+-- ---- what is refused a build
 
--- the texts that a piece has the instance of a number ask as patterns, where these bytes of its connection came before
-abbrev pub asked_then : World → (moment : ℕ) → List ℕ → ℕ → Option (List ℕ) → List (List ℕ)
-asked_then w moment piece j None = []
-asked_then w moment piece j (Some before) =
-    asked_for (verdict (before ++ piece)) (effective moment w.clock) (λ t. local_at t j w.instances)
+-- A piece made a request whole, of which a pattern was refused its build: the request is refused for it, and that alone is put
+-- out. The instance of this number was refused no texts but those that the request asks.
+pub record RefusesBuild (w : World) (c moment : ℕ) (piece : List ℕ) (i : ℕ) (outs : List Output) (w' : World) : Type 0 where
+  pub before : List ℕ
+  pub read : bytes_at c i w.instances ≡ Some before
+  pub request : Request
+  pub whole : verdict (before ++ piece) ≡ fed.Request request
+  pub decision : Decision
+  pub refused : IsRefusedBuild (refused_by w i) (refused_by w' i) request (limits_of request.tenant w.limits) decision
+  pub told : outs ≡ Reply c (reply decision.status decision.body) ∷ []
+  pub adds : AddsAmong (asked_for (fed.Request request) (effective moment w.clock) (λ t. local_at t i w.instances))
+      (refused_by w i) (refused_by w' i)
 
--- .. that an event has it ask, where all of them may be refused: those of a request. At a tick all have to give an answer
-abbrev pub asked_at : World → Event → ℕ → List (List ℕ)
-asked_at w (event.Open c i) j = []
-asked_at w (event.Bytes c moment piece) j = asked_then w moment piece j (bytes_at c j w.instances)
-asked_at w (event.Close c) j = []
-asked_at w (event.Limits tenant limits) j = []
-asked_at w (event.Tick moment) j = []
-asked_at w (event.Outcome attempt tries moment status) j = []
+-- an event refuses no build, but where its piece is such a request
+abbrev pub KeepsBuilds : World → Event → ℕ → List Output → World → Type 0
+KeepsBuilds w (event.Open c i) j outs w' = refused_by w' j ≡ refused_by w j
+KeepsBuilds w (event.Bytes c moment piece) j outs w' = (refused_by w' j ≡ refused_by w j) ⊎ RefusesBuild w c moment piece j outs w'
+KeepsBuilds w (event.Close c) j outs w' = refused_by w' j ≡ refused_by w j
+KeepsBuilds w (event.Limits tenant limits) j outs w' = refused_by w' j ≡ refused_by w j
+KeepsBuilds w (event.Tick moment) j outs w' = refused_by w' j ≡ refused_by w j
+KeepsBuilds w (event.Outcome attempt tries moment status) j outs w' = refused_by w' j ≡ refused_by w j
 
 -- a tenant's limits after an event
 abbrev pub limits_after : Event → List ℕ → Limits → Limits
@@ -131,7 +141,8 @@ limits_after (event.Tick moment) t limits = limits
 limits_after (event.Outcome attempt tries moment status) t limits = limits
 
 -- an event that was handled, or refused: for every tenant at once. What is put out is each tenant's, as its cluster says,
--- or the front's, as the bytes of the connections say, and nobody else's. No build is refused but of what the event's request asks
+-- or the front's, as the bytes of the connections say, and nobody else's. No build is refused but where the event's request is
+-- refused for it
 pub record Kept (w : World) (e : Event) (w' : World) : Type 0 where
   pub follows : (v : Watch) → Follows v w → Follows (watch v e) w'
   pub outs : List Output
@@ -144,7 +155,7 @@ pub record Kept (w : World) (e : Event) (w' : World) : Type 0 where
   pub clock : w'.clock ≡ clock_after e w.clock
   pub limits : (t : List ℕ) → limits_of t w'.limits ≡ limits_after e t (limits_of t w.limits)
   pub service_key : w'.service_key ≡ w.service_key
-  pub refused : (i : ℕ) → AddsAmong (asked_at w e i) (refused_by w i) (refused_by w' i)
+  pub refused : (i : ℕ) → KeepsBuilds w e i outs w'
   pub faults : fault_count w' ≡ fault_count w
 
 -- the instances of which an event asks work

@@ -15,7 +15,7 @@ returns-clause-refuses c =
 pub returns-clause-decides : goal.returns-clause-decides
 returns-clause-decides c =
     let in_use = patterns_in_use c.args.config.now c.args.moment c.args.held.now in
-    decides_in_use (Refuses c.args.request.now c.args.limits c.args.cache.now c.decide_by.new.cache) c.decide_by.new.cache.refused
+    decides_in_use (Refuses c.args.request.now c.args.limits c.args.cache.now c.decide_by.new.cache) c.args.cache.now.refused c.decide_by.new.cache.refused
     (patterns_of_request c.args.request.now) in_use c.args.request.now c.decide_by.result
     (decided c.args.request.now c.args.held.now c.args.limits c.args.moment c.args.maker c.args.words)
     (in_use_decides c.args.cache.now c.decide_by.new.cache in_use c.decide_by.result
@@ -25,7 +25,7 @@ pub returns-clause-meaning : goal.returns-clause-meaning
 returns-clause-meaning c =
     let in_use = patterns_in_use c.args.config.now c.args.moment c.args.held.now in
     let refused = c.decide_by.new.cache.refused in
-    λ own held patterns. decides_rightly (Refuses c.args.request.now c.args.limits c.args.cache.now c.decide_by.new.cache) refused
+    λ own held patterns. decides_rightly (Refuses c.args.request.now c.args.limits c.args.cache.now c.decide_by.new.cache) c.args.cache.now.refused refused
     (patterns_of_request c.args.request.now) (stored_asked c.args.request.now in_use) c.decide_by.result
     (decided c.args.request.now c.args.held.now c.args.limits c.args.moment c.args.maker c.args.words)
     (in_use_decides c.args.cache.now c.decide_by.new.cache in_use c.decide_by.result

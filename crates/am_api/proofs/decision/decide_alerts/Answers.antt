@@ -12,7 +12,7 @@ use Rattle.am_api.proofs.decision.decide_alerts.Goals as goal
 
 pub returns-in-Get-clause-decides : goal.returns-in-Get-clause-decides
 returns-in-Get-clause-decides c =
-    with_method _ _ (λ m. AlertsRefuse m c.args.request.now c.args.cache.now c.decide_list.new.cache) (λ m. patterns_of_alerts m c.args.request.now) (λ m. asked_by_method m (patterns_in_use c.args.config.now c.args.moment c.args.held.now))
+    with_method _ _ _ (λ m. AlertsRefuse m c.args.request.now c.args.cache.now c.decide_list.new.cache) (λ m. patterns_of_alerts m c.args.request.now) (λ m. asked_by_method m (patterns_in_use c.args.config.now c.args.moment c.args.held.now))
     (λ m. alerts_decided c.args.config.now c.args.request.now m c.args.held.now c.args.limits c.args.moment c.args.maker)
     c.args.request.now.method Get c.in-Get.is (rw c.as_str.ensures at c.decide_list.ensures.decides)
 

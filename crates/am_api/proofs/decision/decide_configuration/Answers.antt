@@ -12,7 +12,7 @@ use Rattle.am_api.proofs.decision.decide_configuration.Goals as goal
 
 pub returns-in-Post-clause-decides : goal.returns-in-Post-clause-decides
 returns-in-Post-clause-decides c =
-    with_method _ _ (λ m. DocumentRefuses m c.args.request.now c.args.limits c.args.cache.now c.post_configuration.new.cache) (λ m. patterns_of_document m c.args.request.now) (λ m. [])
+    with_method _ _ _ (λ m. DocumentRefuses m c.args.request.now c.args.limits c.args.cache.now c.post_configuration.new.cache) (λ m. patterns_of_document m c.args.request.now) (λ m. [])
     (λ m. configuration_decided c.args.request.now m c.args.held.now c.args.limits c.args.moment c.args.maker)
     c.args.request.now.method Post c.in-Post.is (rw c.as_slice.ensures at c.post_configuration.ensures.decides)
 

@@ -1,4 +1,4 @@
-use Rattle.std.proofs.Common.{inr}
+use Rattle.std.proofs.Common.{inr, refl}
 use Rattle.am_group_list.specs.Written.{groups_text}
 use Rattle.am_query.specs.Queries.{parameters_in, processed_among}
 use Rattle.am_listing.specs.Failing.{patterns_in_use}
@@ -13,8 +13,9 @@ use Rattle.am_api.proofs.Accepting.{built_accepts, query_high, refusal_accepts}
 use Rattle.am_api.proofs.listing.decide_group_list.Goals as goal
 
 pub returns-in-Err-Refused-clause-decides : goal.returns-in-Err-Refused-clause-decides
+unfolding patterns_of_group_query
 returns-in-Err-Refused-clause-decides c =
-    query_refused _ _ _ _ _ c.in-Err-Refused.reason _ _ c.refuse.result
+    query_refused _ _ _ _ _ c.in-Err-Refused.reason _ _ c.refuse.result refl
     (rw c.in-Err-Refused.field-0-is at c.in-Err-Refused.ensures.read)
     (rw c.in-Err-Refused.field-0-is at c.in-Err-Refused.ensures.stop)
     (rw (c.status.ensures, c.code.ensures, c.in-Err-Refused.reason-is) at c.refuse.ensures)
@@ -22,9 +23,9 @@ returns-in-Err-Refused-clause-decides c =
 pub returns-in-Ok-clause-decides : goal.returns-in-Ok-clause-decides
 returns-in-Ok-clause-decides c =
     rw c.in-Ok.ensures.read
-    (decides_weaker (IsNotAnswered (processed_among (parameters_in c.args.query.now))) (ListRefuses (processed_among (parameters_in c.args.query.now)) c.args.cache.now c.list_grouped.new.cache) c.list_grouped.new.cache.refused
+    (decides_weaker (IsNotAnswered (processed_among (parameters_in c.args.query.now))) (ListRefuses (processed_among (parameters_in c.args.query.now)) c.args.cache.now c.list_grouped.new.cache) _ _ c.list_grouped.new.cache.refused
     (patterns_of_group_query c.args.query.now) (patterns_in_use c.args.config.now c.args.moment c.args.held.now) c.list_grouped.result
-    (replied 200 (groups_text c.args.config.now c.in-Ok.asked c.args.moment c.args.held.now)) (λ d not. inr not) c.list_grouped.ensures.decides)
+    (replied 200 (groups_text c.args.config.now c.in-Ok.asked c.args.moment c.args.held.now)) c.in-Ok.ensures.asked.refused (λ d not. inr not) c.list_grouped.ensures.decides)
 
 pub returns-in-Err-Refused-clause-adds : goal.returns-in-Err-Refused-clause-adds
 unfolding patterns_of_group_query

@@ -11,7 +11,7 @@ use Rattle.am_api.proofs.listing.decide_groups.Goals as goal
 
 pub returns-in-Get-clause-decides : goal.returns-in-Get-clause-decides
 returns-in-Get-clause-decides c =
-    with_method _ _ (λ m. GroupsRefuse m c.args.request.now c.args.cache.now c.decide_group_list.new.cache) (λ m. patterns_of_groups m c.args.request.now) (λ m. asked_by_method m (patterns_in_use c.args.config.now c.args.moment c.args.held.now))
+    with_method _ _ _ (λ m. GroupsRefuse m c.args.request.now c.args.cache.now c.decide_group_list.new.cache) (λ m. patterns_of_groups m c.args.request.now) (λ m. asked_by_method m (patterns_in_use c.args.config.now c.args.moment c.args.held.now))
     (λ m. groups_decided c.args.config.now c.args.request.now m c.args.held.now c.args.moment)
     c.args.request.now.method Get c.in-Get.is (rw c.as_str.ensures at c.decide_group_list.ensures.decides)
 

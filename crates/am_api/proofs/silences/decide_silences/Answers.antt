@@ -12,13 +12,13 @@ use Rattle.am_api.proofs.silences.decide_silences.Goals as goal
 
 pub returns-in-Get-clause-decides : goal.returns-in-Get-clause-decides
 returns-in-Get-clause-decides c =
-    with_method _ _ (λ m. SilencesRefuse m c.args.request.now c.args.limits c.args.cache.now c.list_silences.new.cache) (λ m. patterns_of_silences m c.args.request.now) (λ m. [])
+    with_method _ _ _ (λ m. SilencesRefuse m c.args.request.now c.args.limits c.args.cache.now c.list_silences.new.cache) (λ m. patterns_of_silences m c.args.request.now) (λ m. [])
     (λ m. silences_decided c.args.request.now m c.args.held.now c.args.limits c.args.moment c.args.maker c.args.words)
     c.args.request.now.method Get c.in-Get.is (rw c.as_str.ensures at c.list_silences.ensures.decides)
 
 pub returns-in-Post-clause-decides : goal.returns-in-Post-clause-decides
 returns-in-Post-clause-decides c =
-    with_method _ _ (λ m. SilencesRefuse m c.args.request.now c.args.limits c.args.cache.now c.post_silence.new.cache) (λ m. patterns_of_silences m c.args.request.now) (λ m. [])
+    with_method _ _ _ (λ m. SilencesRefuse m c.args.request.now c.args.limits c.args.cache.now c.post_silence.new.cache) (λ m. patterns_of_silences m c.args.request.now) (λ m. [])
     (λ m. silences_decided c.args.request.now m c.args.held.now c.args.limits c.args.moment c.args.maker c.args.words)
     c.args.request.now.method Post c.in-Post.is (rw c.as_slice-body.ensures at c.post_silence.ensures.decides)
 

@@ -1,4 +1,4 @@
-use Rattle.std.proofs.Common.{[]}
+use Rattle.std.proofs.Common.{[], refl}
 use Rattle.am_query.specs.Queries.{filters_among, filters_in, parameters_in}
 use Rattle.am_api.proofs.Replies.{filters_refused}
 use Rattle.am_query.specs.Patterns.{patterns_of_filters}
@@ -7,9 +7,10 @@ use Rattle.am_api.proofs.Accepting.{built_accepts, query_high, refusal_accepts}
 use Rattle.am_api.proofs.silences.list_silences.Goals as goal
 
 pub returns-in-Err-Refused-clause-decides : goal.returns-in-Err-Refused-clause-decides
+unfolding patterns_of_filters
 returns-in-Err-Refused-clause-decides c =
     filters_refused (filters_among (parameters_in c.args.query.now)) c.args.cache.now c.read_filters.new.cache (patterns_of_filters c.args.query.now) []
-    c.in-Err-Refused.reason c.args.held.now c.args.moment (filters_in c.args.query.now) c.refuse.result
+    c.in-Err-Refused.reason c.args.held.now c.args.moment (filters_in c.args.query.now) c.refuse.result refl
     (rw c.in-Err-Refused.field-0-is at c.in-Err-Refused.ensures.read)
     (rw c.in-Err-Refused.field-0-is at c.in-Err-Refused.ensures.stop)
     (rw (c.status.ensures, c.code.ensures, c.in-Err-Refused.reason-is) at c.refuse.ensures)

@@ -3,7 +3,7 @@ use Rattle.am_api.specs.Deciding.{decision_of}
 use Rattle.am_world.specs.declared.event.Output.TheVariants.{Reply}
 use Rattle.std.proofs.lemmas.Result.{err_from_is_err_and}
 use Rattle.am_world.specs.Places.{local_in}
-use Rattle.am_world.proofs.Deciding.{more_asked, stops_accepting}
+use Rattle.am_world.proofs.Deciding.{stops_accepting}
 use Rattle.am_world.proofs.instance.Instance.answer.Goals as goal
 
 pub accept-requires : goal.accept-requires

@@ -1,4 +1,3 @@
-use Rattle.std.proofs.Common.{refl}
 use Rattle.am_world.specs.Places.{here_of, local_in}
 use Rattle.am_world.specs.Reaction.{terms_with}
 use Rattle.am_world.proofs.Deciding.{items_have_room, may_decide, returned_at, stops_for}

@@ -1,4 +1,3 @@
-use Rattle.std.proofs.Common.{refl}
 use Rattle.am_world.proofs.Ticking.{ticks_idle, ticks_told}
 use Rattle.am_world.proofs.instance.Instance.tick.Goals as goal
 

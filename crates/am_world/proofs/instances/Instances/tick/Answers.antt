@@ -1,4 +1,4 @@
-use Rattle.std.proofs.Common.{◌≡◌, ◌≤◌, ◌+◌, arith, slice_index_or, take}
+use Rattle.std.proofs.Common.{◌≤◌, arith, slice_index_or, take}
 use Rattle.std.proofs.lemmas.List.{take_more}
 use Rattle.am_setup.specs.Setup.{numbers}
 use Rattle.am_world.proofs.Working.{exists_up}
