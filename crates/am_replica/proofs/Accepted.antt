@@ -1,5 +1,6 @@
 -- What is planned goes by what is held, also once items are accepted.
-use Rattle.std.proofs.Common.{◌≡◌, ℕ, ◌+◌, length, List, Option, false, refl, sym, ap, ◌∙◌, subst, unwrap_or}
+use Rattle.std.proofs.Common.{◌≡◌, ◌⊎◌, inl, inr, ℕ, ◌+◌, ◌<◌, length, Bool, List, [], ◌∷◌, Option, Result, Ok, Err, IfErr, true, false, not, refl, sym, ap, ◌∙◌, subst, unwrap_or, arith}
+use Rattle.std.proofs.lemmas.Bool.{cases_Bool}
 use Rattle.std.specs.List.{list_any}
 use Rattle.std.specs.List.Sorted.{IsStrictlySortedBy}
 use Rattle.std.specs.Map.{keys_of}
@@ -18,8 +19,12 @@ use Rattle.am_match.specs.Matchers.{patterns_of}
 use Rattle.am_muting.specs.Failing.{HasUnanswered}
 use Rattle.am_muting.specs.Muting.{alert_sets}
 use Rattle.am_planning.specs.Planning.{paces_of, planned_alerts}
+use Rattle.am_members.specs.declared.known.Known.{Known}
 use Rattle.am_route.specs.Asked.{route_matchers}
-use Rattle.am_replica.specs.Accepting.{IsPlannedBy, StopsAccepting, accepted, all_came, followed, kept}
+use Rattle.am_text.specs.Outcome.{ForRefused}
+use Rattle.am_text.specs.declared.failure.Failure.{Failure}
+use Rattle.am_text.specs.declared.failure.Failure.TheVariants.{Refused, OutOfMemory}
+use Rattle.am_replica.specs.Accepting.{IsPlannedBy, StopsAccepting, accepted, all_came, brings_alert, brings_configuration, followed, is_known, kept, unknown_of}
 use Rattle.am_replica.specs.Local.{Ledger, Local}
 use Rattle.am_replica.specs.Plans.{IsPlanned, sinces_in}
 use Rattle.am_replica.proofs.AlertSets.{all_rise, keys_came, sets_rise}
@@ -97,7 +102,45 @@ parts_stay local after u d is counted placed =
     ∙ ap (λ n. with_parts after.held after.plan after.noticed after.ledger.stamps n) placed ∙ is
 
 -- what stops it
-pub stops : (refused : List (List ℕ)) (moment : ℕ) (items h : List Item) (c : Configuration) (local : Local) → h ≡ all_joined local.held items → c ≡ configuration_in h
-    → HasUnanswered refused (patterns_of (route_matchers c.routes)) → StopsAccepting refused items local PatternNotBuilt
-stops refused moment items h c local held by none =
-    subst (λ (k : Configuration). HasUnanswered refused (patterns_of (route_matchers k.routes))) (by ∙ ap configuration_in held) none
+
+-- a refusal for one more reason
+pub with_reason : {R : Type 0} (P Q : Type 0) (failure : Failure R) → P → ForRefused failure (λ _. Q) → ForRefused failure (λ _. P × Q)
+with_reason P Q (Refused refusal) p q = (p, q)
+with_reason P Q OutOfMemory p q = tt
+
+-- .. or for another one
+pub by_either : {R : Type 0} (P P' Q : Type 0) (failure : Failure R) → (P → P') → ForRefused failure (λ _. P × Q) → ForRefused failure (λ _. P' × Q)
+by_either P P' Q (Refused refusal) more found = (more found.0, found.1)
+by_either P P' Q OutOfMemory more found = tt
+
+pub all_with_reason : {R X : Type 0} (P Q : Type 0) (result : Result X (Failure R)) → P → IfErr result (λ failure. ForRefused failure (λ _. Q)) →
+    IfErr result (λ failure. ForRefused failure (λ _. P × Q))
+all_with_reason P Q (Ok x) p q = tt
+all_with_reason P Q (Err failure) p q = with_reason P Q failure p q
+
+more_unknown : (labels : List Label) (sets : List (List Label)) (alerts : List (List Label × Known)) (moment : ℕ) → (is_known labels alerts ≡ true) ⊎ (is_known labels alerts ≡ false) →
+    (0 < length (unknown_of moment sets alerts) → list_any (λ labels. not (is_known labels alerts)) sets ≡ true) →
+    0 < length (unknown_of moment (labels ∷ sets) alerts) → list_any (λ labels. not (is_known labels alerts)) (labels ∷ sets) ≡ true
+unfolding unknown_of
+more_unknown labels sets alerts moment (inl known) rest some = rw known (rest (rw known at some))
+more_unknown labels sets alerts moment (inr fresh) rest some = rw fresh refl
+
+-- an alert that isn't known is of a label set of which none is
+some_unknown : (sets : List (List Label)) (alerts : List (List Label × Known)) (moment : ℕ) → 0 < length (unknown_of moment sets alerts) →
+    list_any (λ labels. not (is_known labels alerts)) sets ≡ true
+unfolding unknown_of
+some_unknown [] alerts moment some = absurd (omega (arith, some))
+some_unknown (labels ∷ sets) alerts moment some =
+    more_unknown labels sets alerts moment (cases_Bool (is_known labels alerts)) (λ rest. some_unknown sets alerts moment rest) some
+
+pub stops : (refused : List (List ℕ)) (moment : ℕ) (items h : List Item) (c : Configuration) (local : Local) (came : List (List Label)) (is_new : Bool) →
+    h ≡ all_joined local.held items → c ≡ configuration_in h → came ≡ alert_sets items → is_new ≡ brings_configuration items local →
+    ((0 < length (unknown_of moment came local.plan.grouped.alerts)) ⊎ (is_new ≡ true)) × HasUnanswered refused (patterns_of (route_matchers c.routes)) →
+    StopsAccepting refused items local PatternNotBuilt
+stops refused moment items h c local came is_new held by sets replaced (why, none) =
+    (reason why, subst (λ (k : Configuration). HasUnanswered refused (patterns_of (route_matchers k.routes))) (by ∙ ap configuration_in held) none)
+  where
+    reason : (0 < length (unknown_of moment came local.plan.grouped.alerts)) ⊎ (is_new ≡ true) →
+        (brings_alert items local ≡ true) ⊎ (brings_configuration items local ≡ true)
+    reason (inl some) = inl (some_unknown (alert_sets items) local.plan.grouped.alerts moment (rw sets at some))
+    reason (inr new) = inr (sym replaced ∙ new)

@@ -1,17 +1,19 @@
 -- What becomes of items that an instance accepts.
-use Rattle.std.specs.Prelude.{◌≡◌, ℕ, ◌+◌, ◌&&◌, Bool, min, not, List, [], ◌∷◌, filter, length, map, Option, Some, None, is_some, unwrap_or, if◌then◌else◌}
+use Rattle.std.specs.Prelude.{◌≡◌, ◌⊎◌, ℕ, ◌+◌, ◌&&◌, true, Bool, min, not, List, [], ◌∷◌, filter, length, map, Option, Some, None, is_some, unwrap_or, if◌then◌else◌}
 use Rattle.std.specs.BTreeMap.{insert_entry}
 use Rattle.std.specs.List.{filter_map, list_any, zip}
 use Rattle.std.specs.Map.{lookup}
 use Rattle.std.specs.Option.{option_map}
 use Rattle.am_config.specs.Configuration.{Configuration}
 use Rattle.am_current.specs.Current.{configuration_in}
-use Rattle.am_item.specs.Best.{all_joined}
+use Rattle.am_current.specs.Replacing.{replaces}
+use Rattle.am_item.specs.Best.{all_joined, item_at}
 use Rattle.am_item.specs.declared.fault.Fault.{Fault}
 use Rattle.am_item.specs.declared.fault.Fault.TheVariants.{OutOfMemory, CountsExhausted, PatternNotBuilt}
 use Rattle.am_item.specs.declared.item.Item.{Item}
 use Rattle.am_item.specs.declared.item.Thing.{Thing}
 use Rattle.am_item.specs.declared.item.Thing.TheVariants.{Alert, Configuration as Stored, SentEntry, Silence}
+use Rattle.am_item.specs.declared.key.ThingKey.TheVariants.{Configuration as ConfigurationKey}
 use Rattle.am_labels.specs.declared.Label.{Label}
 use Rattle.am_labels.specs.Labels.{labels_cmp}
 use Rattle.am_match.specs.Matchers.{patterns_of}
@@ -56,13 +58,6 @@ kept moment items drawn local = record (accepted moment items local) {
   ledger = record { stamps = local.ledger.stamps + length items; drawn = unwrap_or drawn local.ledger.drawn };
 }
 
--- why it stops: a pattern of the routes of the configuration that is in use then gave no answer, or memory ran out
-abbrev pub StopsAccepting : (refused : List (List ℕ)) → List Item → Local → Fault → Type 0
-StopsAccepting refused items local OutOfMemory = Unit {0}
-StopsAccepting refused items local CountsExhausted = ⊥
-StopsAccepting refused items local PatternNotBuilt =
-    HasUnanswered refused (patterns_of (route_matchers (configuration_in (all_joined local.held items)).routes))
-
 -- ---- how it is done
 
 -- a plan goes by a configuration
@@ -73,6 +68,23 @@ pub record IsPlannedBy (c : Configuration) (plan : Plan) : Type 0 where
 -- an alert of this label set is known
 abbrev pub is_known : List Label → List (List Label × Known) → Bool
 is_known labels alerts = is_some (lookup (is_set labels) alerts)
+
+-- an alert among the items is of a label set of which none is known
+abbrev pub brings_alert : List Item → Local → Bool
+brings_alert items local = list_any (λ labels. not (is_known labels local.plan.grouped.alerts)) (alert_sets items)
+
+-- a configuration is among them that takes the place of the one that is held
+abbrev pub brings_configuration : List Item → Local → Bool
+brings_configuration items local = list_any (replaces (item_at ConfigurationKey local.held)) items
+
+-- why it stops: there is something to plan, and a pattern of the routes of the configuration that is in use then gave no answer; or
+-- memory ran out
+abbrev pub StopsAccepting : (refused : List (List ℕ)) → List Item → Local → Fault → Type 0
+StopsAccepting refused items local OutOfMemory = Unit {0}
+StopsAccepting refused items local CountsExhausted = ⊥
+StopsAccepting refused items local PatternNotBuilt =
+    ((brings_alert items local ≡ true) ⊎ (brings_configuration items local ≡ true))
+    × HasUnanswered refused (patterns_of (route_matchers (configuration_in (all_joined local.held items)).routes))
 
 -- the label set of a thing that is an alert
 abbrev pub set_in : Thing → Option (List Label)

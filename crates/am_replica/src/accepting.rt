@@ -1,6 +1,6 @@
 //! Items that are accepted.
 
-ghost use Rattle.std.specs.Prelude.{◌≡◌, ◌+◌, ◌<◌, ◌≤◌, ℕ, List, [], ◌∷◌, false, length, IfErr, IfOk, OnOk, if◌then◌else◌, map, unwrap_or};
+ghost use Rattle.std.specs.Prelude.{◌≡◌, ◌⊎◌, ◌+◌, ◌<◌, ◌≤◌, ℕ, List, [], ◌∷◌, false, true, length, IfErr, IfOk, OnOk, if◌then◌else◌, map, unwrap_or};
 ghost use Rattle.std.specs.List.{list_any};
 ghost use Rattle.std.specs.List.Sorted.{IsStrictlySortedBy};
 ghost use Rattle.std.specs.Map.{keys_of};
@@ -41,7 +41,8 @@ impl Parts {
     /// items, all that is planned is planned anew.
     ///
     /// # Errors
-    /// `PatternNotBuilt` where a pattern of the routes of the configuration that is in use then gives no answer, or out of memory.
+    /// `PatternNotBuilt` where there is something to plan, and a pattern of the routes of the configuration that is in use then gives no
+    /// answer; or out of memory.
     pub(crate) fn accept(
         &mut self,
         alloc: Global,
@@ -169,7 +170,8 @@ fn follow(
         (if same t tenant.now then followed config.now moment (keys_of came.items) (plan_of t agenda.old) else plan_of t agenda.old)) }
     ensures asked { Asked result cache.old cache.new }
     ensures failure { IfErr result (λ failure. ForRefused failure
-        (λ refusal. HasUnanswered cache.new.refused (patterns_of (route_matchers config.now.routes)))) }
+        (λ refusal. ((0 < length (unknown_of moment (keys_of came.items) (plan_of tenant.now agenda.old).grouped.alerts)) ⊎ (is_new ≡ true))
+        × HasUnanswered cache.new.refused (patterns_of (route_matchers config.now.routes)))) }
 {
     meet(alloc, agenda, tenant, moment, came, config, cache)?;
     if is_new {
@@ -196,7 +198,8 @@ fn meet(
         (if same t tenant.now then with_met config.now moment (keys_of came.items) (plan_of t agenda.old) else plan_of t agenda.old)) }
     ensures asked { Asked result cache.old cache.new }
     ensures failure { IfErr result (λ failure. ForRefused failure
-        (λ refusal. HasUnanswered cache.new.refused (patterns_of (route_matchers config.now.routes)))) }
+        (λ refusal. (0 < length (unknown_of moment (keys_of came.items) (plan_of tenant.now agenda.old).grouped.alerts))
+        × HasUnanswered cache.new.refused (patterns_of (route_matchers config.now.routes)))) }
 {
     let unknown = meet_known(alloc, agenda, tenant, moment, came)?;
     plan_new(alloc, agenda, tenant, config, unknown, cache)
@@ -270,7 +273,7 @@ fn plan_new(
         else plan_of t agenda.old)) }
     ensures asked { Asked result cache.old cache.new }
     ensures failure { IfErr result (λ failure. ForRefused failure
-        (λ refusal. HasUnanswered cache.new.refused (patterns_of (route_matchers config.now.routes)))) }
+        (λ refusal. (0 < length unknown.items) × HasUnanswered cache.new.refused (patterns_of (route_matchers config.now.routes)))) }
 {
     if unknown.is_empty() {
         return Ok(());

@@ -4,23 +4,18 @@ use Rattle.am_alert.specs.Made.{counts_fit, greatest_count}
 use Rattle.am_api.specs.Deciding.{DecidesBy, IsUnbuilt, decision_of}
 use Rattle.am_api.specs.Decision.{decided}
 use Rattle.am_api.specs.Patterns.{patterns_of_request}
-use Rattle.am_api.specs.Refusing.{Refuses, asked_by, asked_by_method, stored_asked}
+use Rattle.am_api.specs.Refusing.{Refuses, stored_asked}
 use Rattle.am_api.specs.Replied.{Decision}
 use Rattle.am_api.specs.declared.decision.Decided.{Decided}
 use Rattle.am_api.proofs.Counts.{room}
 use Rattle.am_config.specs.Configuration.{Configuration}
 use Rattle.am_current.specs.Current.{configuration_in}
-use Rattle.am_http.specs.declared.request.Endpoint.{Endpoint}
-use Rattle.am_http.specs.declared.request.Endpoint.TheVariants as endpoint
-use Rattle.am_http.specs.declared.request.Method.{Method}
-use Rattle.am_http.specs.declared.request.Method.TheVariants.{Get, Post, Delete}
 use Rattle.am_http.specs.declared.request.Request.{Request}
 use Rattle.am_item.specs.declared.fault.Fault.{Fault}
 use Rattle.am_item.specs.declared.fault.Fault.TheVariants.{CountsExhausted, OutOfMemory, PatternNotBuilt}
 use Rattle.am_item.specs.declared.item.Item.{Item}
-use Rattle.std.specs.List.{Contains}
+use Rattle.std.proofs.lemmas.Bool.{false≢true}
 use Rattle.std.proofs.lemmas.List.{append-nil}
-use Rattle.std.proofs.lemmas.List.Elements.{Contains-append_left}
 use Rattle.am_http.specs.Replies.{ready_reply}
 use Rattle.am_http.specs.declared.refusal.FrontRefusal.{FrontRefusal}
 use Rattle.am_http.specs.declared.request.Fed.TheVariants as fed
@@ -99,34 +94,12 @@ items_have_room old new (Ok d) request here local (inr (refuses, (unbuilt, own))
     let never : 0 < 0 = rw none at some in absurd (omega arith)
 items_have_room old new (Err fault) request here local returned = tt
 
--- of the patterns in use a request asks some
-asks_in_use : (request : Request) (in_use : List (List ℕ)) (text : List ℕ) → Contains (stored_asked request in_use) text → Contains in_use text
-unfolding stored_asked
-asks_in_use request in_use text there = by_endpoint request.endpoint request.method there
-  where
-    none_there : Contains (let none : List (List ℕ) = [] in none) text → ⊥
-    none_there there = let within = there.1 in omega (arith, within)
-
-    by_method : (method : Method) → Contains (asked_by_method method in_use) text → Contains in_use text
-    by_method Get there = there
-    by_method Post there = absurd (none_there there)
-    by_method Delete there = absurd (none_there there)
-
-    by_endpoint : (e : Endpoint) (method : Method) → Contains (asked_by e method in_use) text → Contains in_use text
-    by_endpoint endpoint.Alerts method there = by_method method there
-    by_endpoint endpoint.AlertGroups method there = by_method method there
-    by_endpoint endpoint.Silences method there = absurd (none_there there)
-    by_endpoint (endpoint.Silence name) method there = absurd (none_there there)
-    by_endpoint endpoint.Receivers method there = absurd (none_there there)
-    by_endpoint endpoint.Configuration method there = absurd (none_there there)
-
 pub stops_for : (old new : Cache) (result : Result Decided Fault) (request : Request) (here : Here) (local : Local) →
     Returns old new result request here local → IfErr result (λ fault. StopsFor fault request here local new.refused)
 stops_for old new (Ok d) request here local returned = tt
 stops_for old new (Err OutOfMemory) request here local returned = tt
 stops_for old new (Err CountsExhausted) request here local returned = returned
-stops_for old new (Err PatternNotBuilt) request here local (text, (there, unanswered)) =
-    inl (text, (asks_in_use request _ text there, unanswered))
+stops_for old new (Err PatternNotBuilt) request here local returned = inl returned
 
 -- ---- what it brings is accepted
 
@@ -140,8 +113,7 @@ stops_accepting old between new request limits here local after PatternNotBuilt 
     inr (rw (same, right.0) at stops, subst (AcceptsBuilt request) right.0 built)
 stops_accepting old between new request limits here local after PatternNotBuilt d (inr refused) built same stops =
     let none = no_items d refused.unbuilt in
-    let (text, (there, unanswered)) = rw (same, none) at stops in
-    inl (text, (Contains-append_left _ _ text there, unanswered))
+    elim ((rw (same, none) at stops).0) [ inl alert ↦ absurd (false≢true alert) | inr configuration ↦ absurd (false≢true configuration) ]
 
 -- no pattern that was refused is forgotten
 pub more_asked : {X E : Type 0} (result : Result X E) (texts : List (List ℕ)) (old new : Cache) → HasMore texts old.refused →

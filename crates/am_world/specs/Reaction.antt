@@ -174,14 +174,14 @@ asked_for (fed.Request request) moment locals =
 
 -- ---- faults
 
--- what stops an instance at a request: a count would pass the greatest; a pattern that is in use, or one of the routes that
--- are in use once what was decided is stored, gave no answer, though each that the request brought was built; memory may run
--- out anywhere
+-- what stops an instance at a request: a count would pass the greatest; a pattern in use that the request asks gave no answer, or,
+-- where what was decided is to be planned, one of the routes that are in use once it is stored, though each that the request
+-- brought was built; memory may run out anywhere
 abbrev pub StopsFor : Fault → Request → Here → Local → List (List ℕ) → Type 0
 StopsFor OutOfMemory request here local refused = Unit {0}
 StopsFor CountsExhausted request here local refused = counts_fit (decision_at here request local).items ≡ false
 StopsFor PatternNotBuilt request here local refused =
-    HasUnanswered refused (patterns_in_use (configuration_in local.held) here.moment local.held)
+    HasUnanswered refused (stored_asked request (patterns_in_use (configuration_in local.held) here.moment local.held))
     ⊎ (StopsAccepting refused (decision_at here request local).items local PatternNotBuilt
     × AcceptsBuilt request (decision_at here request local))
 

@@ -1,10 +1,11 @@
-use Rattle.std.proofs.Common.{ap, ◌∙◌}
+use Rattle.std.proofs.Common.{ap, inl, inr, ◌∙◌}
 use Rattle.std.specs.Map.{keys_of}
-use Rattle.std.proofs.lemmas.Result.{on_ok_weaker}
+use Rattle.std.proofs.lemmas.Result.{err_from_is_err_and, on_ok_weaker}
 use Rattle.am_agenda.specs.Plan.{Plan}
 use Rattle.am_agenda.specs.Planned.{plan_of}
 use Rattle.am_replica.specs.Accepting.{followed}
 use Rattle.am_replica.specs.Plans.{planned_by, sinces_in}
+use Rattle.am_replica.proofs.Accepted.{all_with_reason, by_either}
 use Rattle.am_replica.proofs.Followed.{met_anew, met_by}
 use Rattle.am_replica.proofs.Locals.{other, own}
 use Rattle.am_replica.proofs.Changes.{one_changes}
@@ -34,3 +35,11 @@ returns-else-is_new-clause-plans c =
     one_changes s (followed k m sets) (λ t. plan_of t c.args.agenda.now) (λ t. plan_of t c.meet.new.agenda)
     (own s _ _ _ (c.in_ok-meet.ensures.plans s) ∙ met_by k m sets plan c.requires.rising (c.requires.planned c.if-is_new.false))
     (λ t apart. other t s _ _ _ apart (c.in_ok-meet.ensures.plans t))
+
+pub returns-in_err-meet-clause-failure : goal.returns-in_err-meet-clause-failure
+returns-in_err-meet-clause-failure c =
+    let p = err_from_is_err_and c.from_residual.result c.from_residual.ensures.1 in
+    rw (p.1, p.2) (by_either _ _ _ _ (λ some. inl some) c.in_err-meet.ensures.failure)
+
+pub returns-then-is_new-clause-failure : goal.returns-then-is_new-clause-failure
+returns-then-is_new-clause-failure c = all_with_reason _ _ c.plan_all.result (inr c.if-is_new.true) c.plan_all.ensures.failure

@@ -42,3 +42,6 @@ returns-clause-plans c =
     ∙ ap (λ (us : List (List Label × ℕ)). with_alerts (put_all (planned_alerts k us) known) plan) c.in_ok-unknown.ensures.unknown)
     (λ t apart. other t s _ _ _ apart (put t) ∙ other t s _ _ _ apart (c.in_ok-unknown.ensures.plans t)))
     c.plan_new.ensures.plans
+
+pub returns-clause-failure : goal.returns-clause-failure
+returns-clause-failure c = rw c.in_ok-unknown.ensures.unknown at c.plan_new.ensures.failure

@@ -1,4 +1,4 @@
-use Rattle.std.proofs.Common.{◌≡◌, ◌==◌, ◌∷◌, ◌++◌, [], ℕ, Bool, true, List, IfSome, length, refl, sym, ap, ◌∙◌, subst, arith}
+use Rattle.std.proofs.Common.{◌≡◌, ◌==◌, ◌<◌, ◌∷◌, ◌++◌, [], ℕ, Bool, true, false, List, IfSome, length, refl, sym, ap, ◌∙◌, subst, arith}
 use Rattle.std.specs.Map.{lookup}
 use Rattle.std.proofs.lemmas.Bool.Decides.{nat_tests}
 use Rattle.std.proofs.lemmas.List.{nil_from_length}
@@ -14,6 +14,7 @@ use Rattle.am_planning.specs.Planning.{planned_alerts}
 use Rattle.am_route.specs.Asked.{route_matchers}
 use Rattle.am_agenda.specs.Plan.{Plan, with_alert, with_alerts}
 use Rattle.am_agenda.specs.Planned.{plan_of}
+use Rattle.am_replica.proofs.Accepted.{with_reason}
 use Rattle.am_replica.proofs.ByRoutes.{by_more, next_by, next_may, put_more}
 use Rattle.am_replica.proofs.Coming.{Alerts}
 use Rattle.am_replica.proofs.Locals.{other, own}
@@ -55,10 +56,14 @@ loop-labels-preserved c =
           (next_by c.args.config.now c.args.unknown.items plan.grouped.alerts all c.in_ok-planned.ensures.planned c.requires ys p turn.0 turn.1);
     }
 
+some : (xs : List (List Label × ℕ)) (n : ℕ) (b : Bool) → n ≡ length xs → b ≡ (n == 0) → b ≡ false → 0 < length xs
+some xs n b long is filled = grind (arith, nat_tests)
+
 pub returns-in_err-planned-clause-failure : goal.returns-in_err-planned-clause-failure
 returns-in_err-planned-clause-failure c =
     let p = err_from_is_err_and c.from_residual.result c.from_residual.ensures.1 in
-    rw (p.1, p.2) (unanswered_by (route_matchers c.args.config.now.routes) _ _ _ _ (λ text there. there) c.in_err-planned.ensures.failure)
+    rw (p.1, p.2) (with_reason _ _ _ (some c.args.unknown.items _ c.is_empty.result c.args.unknown.ok.0 c.is_empty.ensures c.if-is_empty.false)
+    (unanswered_by (route_matchers c.args.config.now.routes) _ _ _ _ (λ text there. there) c.in_err-planned.ensures.failure))
 
 none : (xs : List (List Label × ℕ)) (n : ℕ) (b : Bool) → n ≡ length xs → b ≡ (n == 0) → b ≡ true → xs ≡ []
 none xs n b long is empty =

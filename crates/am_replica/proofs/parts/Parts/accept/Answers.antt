@@ -72,5 +72,15 @@ pub returns-in-Err-Refused-clause-fault : goal.returns-in-Err-Refused-clause-fau
 unfolding local_of
 returns-in-Err-Refused-clause-fault c =
     let s = c.args.tenant.now in
-    stops c.follow.new.cache.refused c.args.moment c.args.items.items (items_of s c.put_all.new.self) c.in_ok-config.config.now (local_of s c.args.self.now)
-    (own s _ _ _ (c.in_ok-are_new.ensures.joined s)) c.in_ok-config.ensures.configuration (rw c.in-Err-Refused.field-0-is at c.in-Err-Refused.ensures.failure)
+    let r = c.args.self.now in
+    let items = c.args.items.items in
+    let held = items_of s r.holdings in
+    let came : c.in_ok-came.came.items ≡ flagged (map set_of items) (are_new held items) =
+    c.in_ok-came.ensures ∙ ap (λ sets. flagged sets c.in_ok-are_new.are_new.items) (c.in_ok-sets.ensures ∙ ap (map set_of) c.deref.ensures.value)
+    ∙ ap (flagged (map set_of items)) c.in_ok-are_new.ensures.new in
+    let replaced = c.is_replaced-is_new.ensures ∙ ap (λ xs. list_any (replaces (item_at ConfigurationKey xs)) c.deref-2.result.now) c.held.ensures.items
+    ∙ ap (λ xs. list_any (replaces (item_at ConfigurationKey held)) xs) c.deref-2.ensures.value in
+    stops c.follow.new.cache.refused c.args.moment items (items_of s c.put_all.new.self) c.in_ok-config.config.now (local_of s r)
+    (keys_of c.in_ok-came.came.items) c.is_replaced-is_new.result
+    (own s _ _ _ (c.in_ok-are_new.ensures.joined s)) c.in_ok-config.ensures.configuration (ap keys_of came ∙ keys_flagged held items) replaced
+    (rw c.in-Err-Refused.field-0-is at c.in-Err-Refused.ensures.failure)
