@@ -1,7 +1,7 @@
 //! How a scenario ends, and what is told of it.
 
 use crate::scenarios::links::Direct;
-use crate::scenarios::{play_on, setup};
+use crate::scenarios::{ended, play_on, setup};
 use am_expect::{equal, holds};
 use am_play::ending::tell;
 use am_play::lines::LineReader;
@@ -22,16 +22,16 @@ fn ends(
 ) -> Result<(), Fail> {
     let mut written = Vec::new(alloc);
     let mut errors = Vec::new(alloc);
-    let played = play_on(
+    let played = ended(play_on(
         alloc,
         setup()?,
         &mut Direct,
         LineReader::new(alloc, scenario.as_bytes()),
         &mut WholeWriter(&mut written),
         &mut WholeWriter(&mut errors),
-    )?;
-    let ended = tell(&mut WholeWriter(&mut errors), played)?;
-    holds(ended == status, scenario)?;
+    ))?;
+    let told = tell(&mut WholeWriter(&mut errors), played)?;
+    holds(told == status, scenario)?;
     equal(std::str::from_utf8(&written)?, wanted, scenario)?;
     equal(std::str::from_utf8(&errors)?, complaint, scenario)
 }
