@@ -1,0 +1,38 @@
+/**
+ * Makes an element. Attributes that are functions listen to the event of that name; those that are `false` or absent are
+ * left out. Children that are texts become text nodes: no text is ever taken as HTML.
+ */
+export function element(tag, attributes = {}, ...children) {
+  const made = document.createElement(tag);
+  for (const [name, value] of Object.entries(attributes)) {
+    setAttribute(made, name, value);
+  }
+  made.append(...children.filter((child) => child !== null && child !== undefined));
+  return made;
+}
+
+function setAttribute(made, name, value) {
+  if (typeof value === "function") {
+    made.addEventListener(name, value);
+  } else if (value !== false && value !== null && value !== undefined) {
+    made.setAttribute(name, value === true ? "" : value);
+  }
+}
+
+/** The element of the page that has this identifier. */
+export function byId(id) {
+  return document.getElementById(id);
+}
+
+/** A number with its noun: `1 alert`, `10,000 alerts`. */
+export function count(number, noun) {
+  return `${number.toLocaleString("en")} ${noun}${number === 1 ? "" : "s"}`;
+}
+
+/** A text, as a link where the whole of it is an address of the web; no other scheme is followed. */
+export function textOrLink(text) {
+  if (!/^https?:\/\/\S+$/i.test(text)) {
+    return text;
+  }
+  return element("a", { href: text, target: "_blank", rel: "noopener noreferrer" }, text);
+}

@@ -1,0 +1,60 @@
+import { byId, count, element } from "./elements.js";
+import { labelMatchers, printMatcher, readMatchers } from "./matchers.js";
+import { readAlerts, refusal } from "./server.js";
+
+/** Milliseconds without a key after which the server is asked. */
+const PAUSE = 300;
+/** So many alerts are named. */
+const MOST_NAMED = 20;
+
+/** Says which of the firing alerts a text of matchers takes, by the server's own judgement. */
+export class Preview {
+  #place = byId("preview");
+  #timer = 0;
+  #controller = new AbortController();
+
+  showSoon(text) {
+    this.stop();
+    this.#timer = setTimeout(() => this.show(text), PAUSE);
+  }
+
+  async show(text) {
+    this.stop();
+    const { signal } = this.#controller;
+    try {
+      const drawn = await drawPreview(text, signal);
+      this.#place.replaceChildren(...drawn);
+    } catch (failure) {
+      if (!signal.aborted) {
+        this.#place.replaceChildren(element("p", { class: "failure" }, `${failure.message} ${failure.advice}`));
+      }
+    }
+  }
+
+  /** Asks no more for what was to be shown. */
+  stop() {
+    clearTimeout(this.#timer);
+    this.#controller.abort();
+    this.#controller = new AbortController();
+  }
+}
+
+async function drawPreview(text, signal) {
+  if (text === "") {
+    return [element("p", { class: "quiet" }, "Say which alerts to silence.")];
+  }
+  if (!readMatchers(text)) {
+    throw refusal("M1");
+  }
+  const alerts = await readAlerts(text, signal);
+  const named = alerts.slice(0, MOST_NAMED).map(({ labels }) => element("li", {}, nameOf(labels)));
+  const left = alerts.length - named.length;
+  return [
+    element("p", {}, alerts.length > 0 ? `Takes ${count(alerts.length, "alert")} of those that fire now:` : "Takes no alert that fires now."),
+    element("ul", {}, ...named, left > 0 ? element("li", { class: "quiet" }, `and ${count(left, "more alert")}`) : null),
+  ];
+}
+
+function nameOf({ alertname, ...others }) {
+  return [alertname, labelMatchers(others).map(printMatcher).join(", ")].filter(Boolean).join(" ");
+}
