@@ -80,7 +80,7 @@ export class AlertsView {
   }
 
   /** How many alerts are active. */
-  urgent() {
+  active() {
     return [...this.#distinct().values()].filter((alert) => alert.status.state === "active").length;
   }
 

@@ -106,6 +106,7 @@ class Page {
       this.#failure = failure;
     }
     this.#tellFailure();
+    this.#tellTitle();
     const pause = Math.max(PERIOD, LONGEST_SHARE * (performance.now() - begun));
     this.#timer = setTimeout(() => this.#refresh(), pause);
   }
@@ -118,8 +119,10 @@ class Page {
     ]);
     this.#readAt = now();
     this.#redraw();
-    this.#list.reveal(this.#toReveal && this.#view().keyOf(this.#toReveal));
-    this.#toReveal = "";
+    if (this.#toReveal) {
+      this.#list.reveal(this.#view().keyOf(this.#toReveal));
+      this.#toReveal = "";
+    }
   }
 
   #redraw() {
@@ -146,14 +149,18 @@ class Page {
     if (this.#readAt === null) {
       byId("summary").textContent = "";
     }
-    const view = this.#view();
-    const mark = this.#failure ? "(!) " : view.urgent() > 0 ? `(${view.urgent()}) ` : "";
-    document.title = `${mark}${view.title} · ${tenant()}`;
     this.#tellTime();
   }
 
+  /** The title tells a reader of other pages how many alerts are active, and whether that is known. */
+  #tellTitle() {
+    const view = this.#view();
+    const active = view.active();
+    const mark = this.#failure ? "(!) " : active > 0 ? `(${active}) ` : "";
+    document.title = `${mark}${view.title} · ${tenant()}`;
+  }
+
   async #expire(id) {
-    this.#redraw();
     try {
       await expireSilence(id);
       this.#done("The silence has expired.");

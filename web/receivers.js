@@ -16,7 +16,7 @@ export class ReceiversView {
         size.active += alert.status.state === "active" ? 1 : 0;
       }
     }
-    this.#receivers = [...sizes].map(([name, size]) => ({ key: name, name, ...size }));
+    this.#receivers = [...sizes].map(([name, size]) => ({ key: `receiver ${name}`, name, ...size }));
   }
 
   items() {
@@ -31,7 +31,7 @@ export class ReceiversView {
     return count(this.#receivers.length, "receiver");
   }
 
-  urgent() {
+  active() {
     return 0;
   }
 

@@ -5,13 +5,14 @@ import { REFUSALS } from "./refusals.js";
 /** Beside the folder that the page is served from; without the name and password that the page's own address may have. */
 const API = new URL("../alertmanager/api/v2/", location.origin + location.pathname);
 /** Milliseconds after which a request counts as unanswered. */
-const LONGEST = 20000;
-const NO_CODE = {
-  401: "Sign in again: the proxy doesn't know who asks.",
-  403: "The proxy doesn't let this request through.",
-  502: "The proxy answers, but amring behind it doesn't.",
-  503: "The proxy answers, but amring behind it doesn't.",
-  504: "The proxy answers, but amring behind it doesn't.",
+const LONGEST = 30000;
+/** What a proxy's own answers mean, which have no code of amring's. */
+const SAYS_PROXY = {
+  401: ["The proxy doesn't know who asks.", "Load the page again to sign in."],
+  403: ["The proxy doesn't let this request through.", "Ask whoever runs it."],
+  502: ["The proxy answers, but amring behind it doesn't.", "See that amring runs."],
+  503: ["The proxy answers, but amring behind it doesn't.", "See that amring runs."],
+  504: ["The proxy answers, but amring behind it takes too long.", "See that amring runs."],
 };
 
 /** Why a request gave nothing, and what to do, in words. */
@@ -29,12 +30,12 @@ export function refusal(code) {
 }
 
 async function failureOf(reply) {
-  const body = await reply.text();
-  try {
-    return refusal(JSON.parse(body).code);
-  } catch {
-    return new Failure(`The proxy answered with status ${reply.status}.`, NO_CODE[reply.status] ?? "");
+  const body = await reply.json().catch(() => null);
+  if (body?.code) {
+    return refusal(body.code);
   }
+  const [headline, advice] = SAYS_PROXY[reply.status] ?? ["The proxy doesn't do it.", "Ask whoever runs it."];
+  return new Failure(`${headline} (Status ${reply.status}.)`, advice);
 }
 
 async function send(method, path, { parameters = [], body, signal }) {
@@ -43,7 +44,12 @@ async function send(method, path, { parameters = [], body, signal }) {
   const signals = [AbortSignal.timeout(LONGEST), ...(signal ? [signal] : [])];
   let reply;
   try {
-    reply = await fetch(url, { method, body: body && JSON.stringify(body), signal: AbortSignal.any(signals) });
+    reply = await fetch(url, {
+      method,
+      body: body && JSON.stringify(body),
+      cache: "no-store",
+      signal: AbortSignal.any(signals),
+    });
   } catch (error) {
     signal?.throwIfAborted();
     const isLate = error.name === "TimeoutError";
@@ -67,7 +73,7 @@ async function ask(method, path, options = {}) {
   try {
     return text === "" ? null : JSON.parse(text);
   } catch {
-    throw new Failure("The reply broke off or isn't amring's.", "See that the proxy passes /alertmanager/ on to amring.");
+    throw new Failure("The reply broke off or isn't amring's.", "Load the page again: the proxy may want you to sign in.");
   }
 }
 

@@ -59,7 +59,7 @@ export class SilencesView {
     return `${count(this.#silences.length, "silence")}: ${numbers.join(", ")}`;
   }
 
-  urgent() {
+  active() {
     return 0;
   }
 
@@ -118,7 +118,7 @@ export class SilencesView {
   }
 
   #expire(id) {
-    this.#asked = "";
+    this.#ask("");
     this.#hooks.expire(id);
   }
 }
