@@ -9,6 +9,14 @@ import time
 LONGEST = 30
 
 
+# The middle of an element, once it is in view.
+MIDDLE = """((element) => {{
+    element.scrollIntoView({{ block: 'center' }});
+    const box = element.getBoundingClientRect();
+    return [box.x + box.width / 2, box.y + box.height / 2];
+}})({})"""
+
+
 class Chromium:
     """A running Chromium with one page."""
 
@@ -20,9 +28,9 @@ class Chromium:
         self.into, from_browser = os.pipe()
         # Chromium reads from descriptor 3 and writes to descriptor 4.
         script = f'exec chromium "$@" 3<&{to_browser} 4>&{from_browser}'
-        options = ["--headless=new", "--no-sandbox", "--remote-debugging-pipe", "--disable-gpu", "--hide-scrollbars", "--no-first-run"]
+        options = ["--headless=new", "--no-sandbox", "--remote-debugging-pipe", "--disable-gpu", "--hide-scrollbars"]
         # No request but those of the page.
-        options += ["--disable-background-networking", "--disable-component-update", "--disable-sync"]
+        options += ["--no-first-run", "--disable-background-networking", "--disable-component-update", "--disable-sync"]
         self.process = subprocess.Popen(
             ["bash", "-c", script, "chromium", *options, f"--user-data-dir={folder}"],
             pass_fds=(to_browser, from_browser),
@@ -98,13 +106,13 @@ class Chromium:
 
     def click(self, script):
         """Clicks, by the mouse, in the middle of the element that an expression gives."""
-        place = f"(e => {{ e.scrollIntoView({{block: 'center'}}); const b = e.getBoundingClientRect(); return [b.x + b.width / 2, b.y + b.height / 2]; }})({script})"
-        x, y = self.run(place)
+        x, y = self.run(MIDDLE.format(script))
         for kind in ("mousePressed", "mouseReleased"):
             self.send("Input.dispatchMouseEvent", type=kind, x=x, y=y, button="left", clickCount=1)
 
     def resize(self, width, height):
-        self.send("Emulation.setDeviceMetricsOverride", width=width, height=height, deviceScaleFactor=1, mobile=width < 600)
+        size = {"width": width, "height": height, "deviceScaleFactor": 1, "mobile": width < 600}
+        self.send("Emulation.setDeviceMetricsOverride", **size)
 
     def prefer(self, scheme):
         """Has the reader prefer `light` or `dark`."""

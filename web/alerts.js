@@ -1,6 +1,6 @@
 import { printMoment, toldMoment } from "./clock.js";
 import { printAddress } from "./address.js";
-import { count, element, textOrLink } from "./elements.js";
+import { button, count, element, textOrLink } from "./elements.js";
 import { labelMatcher, labelMatchers, printMatcher, printMatchers, withMatcher } from "./matchers.js";
 import { readAlerts, readGroups, readSilences, silenceName } from "./server.js";
 
@@ -91,7 +91,7 @@ export class AlertsView {
 
   /** Whether all groups are folded. */
   areFolded() {
-    return this.#groups.every(({ key }) => this.#folded.has(key));
+    return this.#groups.length > 0 && this.#groups.every(({ key }) => this.#folded.has(key));
   }
 
   /** Folds all groups, or unfolds them where all are folded. */
@@ -171,18 +171,16 @@ export class AlertsView {
       element(
         "span",
         { class: "title" },
-        this.#foldButton(key, size, isFolded),
+        button(`${isFolded ? "▸" : "▾"} ${size}`, "Enter", () => this.#fold(key), { "aria-expanded": !isFolded }),
         element("span", { class: "quiet" }, `to ${receiver || "a receiver without a name"}`),
         drawLabels(labels)
       ),
-      labels.length > 0 ? element("span", { class: "acts" }, this.#silenceButton("Silence group", own)) : null
+      labels.length > 0
+        ? element("span", { class: "acts" }, button("Silence group", "s", () => this.#hooks.silence(own)))
+        : null
     );
   }
 
-  #foldButton(key, size, isFolded) {
-    const attributes = { "aria-expanded": String(!isFolded), "aria-keyshortcuts": "Enter", click: () => this.#fold(key) };
-    return element("button", attributes, element("span", { "aria-hidden": "true" }, isFolded ? "▸" : "▾"), ` ${size}`);
-  }
 
   #drawAlert({ key, name, text, states, startsAt, labels, mutes, isMarked, details }) {
     const own = Object.fromEntries(labels.map((label) => [label.name, label.value]));
@@ -199,22 +197,18 @@ export class AlertsView {
           ...states.map((state) => element("span", { class: `state ${state}` }, state)),
           element("span", { class: "quiet" }, toldMoment("since", startsAt))
         ),
-        element("span", { class: "acts" }, this.#silenceButton("Silence", own), this.#detailsButton(key, details !== null))
+        element(
+          "span",
+          { class: "acts" },
+          button("Silence", "s", () => this.#hooks.silence(own)),
+          button(details ? "Less" : "More", "Enter", () => this.#open(key), { "aria-expanded": details !== null })
+        )
       ),
       text ? element("p", {}, text) : null,
       drawLabels(labels.filter((label) => label.name !== "alertname")),
       ...mutes.map(({ how, name: by, href }) => element("p", { class: "mute" }, `${how} `, element("a", { href }, by))),
       details && drawDetails(details)
     );
-  }
-
-  #silenceButton(text, labels) {
-    return element("button", { "aria-keyshortcuts": "s", click: () => this.#hooks.silence(labels) }, text);
-  }
-
-  #detailsButton(key, isOpen) {
-    const attributes = { "aria-expanded": String(isOpen), "aria-keyshortcuts": "Enter", click: () => this.#open(key) };
-    return element("button", attributes, isOpen ? "Less" : "More");
   }
 
   #fold(key) {
@@ -285,12 +279,9 @@ function drawDetails(details) {
 }
 
 function drawLabels(labels) {
-  const drawn = labels.map(({ name, value, href }) =>
-    element(
-      "li",
-      {},
-      element("a", { href, title: "Show only alerts with this label" }, element("span", { class: "quiet" }, `${name}=`), value)
-    )
-  );
+  const drawn = labels.map(({ name, value, href }) => {
+    const link = { href, title: "Show only alerts with this label" };
+    return element("li", {}, element("a", link, element("span", { class: "quiet" }, `${name}=`), value));
+  });
   return element("ul", { class: "labels" }, ...drawn);
 }

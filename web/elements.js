@@ -1,6 +1,6 @@
 /**
- * Makes an element. Attributes that are functions listen to the event of that name; those that are `false` or absent are
- * left out. Children that are texts become text nodes: no text is ever taken as HTML.
+ * Makes an element. Attributes that are functions listen to the event of that name; absent ones are left out. Children
+ * that are texts become text nodes: no text is ever taken as HTML.
  */
 export function element(tag, attributes = {}, ...children) {
   const made = document.createElement(tag);
@@ -14,9 +14,14 @@ export function element(tag, attributes = {}, ...children) {
 function setAttribute(made, name, value) {
   if (typeof value === "function") {
     made.addEventListener(name, value);
-  } else if (value !== false && value !== null && value !== undefined) {
-    made.setAttribute(name, value === true ? "" : value);
+  } else if (value !== null && value !== undefined) {
+    made.setAttribute(name, value);
   }
+}
+
+/** A button that a key clicks too, while its row has the focus. */
+export function button(text, key, click, attributes = {}) {
+  return element("button", { "aria-keyshortcuts": key, click, ...attributes }, text);
 }
 
 /** The element of the page that has this identifier. */

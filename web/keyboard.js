@@ -24,8 +24,10 @@ function isField(target) {
   return target.matches("textarea, select, input:not([type=checkbox])");
 }
 
+/** Escape leaves a field as it is, though browsers would empty some. */
 function leaveBy(event) {
   if (event.key === "Escape") {
+    event.preventDefault();
     event.target.blur();
   }
 }

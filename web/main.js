@@ -12,15 +12,16 @@ import { SilenceForm } from "./silence-form.js";
 import { SilencesView } from "./silences.js";
 import { WindowedList } from "./windowed.js";
 
-/** Milliseconds from one refresh to the next; more where one takes long, so that it takes a twentieth of the time at most. */
+/** Milliseconds from one refresh to the next. */
 const PERIOD = 15000;
-const LONGEST_SHARE = 20;
+/** Or so many times as long as the last one took, where that is more. */
+const REST = 20;
 /** Milliseconds for which is told what was done. */
 const TOLD = 8000;
 
 /** The page: which view is shown, when it was read last, and what is told of it. */
 class Page {
-  #form = new SilenceForm((endsAt) => this.#done(`Silenced until ${printMoment(Date.parse(endsAt))}.`));
+  #form = new SilenceForm((endsAt) => this.#done(`Saved: it ends ${printMoment(Date.parse(endsAt))}.`));
   #views = {
     alerts: new AlertsView({ silence: (labels) => this.#form.openFor(labels), redraw: () => this.#redraw() }),
     silences: new SilencesView({
@@ -76,17 +77,22 @@ class Page {
     this.#address = address;
     this.#toReveal = address.marked;
     this.#query.show(address);
-    for (const link of document.querySelectorAll("nav a")) {
-      link.toggleAttribute("aria-current", link.hash === `#${address.view}`);
-    }
     if (isOther) {
-      this.#readAt = null;
-      this.#list.show([]);
-      byId("summary").textContent = "Loading";
-      byId("fold").hidden = address.view !== "alerts";
+      this.#begin(address.view);
     }
     scrollTo(0, 0);
     this.#refresh();
+  }
+
+  /** Begins a view of which nothing was read yet. */
+  #begin(view) {
+    this.#readAt = null;
+    this.#list.show([]);
+    byId("summary").textContent = "Loading";
+    byId("fold").hidden = view !== "alerts";
+    for (const link of document.querySelectorAll("nav a")) {
+      link.setAttribute("aria-current", link.hash === `#${view}` ? "page" : "false");
+    }
   }
 
   /** Reads what the view shows, and again after a while. */
@@ -107,7 +113,7 @@ class Page {
     }
     this.#tellFailure();
     this.#tellTitle();
-    const pause = Math.max(PERIOD, LONGEST_SHARE * (performance.now() - begun));
+    const pause = Math.max(PERIOD, REST * (performance.now() - begun));
     this.#timer = setTimeout(() => this.#refresh(), pause);
   }
 

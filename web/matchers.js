@@ -1,4 +1,4 @@
-/** Texts of matchers, as docs/SPECIFICATION.md has them. A matcher is `{ name, value, isRegex, isEqual }`, as in a silence. */
+/** Texts of matchers, as docs/SPECIFICATION.md has them; a matcher is `{ name, value, isRegex, isEqual }`. */
 
 const NAME = /^ *([A-Za-z_][A-Za-z0-9_]*) */;
 const OPERATOR = /^(=~|!~|!=|=) */;

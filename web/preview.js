@@ -14,12 +14,12 @@ export class Preview {
   #controller = new AbortController();
 
   showSoon(text) {
-    this.stop();
+    this.#stop();
     this.#timer = setTimeout(() => this.show(text), PAUSE);
   }
 
   async show(text) {
-    this.stop();
+    this.#stop();
     const { signal } = this.#controller;
     try {
       const drawn = await drawPreview(text, signal);
@@ -31,8 +31,13 @@ export class Preview {
     }
   }
 
+  close() {
+    this.#stop();
+    this.#place.replaceChildren();
+  }
+
   /** Asks no more for what was to be shown. */
-  stop() {
+  #stop() {
     clearTimeout(this.#timer);
     this.#controller.abort();
     this.#controller = new AbortController();
@@ -47,11 +52,16 @@ async function drawPreview(text, signal) {
     throw refusal("M1");
   }
   const alerts = await readAlerts(text, signal);
-  const named = alerts.slice(0, MOST_NAMED).map(({ labels }) => element("li", {}, nameOf(labels)));
-  const left = alerts.length - named.length;
+  if (alerts.length === 0) {
+    return [element("p", {}, "Takes no alert that fires now.")];
+  }
+  const names = alerts.slice(0, MOST_NAMED).map(({ labels }) => nameOf(labels));
+  if (alerts.length > MOST_NAMED) {
+    names.push(`and ${count(alerts.length - MOST_NAMED, "more alert")}`);
+  }
   return [
-    element("p", {}, alerts.length > 0 ? `Takes ${count(alerts.length, "alert")} of those that fire now:` : "Takes no alert that fires now."),
-    element("ul", {}, ...named, left > 0 ? element("li", { class: "quiet" }, `and ${count(left, "more alert")}`) : null),
+    element("p", {}, `Takes ${count(alerts.length, "alert")} of those that fire now:`),
+    element("ul", {}, ...names.map((name) => element("li", {}, name))),
   ];
 }
 

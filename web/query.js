@@ -1,3 +1,4 @@
+import { printAddress } from "./address.js";
 import { byId, element } from "./elements.js";
 import { readReceivers } from "./server.js";
 
@@ -56,8 +57,9 @@ export class Query {
   #offer() {
     const { receiver } = this.#address;
     const names = receiver === null || this.#names.includes(receiver) ? this.#names : [...this.#names, receiver];
-    const options = names.map((name) => element("option", { value: name, selected: name === receiver }, name));
+    const options = names.map((name) => element("option", { value: name }, name || "(without a name)"));
     this.#receiver.replaceChildren(element("option", {}, "all"), ...options);
+    this.#receiver.selectedIndex = receiver === null ? 0 : names.indexOf(receiver) + 1;
   }
 
   #tellSoon() {
@@ -70,6 +72,9 @@ export class Query {
     const shown = Object.fromEntries([...this.#boxes()].map((box) => [box.name, box.checked]));
     const { selectedIndex, value } = this.#receiver;
     const receiver = selectedIndex === 0 ? null : value;
-    this.#changed({ ...this.#address, ...shown, receiver, filter: this.#filter.value.trim(), marked: "" });
+    const address = { ...this.#address, ...shown, receiver, filter: this.#filter.value.trim() };
+    if (printAddress(address) !== printAddress(this.#address)) {
+      this.#changed({ ...address, marked: "" });
+    }
   }
 }

@@ -2,7 +2,7 @@ import { setByServer } from "./clock.js";
 import { printMatchers } from "./matchers.js";
 import { REFUSALS } from "./refusals.js";
 
-/** Beside the folder that the page is served from; without the name and password that the page's own address may have. */
+/** Beside the folder that the page is served from, without the name and password that the page's address may have. */
 const API = new URL("../alertmanager/api/v2/", location.origin + location.pathname);
 /** Milliseconds after which a request counts as unanswered. */
 const LONGEST = 30000;
@@ -73,7 +73,7 @@ async function ask(method, path, options = {}) {
   try {
     return text === "" ? null : JSON.parse(text);
   } catch {
-    throw new Failure("The reply broke off or isn't amring's.", "Load the page again: the proxy may want you to sign in.");
+    throw new Failure("The reply broke off or isn't amring's.", "Load the page again: you may have to sign in.");
   }
 }
 

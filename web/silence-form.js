@@ -20,9 +20,9 @@ const DRAFT = `amring-silence ${location.pathname}`;
 const AUTHOR = "amring-author";
 
 /**
- * The form that makes or changes a silence. What is typed stays until it is saved or dropped: over refreshes, refusals and
- * reloads of the page. Beside what is in its fields the form has a subject: its title, the labels that it began with, and
- * of the silence that it changes, if any, what that was: `{ title, labels, old }`.
+ * The form that makes or changes a silence. What is typed stays until it is saved or dropped: over refreshes, refusals
+ * and reloads of the page. Beside its fields the form has a subject, `{ title, labels, old }`: the labels that it began
+ * with, and the silence that it changes, if any, as it was.
  */
 export class SilenceForm {
   #dialog = byId("silence");
@@ -114,7 +114,7 @@ export class SilenceForm {
   }
 
   #drop() {
-    this.#preview.stop();
+    this.#preview.close();
     forget("sessionStorage", DRAFT);
   }
 
@@ -136,12 +136,12 @@ export class SilenceForm {
       const matcher = labelMatcher(name, value);
       const isIn = hasMatcher(text, matcher);
       const click = () => this.#set("matchers", (isIn ? withoutMatcher : withMatcher)(text, matcher));
-      return element("button", { type: "button", "aria-pressed": String(isIn), click }, `${name}=${value}`);
+      return element("button", { type: "button", "aria-pressed": isIn, click }, `${name}=${value}`);
     });
     byId("labels").replaceChildren(...buttons);
   }
 
-  /** Says until when the silence would hold and whether it would be another one; holds it back where there is no end. */
+  /** Says until when the silence would hold, and whether it would be another one; holds it back without an end. */
   #drawEffect() {
     const end = this.#end();
     byId("lasts").setCustomValidity(end === null ? "Say how long, as 1h30m, or until when." : "");

@@ -1,6 +1,6 @@
 import { printMoment, toldMoment } from "./clock.js";
 import { printAddress } from "./address.js";
-import { count, element } from "./elements.js";
+import { button, count, element } from "./elements.js";
 import { printMatcher, printMatchers } from "./matchers.js";
 import { readSilences } from "./server.js";
 
@@ -67,7 +67,8 @@ export class SilencesView {
     if (!silence) {
       return { key, state, size };
     }
-    return { key, silence: withoutClock(silence), isAsked: this.#asked === key, isMarked: this.#address.marked === key };
+    const isMarked = this.#address.marked === key;
+    return { key, silence: withoutClock(silence), isAsked: this.#asked === key, isMarked };
   }
 
   draw(description) {
@@ -125,10 +126,6 @@ export class SilencesView {
 
 function compare(a, b) {
   return Date.parse(a) - Date.parse(b);
-}
-
-function button(text, key, click) {
-  return element("button", { "aria-keyshortcuts": key, click }, text);
 }
 
 /** A silence without what changes though it doesn't. */

@@ -7,9 +7,9 @@ const MOST_LOOKS = 5;
 const FOCUSABLE = "a[href], button";
 
 /**
- * A list of any length in the page's own scrolling, with only those rows in the document that are near to what is seen.
- * Rows may be of any height. Each item has a `key` of its own; `describe` says as plain data all that its row shows, and
- * `draw` makes the row of that: a row stays as it is, focus and all, while what is said of it does.
+ * A list of any length in the page's own scrolling, with only those rows in the document that are near to what is
+ * seen. Rows may be of any height. Each item has a `key` of its own; `describe` says as plain data all that its row
+ * shows, and `draw` makes the row of that: a row stays as it is, focus and all, while what is said of it does.
  */
 export class WindowedList {
   #container;
@@ -103,13 +103,17 @@ export class WindowedList {
     return low;
   }
 
-  /** The first row that is seen, and how far below the window's top it begins; null where the list begins in view. */
+  /**
+   * The row that is to stay where it is, and how far below the window's top it begins: the first that is seen, or at
+   * the page's end the last. Null where the list begins in view.
+   */
   #anchor() {
     const hidden = scrollY - this.#offset();
     if (hidden <= 0 || this.#items.length === 0) {
       return null;
     }
-    const place = this.#placeAt(hidden);
+    const isAtEnd = scrollY + innerHeight >= document.documentElement.scrollHeight - 1;
+    const place = isAtEnd ? this.#items.length - 1 : this.#placeAt(hidden);
     return { key: this.#items[place].key, below: this.#tops[place] - hidden };
   }
 
