@@ -90,6 +90,15 @@ class Site:
         except urllib.error.HTTPError as refused:
             return refused.code, json.loads(refused.read())
 
+    def ask_nginx(self, path, headers):
+        """The status that nginx replies to a GET."""
+        request = urllib.request.Request(f"{self.origin}/{TENANT}/{path}", headers=headers)
+        try:
+            with urllib.request.urlopen(request, timeout=30) as reply:
+                return reply.status
+        except urllib.error.HTTPError as refused:
+            return refused.code
+
     def stop(self, *processes):
         for process in processes or (self.amring, self.nginx):
             process.terminate()

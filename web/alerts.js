@@ -1,6 +1,6 @@
 import { printMoment, toldMoment } from "./clock.js";
 import { printAddress } from "./address.js";
-import { button, count, element, textOrLink } from "./elements.js";
+import { button, count, countStates, element, textOrLink } from "./elements.js";
 import { labelMatcher, labelMatchers, printMatcher, printMatchers, withMatcher } from "./matchers.js";
 import { readAlerts, readGroups, readSilences, silenceName } from "./server.js";
 
@@ -73,10 +73,8 @@ export class AlertsView {
     if (alerts.length === 0) {
       return "No alert fires that this view shows.";
     }
-    const numbers = ["active", "silenced", "inhibited"].map(
-      (state) => `${alerts.filter((alert) => statesOf(alert).includes(state)).length.toLocaleString("en")} ${state}`
-    );
-    return `${count(alerts.length, "alert")} in ${count(this.#groups.length, "group")}: ${numbers.join(", ")}`;
+    const numbers = countStates(alerts, statesOf);
+    return `${count(alerts.length, "alert")} in ${count(this.#groups.length, "group")}: ${numbers}`;
   }
 
   /** How many alerts are active. */

@@ -34,6 +34,16 @@ export function count(number, noun) {
   return `${number.toLocaleString("en")} ${noun}${number === 1 ? "" : "s"}`;
 }
 
+/** How many things are in each state: `4 active, 1 inhibited`. `statesOf` gives the states of one. */
+export function countStates(things, statesOf) {
+  const numbers = new Map();
+  for (const state of things.flatMap(statesOf)) {
+    numbers.set(state, (numbers.get(state) ?? 0) + 1);
+  }
+  const sorted = [...numbers].sort(([a], [b]) => (a < b ? -1 : 1));
+  return sorted.map(([state, number]) => `${number.toLocaleString("en")} ${state}`).join(", ");
+}
+
 /** A text, as a link where the whole of it is an address of the web; no other scheme is followed. */
 export function textOrLink(text) {
   if (!/^https?:\/\/\S+$/i.test(text)) {

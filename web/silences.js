@@ -1,6 +1,6 @@
 import { printMoment, toldMoment } from "./clock.js";
 import { printAddress } from "./address.js";
-import { button, count, element } from "./elements.js";
+import { button, count, countStates, element } from "./elements.js";
 import { printMatcher, printMatchers } from "./matchers.js";
 import { readSilences } from "./server.js";
 
@@ -55,8 +55,8 @@ export class SilencesView {
     if (this.#silences.length === 0) {
       return filter ? "No silence has these matchers." : "There are no silences.";
     }
-    const numbers = Object.keys(ORDERS).map((state) => `${this.#in(state).length.toLocaleString("en")} ${state}`);
-    return `${count(this.#silences.length, "silence")}: ${numbers.join(", ")}`;
+    const numbers = countStates(this.#silences, ({ status }) => [status.state]);
+    return `${count(this.#silences.length, "silence")}: ${numbers}`;
   }
 
   active() {
