@@ -87,7 +87,7 @@ class Page {
   /** Begins a view of which nothing was read yet. */
   #begin(view) {
     this.#readAt = null;
-    this.#list.show([]);
+    this.#list.clear();
     byId("summary").textContent = "Loading";
     byId("fold").hidden = view !== "alerts";
     for (const link of document.querySelectorAll("nav a")) {

@@ -22,7 +22,8 @@ export class WindowedList {
   #drawn = new Map();
   #width = innerWidth;
   #isWaiting = false;
-  #current = "";
+  /** The item whose row had the focus last, and its place then, from which to go on where the item is gone. */
+  #current = { key: "", place: -1 };
 
   constructor(container, describe, draw) {
     this.#container = container;
@@ -31,7 +32,8 @@ export class WindowedList {
     addEventListener("scroll", () => this.#fillSoon(), { passive: true });
     addEventListener("resize", () => this.#fillSoon());
     container.addEventListener("focusin", (event) => {
-      this.#current = event.target.closest("[data-key]").dataset.key;
+      const { key } = event.target.closest("[data-key]").dataset;
+      this.#current = { key, place: this.#places.get(key) };
     });
   }
 
@@ -42,6 +44,12 @@ export class WindowedList {
     this.#places = new Map(items.map(({ key }, place) => [key, place]));
     this.#sumHeights();
     this.#fill(anchor);
+  }
+
+  /** Shows nothing, and begins at the top again. */
+  clear() {
+    this.#current = { key: "", place: -1 };
+    this.show([]);
   }
 
   /** Makes a change above the list, and keeps the rows that are seen where they are. */
@@ -66,13 +74,11 @@ export class WindowedList {
     row.scrollIntoView({ block: "nearest" });
   }
 
-  /** Goes so many rows on from the one that had the focus last, or to the first. */
+  /** Goes so many rows on from the one that had the focus last. */
   step(by) {
-    const place = this.#places.get(this.#current);
-    const next = place === undefined ? 0 : Math.min(Math.max(place + by, 0), this.#items.length - 1);
-    if (next < this.#items.length) {
-      this.reveal(this.#items[next].key);
-    }
+    const place = this.#places.get(this.#current.key) ?? this.#current.place;
+    const next = Math.max(Math.min(place + by, this.#items.length - 1), 0);
+    this.reveal(this.#items[next]?.key);
   }
 
   /** The pixel of the page at which the list begins. */
