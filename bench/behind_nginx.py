@@ -1,4 +1,5 @@
 """`amring serve` behind nginx, with the block of docs/OPERATING.md, for bench/page."""
+import base64
 import json
 import os
 import re
@@ -12,6 +13,9 @@ import urllib.request
 
 ROOT = os.path.dirname(os.path.dirname(os.path.abspath(__file__)))
 TENANT = "team-a"
+USER = "ann"
+PASSWORD = "secret"
+SIGNED_IN = {"Authorization": "Basic " + base64.b64encode(f"{USER}:{PASSWORD}".encode()).decode()}
 # As bin/amring sets them: else the C library gives memory back after each long reply, and takes it again for the next.
 KEEPS_MEMORY = {"MALLOC_TRIM_THRESHOLD_": "134217728", "MALLOC_MMAP_THRESHOLD_": "33554432"}
 
@@ -53,7 +57,7 @@ class Site:
         )
         block = block.replace("/etc/nginx/team-a", os.path.join(self.folder, "users"))
         with open(os.path.join(self.folder, "users"), "w") as file:
-            file.write("ann:{PLAIN}secret\n")
+            file.write(f"{USER}:{{PLAIN}}{PASSWORD}\n")
         folders = "".join(
             f"{kind}_temp_path {self.folder}/{kind};" for kind in ("client_body", "proxy", "fastcgi", "uwsgi", "scgi")
         )
@@ -76,7 +80,7 @@ class Site:
         wait_for(self.web_port)
 
     def address(self, hash=""):
-        return f"{self.origin.replace('//', '//ann:secret@')}/{TENANT}/on-call/{hash}"
+        return f"{self.origin.replace('//', f'//{USER}:{PASSWORD}@')}/{TENANT}/on-call/{hash}"
 
     def ask(self, method, path, body=None):
         """What amring itself, not nginx, replies: status and body."""

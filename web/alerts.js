@@ -10,6 +10,8 @@ export class AlertsView {
   #hooks;
   #address;
   #groups = [];
+  /** The alerts, each once, though it may be in several groups. */
+  #alerts = [];
   #silences = new Map();
   #labels = new Map();
   #opened = new Set();
@@ -26,6 +28,7 @@ export class AlertsView {
     const isMarkedAnew = address.marked !== this.#address?.marked;
     this.#address = address;
     this.#groups = withKeys(groups);
+    this.#alerts = distinct(groups);
     if (isMarkedAnew) {
       this.#unfoldMarked();
     }
@@ -59,7 +62,7 @@ export class AlertsView {
   items() {
     return this.#groups.flatMap((group) => [
       { key: group.key, group },
-      ...(this.#folded.has(group.key) ? [] : group.alerts.map((alert) => itemOf(group, alert))),
+      ...(this.#folded.has(group.key) ? [] : group.alerts.map((alert) => ({ key: alert.key, alert }))),
     ]);
   }
 
@@ -69,22 +72,16 @@ export class AlertsView {
   }
 
   summary() {
-    const alerts = [...this.#distinct().values()];
-    if (alerts.length === 0) {
+    if (this.#alerts.length === 0) {
       return "No alert fires that this view shows.";
     }
-    const numbers = countStates(alerts, statesOf);
-    return `${count(alerts.length, "alert")} in ${count(this.#groups.length, "group")}: ${numbers}`;
+    const numbers = countStates(this.#alerts, statesOf);
+    return `${count(this.#alerts.length, "alert")} in ${count(this.#groups.length, "group")}: ${numbers}`;
   }
 
   /** How many alerts are active. */
   active() {
-    return [...this.#distinct().values()].filter((alert) => alert.status.state === "active").length;
-  }
-
-  /** The alerts, each once, though it may be in several groups. */
-  #distinct() {
-    return new Map(this.#groups.flatMap(({ alerts }) => alerts.map((alert) => [alert.fingerprint, alert])));
+    return this.#alerts.filter(({ status }) => status.state === "active").length;
   }
 
   /** Whether all groups are folded. */
@@ -98,8 +95,8 @@ export class AlertsView {
     this.#hooks.redraw();
   }
 
-  describe({ key, group, alert }) {
-    return alert ? this.#describeAlert(key, alert) : this.#describeGroup(group);
+  describe({ group, alert }) {
+    return alert ? this.#describeAlert(alert) : this.#describeGroup(group);
   }
 
   #describeGroup({ key, labels, receiver, alerts }) {
@@ -112,11 +109,10 @@ export class AlertsView {
     };
   }
 
-  #describeAlert(key, alert) {
-    const isOpen = this.#opened.has(key);
+  #describeAlert(alert) {
     return {
-      key,
-      alert: alert.fingerprint,
+      key: alert.key,
+      isAlert: true,
       name: alert.labels.alertname ?? "Alert without a name",
       text: alert.annotations[mainAnnotation(alert)] ?? "",
       states: statesOf(alert),
@@ -124,7 +120,7 @@ export class AlertsView {
       labels: this.#describeLabels(alert.labels),
       mutes: [...this.#describeSilences(alert), ...this.#describeInhibitors(alert)],
       isMarked: alert.fingerprint === this.#address.marked,
-      details: isOpen ? detailsOf(alert) : null,
+      details: this.#opened.has(alert.key) ? detailsOf(alert) : null,
     };
   }
 
@@ -158,7 +154,7 @@ export class AlertsView {
   }
 
   draw(description) {
-    return description.alert ? this.#drawAlert(description) : this.#drawGroup(description);
+    return description.isAlert ? this.#drawAlert(description) : this.#drawGroup(description);
   }
 
   #drawGroup({ key, receiver, labels, size, isFolded }) {
@@ -178,7 +174,6 @@ export class AlertsView {
         : null
     );
   }
-
 
   #drawAlert({ key, name, text, states, startsAt, labels, mutes, isMarked, details }) {
     const own = Object.fromEntries(labels.map((label) => [label.name, label.value]));
@@ -220,19 +215,25 @@ export class AlertsView {
   }
 }
 
-/** The groups, each with a key of its own: several routes may make groups of one receiver with the same labels. */
+/**
+ * The groups and their alerts, each with a key of its own. Several routes may make groups of one receiver with the same
+ * labels, and fingerprints may collide, so that one alert would hide another.
+ */
 function withKeys(groups) {
   const seen = new Map();
   return groups.map((group) => {
     const name = JSON.stringify([group.receiver.name, group.labels]);
     const number = (seen.get(name) ?? 0) + 1;
     seen.set(name, number);
-    return { ...group, key: `${number} ${name}` };
+    const key = `${number} ${name}`;
+    const alerts = group.alerts.map((alert) => ({ ...alert, key: `${key} ${JSON.stringify(alert.labels)}` }));
+    return { ...group, key, alerts };
   });
 }
 
-function itemOf(group, alert) {
-  return { key: `${alert.fingerprint} ${group.key}`, alert };
+function distinct(groups) {
+  const alerts = groups.flatMap((group) => group.alerts);
+  return [...new Map(alerts.map((alert) => [JSON.stringify(alert.labels), alert])).values()];
 }
 
 function toggle(set, key) {
