@@ -32,7 +32,7 @@ export function readDuration(text) {
 
 /** A length of time by its two greatest units: `2 h 10 min`. */
 export function printDuration(milliseconds) {
-  const seconds = Math.max(0, Math.floor(milliseconds / 1000));
+  const seconds = Math.max(0, Math.round(milliseconds / 1000));
   const parts = [
     [Math.floor(seconds / 86400), "d"],
     [Math.floor(seconds / 3600) % 24, "h"],
