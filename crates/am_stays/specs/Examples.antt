@@ -1,0 +1,48 @@
+-- Views, computed: the claims say something, and no more than is so.
+use Rattle.std.specs.Prelude.{ℕ, List, [], ◌∷◌, ◌++◌}
+use Rattle.am_stays.specs.Places.{Place, First, Second, Third}
+use Rattle.am_stays.specs.Shadow.{Shadow, shadow_start, after_settle}
+use Rattle.am_stays.specs.Happenings.{Happening, Asked, Got, Decided, Stored, Replied, Listed, Pieced, Settled, Learned, Joined, Left, Crashed, Restarted, shadow_run}
+
+-- instances 1, 2 and 3 are the replicas, nobody holds anything, and 4 is down
+abbrev pub members : Place → ℕ
+members First = 1
+members Second = 2
+members Third = 3
+
+abbrev pub after : List Happening → Shadow
+after happened = shadow_run (Crashed 4 ∷ happened) (shadow_start members (λ j. 0))
+
+-- request 1 is decided by 1 and 2, and makes write 7
+abbrev pub decided : List Happening
+decided = Asked 1 1 ∷ Got 1 1 ∷ Got 1 2 ∷ Decided 1 1 0 2 0 7 ∷ []
+
+-- 1 goes on to the next epoch, and sends its list to 4 in one piece; so does 3; then 4 settles
+abbrev pub handed_on : List Happening
+handed_on =
+    Learned 1 ∷ Listed 1 4 1 0 ∷ Pieced 1 4 0 ∷ Learned 3 ∷ Listed 3 4 1 0 ∷ Pieced 3 4 0 ∷ Settled 4 ∷ []
+
+-- 7 is acknowledged by 1 and 2. Then 4 joins and gets 2's place, 1 crashes, and request 2 is answered by 4, which has 7
+-- from 1's list, and by 3, which never had it.
+abbrev pub moved : List Happening
+moved =
+    decided ++ Stored 7 1 ∷ Stored 7 2 ∷ Replied 7 1 2 ∷ Joined 4 Second ∷ handed_on
+    ++ Crashed 1 ∷ Asked 2 3 ∷ Got 2 4 ∷ Got 2 3 ∷ []
+
+-- 4 gets 2's place while 7 is open. 1 takes 7 before it learns that, 2 only after 4 has settled; then 7 is acknowledged.
+-- Request 3, of the epoch before, is answered by 3, which went by that then and hasn't 7, and by 2, which still does.
+abbrev pub late : List Happening
+late =
+    decided ++ Joined 4 Second ∷ Stored 7 1 ∷ Asked 3 3 ∷ Got 3 3 ∷ handed_on
+    ++ Stored 7 2 ∷ Replied 7 1 2 ∷ Asked 2 2 ∷ Got 2 2 ∷ Got 3 2 ∷ []
+
+-- 4 gets 2's place, 7 is acknowledged by 1 and 4, and 1 leaves. Two settled replicas lack 7: 3, and 2, which still goes by
+-- the first era.
+abbrev pub two_eras : List Happening
+two_eras =
+    Joined 4 Second ∷ handed_on
+    ++ Asked 1 1 ∷ Got 1 1 ∷ Got 1 3 ∷ Decided 1 1 0 3 0 7 ∷ Stored 7 1 ∷ Stored 7 4 ∷ Replied 7 1 4 ∷ Left 5 First ∷ []
+
+-- No calm view: 7 is acknowledged by 1 and 2, 1 crashes and is restarted, and then it is settled by force. It and 3 lack 7.
+abbrev pub forced : Shadow
+forced = after_settle (after (decided ++ Stored 7 1 ∷ Stored 7 2 ∷ Replied 7 1 2 ∷ Crashed 1 ∷ Restarted 1 ∷ [])) 1

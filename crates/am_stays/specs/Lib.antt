@@ -1,0 +1,5 @@
+pub mod Places
+pub mod Shadow
+pub mod Happenings
+pub mod Claims
+pub mod Examples
