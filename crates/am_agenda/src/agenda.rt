@@ -359,6 +359,7 @@ impl Agenda {
         ensures started { OnOk result ((t : List ℕ) → plan_of t self.new ≡ (if same t tenant.now then with_desk (added notice (plan_of t self.old).desk) (plan_of t self.old) else plan_of t self.old)) }
         ensures fault { IsErrOf result Fault.CountsExhausted ↔ (2 ^ 62 ≤ (plan_of tenant.now self.old).desk.used) }
         ensures no_pattern { IsErrOf result Fault.PatternNotBuilt → ⊥ }
+        ensures no_store { IsErrOf result Fault.StoreRefused → ⊥ }
         ensures err { OnErr result ((t : List ℕ) → plan_of t self.new ≡ no_plan (plan_of t self.new).paces) }
     {
         let started = self.attempts.start(alloc, tenant, notice);

@@ -7,7 +7,7 @@ use Rattle.am_text.specs.Moment.{greatest_moment}
 use Rattle.am_labels.specs.declared.Label.{Label}
 use Rattle.am_labels.specs.Labels.{labels_cmp}
 use Rattle.am_item.specs.declared.fault.Fault.{Fault}
-use Rattle.am_item.specs.declared.fault.Fault.TheVariants.{CountsExhausted, OutOfMemory, PatternNotBuilt}
+use Rattle.am_item.specs.declared.fault.Fault.TheVariants.{CountsExhausted, OutOfMemory, PatternNotBuilt, StoreRefused}
 use Rattle.am_item.specs.declared.item.Alert.{Alert}
 use Rattle.am_item.specs.declared.item.Item.{Item}
 use Rattle.am_item.specs.declared.item.Thing.TheVariants as thing
@@ -73,3 +73,4 @@ MakesItems (Ok v) items = (v.items ≡ items) × (counts_fit items ≡ true)
 MakesItems (Err CountsExhausted) items = counts_fit items ≡ false
 MakesItems (Err OutOfMemory) items = Unit {0}
 MakesItems (Err PatternNotBuilt) items = ⊥
+MakesItems (Err StoreRefused) items = ⊥

@@ -6,7 +6,7 @@ use Rattle.am_pattern.specs.Cache.{Cache}
 use Rattle.am_pattern.specs.Taking.{IsPattern}
 use Rattle.am_match.specs.Checking.{AreRefusedRightly}
 use Rattle.am_item.specs.declared.fault.Fault.{Fault}
-use Rattle.am_item.specs.declared.fault.Fault.TheVariants.{CountsExhausted, OutOfMemory, PatternNotBuilt}
+use Rattle.am_item.specs.declared.fault.Fault.TheVariants.{CountsExhausted, OutOfMemory, PatternNotBuilt, StoreRefused}
 use Rattle.am_http.specs.declared.request.Endpoint.{Endpoint}
 use Rattle.am_http.specs.declared.request.Endpoint.TheVariants as endpoint
 use Rattle.am_http.specs.declared.request.Method.{Method}
@@ -35,6 +35,7 @@ decides_unless Refuses had refused own stored (Ok d) decision same is = inl (is,
 decides_unless Refuses had refused own stored (Err CountsExhausted) decision same is = is
 decides_unless Refuses had refused own stored (Err OutOfMemory) decision same is = tt
 decides_unless Refuses had refused own stored (Err PatternNotBuilt) decision same is = absurd is
+decides_unless Refuses had refused own stored (Err StoreRefused) decision same is = is
 
 -- where a pattern may be refused in more ways, and no text was refused before
 pub decides_weaker : (Refuses Others : Decision → Type 0) (had since refused own stored : List (List ℕ)) (result : Result Decided Fault) (decision : Decision) →
@@ -45,6 +46,7 @@ decides_weaker Refuses Others had since refused own stored (Ok d) decision same 
 decides_weaker Refuses Others had since refused own stored (Err CountsExhausted) decision same more is = is
 decides_weaker Refuses Others had since refused own stored (Err OutOfMemory) decision same more is = tt
 decides_weaker Refuses Others had since refused own stored (Err PatternNotBuilt) decision same more found = found
+decides_weaker Refuses Others had since refused own stored (Err StoreRefused) decision same more is = is
 
 -- where nothing was refused wrongly it is the decision
 pub decides_rightly : (Refuses : Decision → Type 0) (had refused own stored : List (List ℕ)) (result : Result Decided Fault) (decision : Decision) →
@@ -56,6 +58,7 @@ decides_rightly Refuses had refused own stored (Err CountsExhausted) decision is
 decides_rightly Refuses had refused own stored (Err OutOfMemory) decision is rightly held patterns = tt
 decides_rightly Refuses had refused own stored (Err PatternNotBuilt) decision found rightly held patterns =
     never_both refused stored held (refused_pattern refused stored patterns found)
+decides_rightly Refuses had refused own stored (Err StoreRefused) decision is rightly held patterns = is
 
 -- ---- the stored patterns that are asked are in use
 
@@ -102,6 +105,7 @@ decides_in_use Refuses had refused own in_use request (Err CountsExhausted) deci
 decides_in_use Refuses had refused own in_use request (Err OutOfMemory) decision is = tt
 decides_in_use Refuses had refused own in_use request (Err PatternNotBuilt) decision found =
     unanswered_later refused (stored_asked request in_use) in_use (among_in_use request in_use) found
+decides_in_use Refuses had refused own in_use request (Err StoreRefused) decision is = is
 
 -- ---- by what the request speaks of
 

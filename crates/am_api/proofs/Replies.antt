@@ -3,7 +3,7 @@ use Rattle.std.proofs.Common.{◌≡◌, ◌⊎◌, ℕ, ◌≤◌, true, List, 
 use Rattle.std.specs.Prelude.{codes}
 use Rattle.std.specs.List.{list_all}
 use Rattle.am_item.specs.declared.fault.Fault.{Fault}
-use Rattle.am_item.specs.declared.fault.Fault.TheVariants.{CountsExhausted, OutOfMemory, PatternNotBuilt}
+use Rattle.am_item.specs.declared.fault.Fault.TheVariants.{CountsExhausted, OutOfMemory, PatternNotBuilt, StoreRefused}
 use Rattle.am_item.specs.declared.item.Item.{Item}
 use Rattle.am_pattern.specs.Asking.{Asked, Grows}
 use Rattle.am_pattern.specs.Cache.{Cache}
@@ -46,6 +46,7 @@ refuses_decides Refuses had refused own stored status code decision (Ok d) refus
 refuses_decides Refuses had refused own stored status code decision (Err CountsExhausted) refuses unbuilt found decides = absurd (cc)
 refuses_decides Refuses had refused own stored status code decision (Err OutOfMemory) refuses unbuilt found decides = tt
 refuses_decides Refuses had refused own stored status code decision (Err PatternNotBuilt) refuses unbuilt found decides = absurd decides
+refuses_decides Refuses had refused own stored status code decision (Err StoreRefused) refuses unbuilt found decides = absurd decides
 
 -- one that is not built when it is asked
 pub unbuilt_decides : (ps : List Parameter) (had refused own stored : List (List ℕ)) (decision : Decision) (result : Result Decided Fault) →

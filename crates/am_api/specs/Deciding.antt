@@ -2,7 +2,7 @@
 use Rattle.std.specs.Prelude.{◌≡◌, ◌⊎◌, ℕ, ◌+◌, ◌<◌, true, false, List, [], ◌∷◌, All, codes, length, Result, Ok, Err}
 use Rattle.am_pattern.specs.Kept.{HasRegex}
 use Rattle.am_item.specs.declared.fault.Fault.{Fault}
-use Rattle.am_item.specs.declared.fault.Fault.TheVariants.{CountsExhausted, OutOfMemory, PatternNotBuilt}
+use Rattle.am_item.specs.declared.fault.Fault.TheVariants.{CountsExhausted, OutOfMemory, PatternNotBuilt, StoreRefused}
 use Rattle.am_item.specs.declared.item.Item.{Item}
 use Rattle.am_alert.specs.Made.{counts_fit}
 use Rattle.am_api.specs.declared.decision.Decided.{Decided}
@@ -24,6 +24,7 @@ Decides (Ok d) decision = IsDecision d decision
 Decides (Err CountsExhausted) decision = counts_fit decision.items ≡ false
 Decides (Err OutOfMemory) decision = Unit {0}
 Decides (Err PatternNotBuilt) decision = ⊥
+Decides (Err StoreRefused) decision = ⊥
 
 -- a refusal for a pattern that is not built: of one that nests too deep it is that of a text which is no pattern
 abbrev pub IsUnbuilt : Decision → Type 0
@@ -38,6 +39,7 @@ DecidesUnless refused own stored (Ok d) decision =
 DecidesUnless refused own stored (Err CountsExhausted) decision = counts_fit decision.items ≡ false
 DecidesUnless refused own stored (Err OutOfMemory) decision = Unit {0}
 DecidesUnless refused own stored (Err PatternNotBuilt) decision = HasUnanswered refused stored
+DecidesUnless refused own stored (Err StoreRefused) decision = ⊥
 
 -- .. where such a pattern refuses the request so alone. Where it is the decision, no text is refused that wasn't before
 abbrev pub DecidesBy : (Decision → Type 0) → (had refused own stored : List (List ℕ)) → Result Decided Fault → Decision → Type 0

@@ -1,21 +1,20 @@
-use Rattle.std.proofs.Common.{◌≡◌, ◌↔◌, ℕ, Bool, List, Option, IsTrue, Result, refl}
+use Rattle.std.proofs.Common.{◌≡◌, ℕ, Bool, List, Option, Result, refl}
 use Rattle.std.proofs.lemmas.Result.{on_err_weaker, on_ok_weaker}
 use Rattle.am_serve.specs.Lanes.{waiting_of}
-use Rattle.am_server.specs.declared.service.Notice.{Notice}
 use Rattle.am_world.specs.Runs.{Forgets}
 use Rattle.am_world.specs.Simulation.{put_out, Step}
 use Rattle.am_world.specs.declared.event.Event.{Event}
 use Rattle.am_world.specs.declared.event.Output.{Output}
-use Rattle.am_world.specs.declared.world.World.{World}
+use Rattle.am_world.specs.declared.state.State.{State}
 use Rattle.am_gateway.specs.Gateway.{GivesReply, Handles, LetsTick, TellsWorld}
 use Rattle.am_gateway.specs.Sorting.{Queues, QueuesSome, TryLanes}
 use Rattle.am_gateway.specs.declared.gateway.Gateway.{Gateway}
 
 -- what a world put out at an event is taken away
-pub handles : (w mid w' : World) (e : Event) → Step w e mid → Forgets mid w' → Handles w e (put_out mid) w'
+pub handles : (w mid w' : State) (e : Event) → Step w e mid → Forgets mid w' → Handles w e (put_out mid) w'
 handles w mid w' e step taken = record { handled = mid; step = step; outputs = refl; taken = taken }
 
-replies_with : (c : ℕ) (e : Event) (reply : Option (List ℕ)) (old mid : Gateway) (is_tick_due : Bool) →
+replies_with : {R : Type 0} (c : ℕ) (e : Event) (reply : Option (List ℕ)) (old mid : Gateway R) (is_tick_due : Bool) →
     GivesReply c e reply old mid → GivesReply c e reply old (record mid { is_tick_due = is_tick_due })
 replies_with c e reply old mid is_tick_due g = record {
   outs = g.outs;
@@ -27,12 +26,12 @@ replies_with c e reply old mid is_tick_due g = record {
 }
 
 -- whether a tick is due is no part of a reply
-pub replies_still : (c : ℕ) (e : Event) (reply : Option (List ℕ)) (old mid new : Gateway) →
+pub replies_still : {R : Type 0} (c : ℕ) (e : Event) (reply : Option (List ℕ)) (old mid new : Gateway R) →
     new ≡ record mid { is_tick_due = new.is_tick_due } → GivesReply c e reply old mid → GivesReply c e reply old new
 replies_still c e reply old mid new same g = rw same (replies_with c e reply old mid new.is_tick_due g)
 
 -- a tick is due as it was before the world was told
-pub lets_before : (old mid new : Gateway) (reply : List ℕ) → mid.is_tick_due ≡ old.is_tick_due → mid.ready ≡ old.ready →
+pub lets_before : {R : Type 0} (old mid new : Gateway R) (reply : List ℕ) → mid.is_tick_due ≡ old.is_tick_due → mid.ready ≡ old.ready →
     LetsTick mid reply new → LetsTick old reply new
 lets_before old mid new reply due ready lets = rw (← due, ← ready) lets
 
@@ -46,7 +45,7 @@ waits_some_before old mid new outs stay queues t =
     ((queues t).0, (queues t).1, (queues t).2, rw (← stay t) (queues t).3)
 
 -- what waited before a call ended waits after it
-pub tells_before : {X E : Type 0} (result : Result X E) (e : Event) (old mid new : Gateway) → mid.world.now ≡ old.world.now →
+pub tells_before : {R : Type 0} {X E : Type 0} (result : Result X E) (e : Event) (old mid new : Gateway R) → mid.world.now.state ≡ old.world.now.state →
     ((t : List ℕ) → waiting_of t mid.notices.lanes ≡ waiting_of t old.notices.lanes) → TellsWorld result e mid new →
     TellsWorld result e old new
 tells_before result e old mid new world stay tells = record {

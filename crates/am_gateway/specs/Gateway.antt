@@ -1,6 +1,6 @@
 -- What a gateway does with its world: each piece that a connection brings is an event of the world, under the connection's own
 -- number and at the gateway's moment, and what the world puts out of it is what the server is given.
-use Rattle.std.specs.Prelude.{ℕ, ◌≡◌, ◌≢◌, ◌⊎◌, ◌↔◌, ◌+◌, ◌-◌, ◌++◌, Bool, true, false, List, [], ◌∷◌, Option, None, Some, IsSome, Result, OnOk, OnErr, IsTrue, if◌then◌else◌}
+use Rattle.std.specs.Prelude.{ℕ, ◌≡◌, ◌⊎◌, ◌↔◌, ◌+◌, ◌-◌, Bool, true, false, List, ◌∷◌, Option, None, Some, IsSome, Result, OnOk, OnErr, IsTrue, if◌then◌else◌}
 use Rattle.am_serve.specs.Lanes.{comes_before, is_ready, under_way_of, waiting_of}
 use Rattle.am_serve.specs.declared.host.Verdict.{Verdict}
 use Rattle.am_serve.specs.declared.host.Verdict.TheVariants.{Undecided, Reply, Gone}
@@ -9,106 +9,106 @@ use Rattle.am_tenant.specs.Names.{same}
 use Rattle.am_world.specs.declared.event.Event.{Event}
 use Rattle.am_world.specs.declared.event.Event.TheVariants as event
 use Rattle.am_world.specs.declared.event.Output.{Output}
-use Rattle.am_world.specs.declared.world.World.{World}
+use Rattle.am_world.specs.declared.state.State.{State}
 use Rattle.am_world.specs.Refusal.{refusal}
 use Rattle.am_world.specs.Runs.{Forgets}
 use Rattle.am_world.specs.Simulation.{put_out, Step}
-use Rattle.am_gateway.specs.Sorting.{notices_of, reply_on, Queues, QueuesSome}
+use Rattle.am_gateway.specs.Sorting.{reply_on, Queues, QueuesSome}
 use Rattle.am_gateway.specs.declared.gateway.Gateway.{Gateway}
 use Rattle.am_gateway.specs.declared.gateway.Try.{Try}
 
 -- a world took an event, and all that it had put out then was taken away
-pub record Handles (w : World) (e : Event) (outs : List Output) (w' : World) : Type 0 where
-  pub handled : World
+pub record Handles (w : State) (e : Event) (outs : List Output) (w' : State) : Type 0 where
+  pub handled : State
   pub step : Step w e handled
   pub outputs : put_out handled ≡ outs
   pub taken : Forgets handled w'
 
 -- the gateway opens connections to the same instance, at the same moment, and knows the same reply to `GET /ready`
-pub record IsSameGateway (old new : Gateway) : Type 0 where
+pub record IsSameGateway {R : Type 0} (old new : Gateway R) : Type 0 where
   pub instance : new.instance ≡ old.instance
   pub moment : new.moment ≡ old.moment
   pub ready : new.ready ≡ old.ready
 
 -- as many calls of each tenant are under way
-abbrev pub SameUnderWay : Gateway → Gateway → Type 0
+abbrev pub SameUnderWay : {R : Type 0} → Gateway R → Gateway R → Type 0
 SameUnderWay old new = (t : List ℕ) → under_way_of t new.notices.lanes ≡ under_way_of t old.notices.lanes
 
 -- ---- a piece of a connection
 
 -- the event of a piece that a connection brought
-abbrev pub piece_event : Gateway → ℕ → List ℕ → Event
+abbrev pub piece_event : {R : Type 0} → Gateway R → ℕ → List ℕ → Event
 piece_event gateway c piece = event.Bytes c gateway.moment piece
 
 -- the world handled an event: its notices wait, and this is the reply that it put out on the connection. There is none where the
 -- request isn't whole yet, or the instance stopped.
-pub record GivesReply (c : ℕ) (e : Event) (reply : Option (List ℕ)) (old new : Gateway) : Type 0 where
+pub record GivesReply {R : Type 0} (c : ℕ) (e : Event) (reply : Option (List ℕ)) (old new : Gateway R) : Type 0 where
   pub outs : List Output
-  pub handles : Handles old.world.now e outs new.world.now
+  pub handles : Handles old.world.now.state e outs new.world.now.state
   pub reply_is : reply_on (Some c) outs ≡ reply
   pub queues : Queues old.notices.lanes outs new.notices.lanes
   pub under_way : SameUnderWay old new
   pub same : IsSameGateway old new
 
 -- the world refused the event, and nothing changed
-pub record RefusesEvent (e : Event) (old new : Gateway) : Type 0 where
-  pub refused : IsSome (refusal old.world.now e)
+pub record RefusesEvent {R : Type 0} (e : Event) (old new : Gateway R) : Type 0 where
+  pub refused : IsSome (refusal old.world.now.state e)
   pub unchanged : new ≡ old
 
 -- memory ran out before the world had the event; or the world handled it, and what it put out was lost, but for a first part of
 -- the notices of each tenant
-pub record LosesEvent (e : Event) (old new : Gateway) : Type 0 where
-  pub reached : (new.world.now ≡ old.world.now) ⊎ ((outs : List Output) × Handles old.world.now e outs new.world.now
+pub record LosesEvent {R : Type 0} (e : Event) (old new : Gateway R) : Type 0 where
+  pub reached : (new.world.now ≡ old.world.now) ⊎ ((outs : List Output) × Handles old.world.now.state e outs new.world.now.state
       × QueuesSome old.notices.lanes outs new.notices.lanes)
   pub is_tick_due : new.is_tick_due ≡ old.is_tick_due
   pub under_way : SameUnderWay old new
   pub same : IsSameGateway old new
 
 -- the world was told that the client of a connection left
-pub record ClosesConnection (old : Gateway) (c : ℕ) (new : Gateway) : Type 0 where
-  pub step : Step old.world.now (event.Close c) new.world.now
-  pub refused : IsSome (refusal old.world.now (event.Close c)) → new ≡ old
+pub record ClosesConnection {R : Type 0} (old : Gateway R) (c : ℕ) (new : Gateway R) : Type 0 where
+  pub step : Step old.world.now.state (event.Close c) new.world.now.state
+  pub refused : IsSome (refusal old.world.now.state (event.Close c)) → new ≡ old
   pub rest : new ≡ record old { world = new.world }
 
 -- memory ran out, and the connection was closed
-pub record ClosesForMemory (c : ℕ) (e : Event) (old new : Gateway) : Type 0 where
-  pub mid : Gateway
+pub record ClosesForMemory {R : Type 0} (c : ℕ) (e : Event) (old new : Gateway R) : Type 0 where
+  pub mid : Gateway R
   pub loses : LosesEvent e old mid
   pub closed : ClosesConnection mid c new
 
 -- a tick is due once the world answered `GET /ready`, as it was before
-abbrev pub LetsTick : Gateway → List ℕ → Gateway → Type 0
+abbrev pub LetsTick : {R : Type 0} → Gateway R → List ℕ → Gateway R → Type 0
 LetsTick old reply new = IsTrue new.is_tick_due ↔ (IsTrue old.is_tick_due ⊎ (reply ≡ old.ready))
 
 -- what the server is told of a connection, by what became of an event of it
-abbrev pub IsVerdictOn : ℕ → Event → Gateway → Verdict → Gateway → Type 0
+abbrev pub IsVerdictOn : {R : Type 0} → ℕ → Event → Gateway R → Verdict → Gateway R → Type 0
 IsVerdictOn c e old Undecided new = GivesReply c e None old new × (new.is_tick_due ≡ old.is_tick_due)
 IsVerdictOn c e old (Reply bytes) new = GivesReply c e (Some bytes.items) old new × LetsTick old bytes.items new
 IsVerdictOn c e old Gone new = RefusesEvent e old new ⊎ ClosesForMemory c e old new
 
 -- a piece of a connection went to the world, and this is what the server is told
-abbrev pub TakesPiece : Gateway → ℕ → List ℕ → Verdict → Gateway → Type 0
+abbrev pub TakesPiece : {R : Type 0} → Gateway R → ℕ → List ℕ → Verdict → Gateway R → Type 0
 TakesPiece old c piece verdict new = IsVerdictOn c (piece_event old c piece) old verdict new
 
 -- the world was told that a connection was opened to the gateway's instance, or refused that
-pub record OpensConnection (old : Gateway) (c : ℕ) (result : Bool) (new : Gateway) : Type 0 where
-  pub step : Step old.world.now (event.Open c old.instance) new.world.now
-  pub result_is : IsTrue result ↔ (refusal old.world.now (event.Open c old.instance) ≡ None)
+pub record OpensConnection {R : Type 0} (old : Gateway R) (c : ℕ) (result : Bool) (new : Gateway R) : Type 0 where
+  pub step : Step old.world.now.state (event.Open c old.instance) new.world.now.state
+  pub result_is : IsTrue result ↔ (refusal old.world.now.state (event.Open c old.instance) ≡ None)
   pub refused : result ≡ false → new ≡ old
   pub rest : new ≡ record old { world = new.world }
 
 -- ---- the clock and the calls
 
 -- the world handled an event of no connection; what it put out of each tenant waits, or where memory ran out a first part of it
-pub record TellsWorld {X E : Type 0} (result : Result X E) (e : Event) (old new : Gateway) : Type 0 where
+pub record TellsWorld {R : Type 0} {X E : Type 0} (result : Result X E) (e : Event) (old new : Gateway R) : Type 0 where
   pub outs : List Output
-  pub handles : Handles old.world.now e outs new.world.now
+  pub handles : Handles old.world.now.state e outs new.world.now.state
   pub queues : OnOk result (Queues old.notices.lanes outs new.notices.lanes)
   pub loses : OnErr result (QueuesSome old.notices.lanes outs new.notices.lanes)
 
 -- the notice that waited longest of the tenant whose turn it is, which has fewer calls under way than there are places free, is
 -- under way now
-pub record BeginsCall (free : ℕ) (notice : Notice Try) (old new : Gateway) : Type 0 where
+pub record BeginsCall {R : Type 0} (free : ℕ) (notice : Notice Try) (old new : Gateway R) : Type 0 where
   pub tenant : List ℕ
   pub ready : is_ready free tenant old.notices.lanes ≡ true
   pub turn : (t : List ℕ) → comes_before old.notices.last t tenant ≡ true → is_ready free t old.notices.lanes ≡ false
@@ -119,6 +119,6 @@ pub record BeginsCall (free : ℕ) (notice : Notice Try) (old new : Gateway) : T
       ≡ (if same t tenant then under_way_of t old.notices.lanes + 1 else under_way_of t old.notices.lanes)
 
 -- one call fewer of a tenant is under way
-abbrev pub EndsCall : List ℕ → Gateway → Gateway → Type 0
+abbrev pub EndsCall : {R : Type 0} → List ℕ → Gateway R → Gateway R → Type 0
 EndsCall tenant old new = (t : List ℕ) → under_way_of t new.notices.lanes
     ≡ (if same t tenant then under_way_of t old.notices.lanes - 1 else under_way_of t old.notices.lanes)

@@ -10,6 +10,7 @@ ghost use Rattle.am_world.specs.declared.event.Event.TheVariants as event;
 
 use crate::sorting::sort;
 use am_http::{ConnectionId, ready_reply};
+use am_rows::Rows;
 use am_serve::{Host, Lanes, Verdict};
 use am_server::{Notice, Service};
 use am_text::Octets;
@@ -27,9 +28,9 @@ pub struct Try {
 
 /// A world, with the notices that it put out and whose calls weren't begun yet.
 #[derive(Drop)]
-pub struct Gateway<'w> {
+pub struct Gateway<'w, R: Rows> {
     alloc: Global,
-    world: &'w mut World,
+    world: &'w mut World<R>,
     // The instance that all connections are opened to.
     instance: u8,
     // The moment of what happens now, in milliseconds since 1970.
@@ -40,7 +41,7 @@ pub struct Gateway<'w> {
     notices: Lanes<Notice<Try>>,
 }
 
-impl<'w> Gateway<'w> {
+impl<'w, R: Rows> Gateway<'w, R> {
     ghost use Rattle.am_gateway.specs.Gateway.{IsSameGateway, IsVerdictOn, LetsTick, LosesEvent, SameUnderWay, TakesPiece, TellsWorld, piece_event};
     ghost use Rattle.am_gateway.specs.Sorting.{Queues, QueuesSome, reply_on};
 
@@ -48,7 +49,11 @@ impl<'w> Gateway<'w> {
     ///
     /// # Errors
     /// Out of memory.
-    pub fn new(alloc: Global, world: &'w mut World, instance: u8) -> Result<Gateway<'w>, AllocError>
+    pub fn new(
+        alloc: Global,
+        world: &'w mut World<R>,
+        instance: u8,
+    ) -> Result<Gateway<'w, R>, AllocError>
         ensures world { IfOk result (λ gateway. gateway.world.now ≡ world.old) }
         ensures instance { IfOk result (λ gateway. gateway.instance ≡ instance) }
         ensures moment { IfOk result (λ gateway. gateway.moment ≡ 0) }
@@ -73,10 +78,10 @@ impl<'w> Gateway<'w> {
     // connection is given, where one is named. A reply on another is dropped: the world puts none out yet. Out of memory: the
     // reply is lost, and of the notices all but a first part.
     fn sort(&mut self, connection: Option<u64>) -> Result<Option<Octets>, AllocError>
-        ensures reply { IfOk result (λ reply. reply ≡ reply_on connection (put_out self.old.world.now)) }
-        ensures queued { OnOk result (Queues self.old.notices.lanes (put_out self.old.world.now) self.new.notices.lanes) }
-        ensures err { OnErr result (QueuesSome self.old.notices.lanes (put_out self.old.world.now) self.new.notices.lanes) }
-        ensures forgets { Forgets self.old.world.now self.new.world.now }
+        ensures reply { IfOk result (λ reply. reply ≡ reply_on connection (put_out self.old.world.now.state)) }
+        ensures queued { OnOk result (Queues self.old.notices.lanes (put_out self.old.world.now.state) self.new.notices.lanes) }
+        ensures err { OnErr result (QueuesSome self.old.notices.lanes (put_out self.old.world.now.state) self.new.notices.lanes) }
+        ensures forgets { Forgets self.old.world.now.state self.new.world.now.state }
         ensures is_tick_due { self.new.is_tick_due ≡ self.old.is_tick_due }
         ensures under_way { SameUnderWay self.old self.new }
         ensures same { IsSameGateway self.old self.new }
@@ -141,7 +146,7 @@ impl<'w> Gateway<'w> {
     }
 }
 
-impl Host for Gateway<'_> {
+impl<R: Rows> Host for Gateway<'_, R> {
     ghost use Rattle.am_gateway.specs.Gateway.{ClosesConnection, OpensConnection, TakesPiece};
 
     ghost opens = { OpensConnection };
@@ -177,13 +182,13 @@ impl Host for Gateway<'_> {
     }
 }
 
-impl Service for Gateway<'_> {
+impl<R: Rows> Service for Gateway<'_, R> {
     ghost use Rattle.am_gateway.specs.Gateway.{BeginsCall, EndsCall, IsSameGateway, SameUnderWay, TellsWorld};
 
     type Name = Try;
 
     fn is_up(&self) -> bool
-        ensures { IsTrue result ↔ (cause_at self.now.instance self.now.world.now.instances ≡ None) }
+        ensures { IsTrue result ↔ (cause_at self.now.instance self.now.world.now.state.instances ≡ None) }
     {
         self.world.cause(self.instance).is_none()
     }

@@ -16,6 +16,9 @@ pub enum Fault {
     /// A pattern that a tenant's stored configuration uses was refused its build.
     #[error("a stored pattern was not built")]
     PatternNotBuilt,
+    /// The instance's store refused a call.
+    #[error("the store refused a call")]
+    StoreRefused,
 }
 
 impl From<AllocError> for Fault {

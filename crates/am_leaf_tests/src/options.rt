@@ -25,10 +25,22 @@ bad amring run --key=
 bad amring run --key
 bad amring run --key 000102030405060708090a0b0c0d0e0f101112131415161718191a1b1c1d1e1f --key 000102030405060708090a0b0c0d0e0f101112131415161718191a1b1c1d1e1f
 bad amring --key 000102030405060708090a0b0c0d0e0f101112131415161718191a1b1c1d1e1f run
+run amring run --start 1 --store=data
+run amring run --start=4294967295
+bad amring run --start 0
+bad amring run --start 4294967296
+bad amring run --start one
+bad amring run --start
+bad amring run --start 1 --start 1
+bad amring run --store
+bad amring run --store a --store a
 bad amring run x
 bad amring --cache 1 run
 serve amring serve --port 65535
 serve amring serve --port=1 --count=1
+serve amring serve --port=1 --start 7 --store a/b
+bad amring serve --port=1 --start 0
+bad amring serve --port=1 --store
 bad amring serve
 bad amring serve --port 0
 bad amring serve --port 65536
@@ -43,13 +55,17 @@ help amring run -h
 help amring -V";
 
 // Command lines, and the text that is told of them.
-const TEXTS: [(&str, &str); 5] = [
+const TEXTS: [(&str, &str); 6] = [
     ("amring --version", "amring 0.1.0\n"),
     (
         "amring run --cache 0",
         "--cache takes a number from 1 to 65536",
     ),
     ("amring run --key 0g", "--key takes 64 hexadecimal digits"),
+    (
+        "amring serve --port 1 --start 0",
+        "--start takes a number from 1 to 4294967295",
+    ),
     (
         "amring serve",
         "serve needs --port, a number from 1 to 65535",
@@ -73,6 +89,19 @@ const KEYS: [(&str, [u8; 16]); 3] = [
         "amring run --key 000102030405060708090A0B0C0D0E0F101112131415161718191A1B1C1D1E1F",
         COUNTED,
     ),
+];
+
+// Command lines of `serve`, the first incarnation, whether it is given, and the folder of stores.
+const STARTS: [(&str, u32, bool, &str); 4] = [
+    ("amring serve --port 1", 1, false, ""),
+    ("amring serve --port 1 --start 1", 1, true, ""),
+    (
+        "amring serve --port 1 --store=data --start 4294967295",
+        4_294_967_295,
+        true,
+        "data",
+    ),
+    ("amring serve --port 1 --store a/b", 1, false, "a/b"),
 ];
 
 /// What the words of a line ask for.
@@ -122,10 +151,10 @@ fn texts(rt: HostRuntime) -> Result<(), Fail> {
 }
 
 fn has_key(alloc: Global, line: &str, wanted: [u8; 16]) -> Result<(), Fail> {
-    let CommandLine::Run(setup) = asked(alloc, line)? else {
+    let CommandLine::Run(running) = asked(alloc, line)? else {
         return Err(Fail::new(line));
     };
-    holds(setup.hash_key() == wanted, line)
+    holds(running.setup.hash_key() == wanted, line)
 }
 
 #[test]
@@ -134,4 +163,43 @@ fn keys(rt: HostRuntime) -> Result<(), Fail> {
         has_key(rt.alloc(), line, wanted)?;
     }
     Ok(())
+}
+
+fn has_start(
+    alloc: Global,
+    line: &str,
+    start: u32,
+    is_given: bool,
+    folder: &str,
+) -> Result<(), Fail> {
+    let CommandLine::Serve(serving) = asked(alloc, line)? else {
+        return Err(Fail::new(line));
+    };
+    holds(serving.setup.start() == start, line)?;
+    holds(serving.has_start == is_given, line)?;
+    match &serving.store {
+        Some(store) => equal(store.as_str(), folder, line),
+        None => holds(folder.is_empty(), line),
+    }
+}
+
+#[test]
+fn starts(rt: HostRuntime) -> Result<(), Fail> {
+    for (line, start, is_given, folder) in STARTS {
+        has_start(rt.alloc(), line, start, is_given, folder)?;
+    }
+    Ok(())
+}
+
+#[test]
+fn run_has_start_and_store(rt: HostRuntime) -> Result<(), Fail> {
+    let line = "amring run --start 4294967295 --store data";
+    let CommandLine::Run(running) = asked(rt.alloc(), line)? else {
+        return Err(Fail::new(line));
+    };
+    holds(running.setup.start() == 4_294_967_295, line)?;
+    match &running.store {
+        Some(store) => equal(store.as_str(), "data", line),
+        None => Err(Fail::new(line)),
+    }
 }

@@ -1,5 +1,5 @@
 -- The command lines that the program takes, as clap describes a command, and what they ask for.
-use Rattle.std.specs.Prelude.{◌≡◌, ◌≢◌, ◌⊎◌, ℕ, ◌&&◌, nat_le, if◌then◌else◌, true, List, [], ◌∷◌, Option, None, Some, option_and_then, option_map, codes, replicate, ◌-◌, ◌^◌}
+use Rattle.std.specs.Prelude.{◌≡◌, ◌≢◌, ◌⊎◌, ℕ, Bool, ◌&&◌, nat_le, if◌then◌else◌, true, List, [], ◌∷◌, Option, None, Some, option_and_then, option_map, codes, is_some, replicate, unwrap_or, ◌-◌, ◌^◌}
 use Rattle.std.specs.Str.{bytes_eq}
 use Rattle.std.specs.Result.{result_ok}
 use Rattle.am_setup.specs.Setup.{Settings}
@@ -11,6 +11,7 @@ use Rattle.hex.specs.Hex.{decode_sized}
 use Rattle.am_scenario.specs.Line.{◌>>=◌}
 use Rattle.am_scenario.specs.Number.{number_of}
 use Rattle.am_options.specs.declared.command_line.CommandLine.{CommandLine}
+use Rattle.am_options.specs.declared.command_line.Running.{Running}
 use Rattle.am_options.specs.declared.command_line.Serving.{Serving}
 use Rattle.am_options.specs.declared.command_line.CommandLine.TheVariants.{Run, Serve, Help, Bad}
 
@@ -34,7 +35,9 @@ top = record (new_app (codes "amring")) {
 
 -- a subcommand with the options of all of them
 abbrev pub app_named : Text → App
-app_named name = with_rule (with_rule (new_app name) (option_or (codes "cache") (codes "512"))) (option (codes "key"))
+app_named name =
+    with_rule (with_rule (with_rule (with_rule (new_app name) (option_or (codes "cache") (codes "512"))) (option (codes "key"))) (option (codes "start")))
+    (option (codes "store"))
 
 abbrev pub serve : App
 serve = with_rule (with_rule (app_named (codes "serve")) (option (codes "port"))) (option (codes "count"))
@@ -67,37 +70,59 @@ key_or_zeros (Some digits) = key_of digits
 abbrev pub key_in : List Row → Option (List ℕ)
 key_in rows = key_or_zeros (first_of (codes "key") rows)
 
+-- the number, from 1 to the most, that an option says which may be absent; none where it is absent
+abbrev pub number_or_none : Option Text → Text → ℕ → List Row → Option (Option ℕ)
+number_or_none None name most rows = Some None
+number_or_none (Some text) name most rows = option_map Some (number_in name 1 most rows)
+
+abbrev pub given_in : Text → ℕ → List Row → Option (Option ℕ)
+given_in name most rows = number_or_none (first_of name rows) name most rows
+
 -- the settings that the options say: so many cached patterns, the service key, the ring of 1, 2 and 3, and the first
--- incarnation 1
+-- incarnation, which is 1 where none is given
 abbrev pub settings_in : List Row → Option Settings
 settings_in rows = do
   cache ← number_in (codes "cache") 1 65536 rows
   key ← key_in rows
+  start ← given_in (codes "start") (2 ^ 32 - 1) rows
   Some (record {
-    origin = record { service_key = key; ring = 1 ∷ 2 ∷ 3 ∷ []; first = 1 };
+    origin = record { service_key = key; ring = 1 ∷ 2 ∷ 3 ∷ []; first = unwrap_or start 1 };
     cache = cache;
   })
 
--- the number of connections that the options say; none where the option is absent
-abbrev pub count_or_none : Option Text → List Row → Option (Option ℕ)
-count_or_none None rows = Some None
-count_or_none (Some text) rows = option_map Some (number_in (codes "count") 1 (2 ^ 64 - 1) rows)
+-- the folder of stores that the options say; none where the option is absent
+abbrev pub store_in : List Row → Option Text
+store_in rows = first_of (codes "store") rows
 
-abbrev pub count_in : List Row → Option (Option ℕ)
-count_in rows = count_or_none (first_of (codes "count") rows) rows
+-- how the options say to play: by these settings, over these stores
+abbrev pub running_in : List Row → Option Running
+running_in rows = do
+  setup ← settings_in rows
+  Some (record { setup = setup; store = store_in rows })
 
--- how the options say to serve: by these settings, on a port, so many connections
+-- whether the options say a first incarnation
+abbrev pub has_start : List Row → Bool
+has_start rows = is_some (first_of (codes "start") rows)
+
+-- how the options say to serve: by these settings, whose first incarnation is given or not, over these stores, on a port,
+-- so many connections
 abbrev pub serving_in : List Row → Option Serving
 serving_in rows = do
   setup ← settings_in rows
   port ← number_in (codes "port") 1 65535 rows
-  count ← count_in rows
-  Some (record { setup = setup; port = port; count = count })
+  count ← given_in (codes "count") (2 ^ 64 - 1) rows
+  Some (record {
+    setup = setup;
+    has_start = has_start rows;
+    store = store_in rows;
+    port = port;
+    count = count;
+  })
 
 -- what a subcommand with these options asks for
 abbrev pub asked_by : Text × List Row → Option CommandLine
 asked_by sub =
-    if bytes_eq sub.0 (codes "serve") then option_map Serve (serving_in sub.1) else option_map Run (settings_in sub.1)
+    if bytes_eq sub.0 (codes "serve") then option_map Serve (serving_in sub.1) else option_map Run (running_in sub.1)
 
 -- .. the one that was entered
 abbrev pub asked_of : Option (Text × List Row) → Option CommandLine
@@ -109,7 +134,7 @@ IsMistake kind = (kind ≢ DisplayHelp) × (kind ≢ DisplayVersion) × (kind �
 
 -- what an error of this kind tells
 abbrev pub Tells : ErrorKind → CommandLine → Type 0
-Tells kind (Run setup) = ⊥
+Tells kind (Run running) = ⊥
 Tells kind (Serve serving) = ⊥
 Tells kind (Help text) = (kind ≡ DisplayHelp) ⊎ (kind ≡ DisplayVersion)
 Tells kind (Bad text) = IsMistake kind
@@ -117,7 +142,7 @@ Tells kind (Bad text) = IsMistake kind
 -- what a command line asks for: its words are the program's own and say settings; or they ask for the help or the
 -- version; or something is wrong with a word, or an option says nothing that it takes
 abbrev pub Asks : List Text → CommandLine → Type 0
-Asks words (Run setup) = (kinds words ≡ []) × (asked_of (subcommand_of command_line words) ≡ Some (Run setup))
+Asks words (Run running) = (kinds words ≡ []) × (asked_of (subcommand_of command_line words) ≡ Some (Run running))
 Asks words (Serve serving) = (kinds words ≡ []) × (asked_of (subcommand_of command_line words) ≡ Some (Serve serving))
 Asks words (Help text) = IsAmong DisplayHelp (kinds words) ⊎ IsAmong DisplayVersion (kinds words)
 Asks words (Bad text) = ((kind : ErrorKind) × IsAmong kind (kinds words) × IsMistake kind)

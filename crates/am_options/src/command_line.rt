@@ -3,10 +3,11 @@ ghost use Rattle.std.specs.Prelude.{◌≡◌, IfOk, MatchResult, None, Some, co
 ghost use Rattle.clap.specs.Words.{app_of, found_of, has_subcommand, kind_of, rows_of, rule_of};
 ghost use Rattle.clap.specs.Simple.{subcommand_rows_of};
 ghost use Rattle.clap.specs.declared.builder.command.Command.TheViews.{out-Command as fields_of};
-ghost use Rattle.am_options.specs.CommandLine.{Asks, Tells, app_named, asked_by, asked_of, command_line, count_in, key_in, number_in, option, option_or, serve, serving_in, settings_in};
+ghost use Rattle.am_options.specs.CommandLine.{Asks, Tells, app_named, asked_by, asked_of, command_line, given_in, has_start, key_in, number_in, option, option_or, running_in, serve, serving_in, settings_in, store_in};
 
 use am_scenario::number;
 use am_setup::Setup;
+use am_text::Text;
 use clap::error::ErrorKind;
 use clap::{Arg, ArgMatches, Command, Error};
 use hex::FromHex;
@@ -18,6 +19,10 @@ use std::fmt;
 const VERSION: &str = "0.1.0";
 
 const KEY_HELP: &str = "The service key, 64 hexadecimal digits; zeros without it";
+
+const START_HELP: &str = "The first incarnation, 1 to 4294967295, greater than any before";
+
+const STORE_HELP: &str = "The folder of the stores 1.db to 8.db; in memory without it";
 
 const PORT_HELP: &str = "The port to listen on, 1 to 65535";
 
@@ -32,13 +37,29 @@ const MOST_PORT: u64 = 65_535;
 /// The instances of the ring.
 const RING: [u8; 3] = [1, 2, 3];
 
-/// The first incarnation.
-const START: u32 = 1;
+/// The greatest incarnation.
+const MOST_START: u64 = 4_294_967_295;
+
+/// The first incarnation where none is given.
+const START: u64 = 1;
+
+/// How the program plays a scenario.
+#[derive(Drop)]
+pub struct Running {
+    pub setup: Setup,
+    /// The folder of the instances' stores; they are in memory where none is given.
+    pub store: Option<Text>,
+}
 
 /// How the program serves connections.
 #[derive(Drop)]
 pub struct Serving {
+    /// Its first incarnation is 1 where none is given.
     pub setup: Setup,
+    /// Whether the first incarnation is given.
+    pub has_start: bool,
+    /// The folder of the instances' stores; they are in memory where none is given.
+    pub store: Option<Text>,
     /// The port that it listens on, at least 1.
     pub port: u16,
     /// How many connections are answered, at least 1; any number where none is given.
@@ -48,8 +69,8 @@ pub struct Serving {
 /// What a command line asks for.
 #[derive(Drop)]
 pub enum CommandLine {
-    /// To play the scenario on standard input with these settings.
-    Run(Setup),
+    /// To play the scenario on standard input.
+    Run(Running),
     /// To serve connections.
     Serve(Serving),
     /// To see the help or the version, which is this text.
@@ -63,6 +84,7 @@ pub enum CommandLine {
 enum BadOption {
     Cache,
     Key,
+    Start,
     Port,
     Count,
 }
@@ -72,6 +94,7 @@ impl fmt::Display for BadOption {
         match self {
             BadOption::Cache => write!(f, "--cache takes a number from 1 to {MOST_CACHED}"),
             BadOption::Key => write!(f, "--key takes 64 hexadecimal digits"),
+            BadOption::Start => write!(f, "--start takes a number from 1 to {MOST_START}"),
             BadOption::Port => write!(f, "serve needs --port, a number from 1 to 65535"),
             BadOption::Count => write!(f, "--count takes a number from 1 on"),
         }
@@ -83,7 +106,7 @@ pub fn options<S: AsStr>(alloc: Global, words: &[S]) -> Result<CommandLine, Allo
     ensures { IfOk result (Asks (map S.text words.entry.now)) }
 {
     match form(alloc)?.try_get_matches_from(words) {
-        Ok(matches) => match asked(&matches) {
+        Ok(matches) => match asked(alloc, &matches)? {
             Ok(line) => Ok(line),
             Err(bad) => Ok(CommandLine::Bad(format!(in alloc; "{bad}")?)),
         },
@@ -123,7 +146,9 @@ fn form_of<'a>(alloc: Global, name: &'a str, about: &'a str) -> Result<Command<'
     Command::new(alloc, name)
         .about(about)
         .arg(cache(alloc))?
-        .arg(option(alloc, "key", "K", KEY_HELP))
+        .arg(option(alloc, "key", "K", KEY_HELP))?
+        .arg(option(alloc, "start", "N", START_HELP))?
+        .arg(option(alloc, "store", "DIR", STORE_HELP))
 }
 
 /// The option of how many patterns are kept built.
@@ -150,43 +175,71 @@ fn option<'a>(alloc: Global, name: &'a str, value: &'a str, help: &'a str) -> Ar
 }
 
 /// What the subcommand of a command line asks for.
-fn asked(matches: &ArgMatches<'_>) -> Result<CommandLine, BadOption>
+fn asked(
+    alloc: Global,
+    matches: &ArgMatches<'_>,
+) -> Result<Result<CommandLine, BadOption>, AllocError>
     requires { has_subcommand matches.now ≡ true }
-    ensures { MatchResult result
+    ensures { IfOk result (λ asked. MatchResult asked
         (λ line. asked_of (subcommand_rows_of matches.now) ≡ Some line)
-        (λ _. asked_of (subcommand_rows_of matches.now) ≡ None) }
+        (λ _. asked_of (subcommand_rows_of matches.now) ≡ None)) }
 {
     let (name, options) = matches.subcommand().unwrap();
+    let store = store_in(alloc, options)?;
     if name == "serve" {
-        Ok(CommandLine::Serve(serving_in(options)?))
+        Ok(serving_in(options, store).map(CommandLine::Serve))
     } else {
-        Ok(CommandLine::Run(settings_in(options)?))
+        Ok(running_in(options, store).map(CommandLine::Run))
     }
 }
 
-/// How the options of `serve` say to serve.
-fn serving_in(serve: &ArgMatches<'_>) -> Result<Serving, BadOption>
+/// The folder that the options say; none where they say none.
+fn store_in(alloc: Global, matches: &ArgMatches<'_>) -> Result<Option<Text>, AllocError>
+    ensures { IfOk result (λ store. store ≡ store_in (rows_of (found_of matches.now))) }
+{
+    match matches.get_str("store") {
+        Some(folder) => Ok(Some(Text::read(alloc, folder)?)),
+        None => Ok(None),
+    }
+}
+
+/// How the options of `run` say to play, over the stores of this folder.
+fn running_in(run: &ArgMatches<'_>, store: Option<Text>) -> Result<Running, BadOption>
+    requires { store ≡ store_in (rows_of (found_of run.now)) }
+    ensures { MatchResult result
+        (λ running. running_in (rows_of (found_of run.now)) ≡ Some running)
+        (λ _. running_in (rows_of (found_of run.now)) ≡ None) }
+{
+    let setup = settings_in(run)?;
+    Ok(Running { setup, store })
+}
+
+/// How the options of `serve` say to serve, over the stores of this folder.
+fn serving_in(serve: &ArgMatches<'_>, store: Option<Text>) -> Result<Serving, BadOption>
+    requires { store ≡ store_in (rows_of (found_of serve.now)) }
     ensures { MatchResult result
         (λ serving. serving_in (rows_of (found_of serve.now)) ≡ Some serving)
         (λ _. serving_in (rows_of (found_of serve.now)) ≡ None) }
 {
     let setup = settings_in(serve)?;
     let port = number_in(serve, "port", 1, MOST_PORT).ok_or(BadOption::Port)?;
-    let count = count_in(serve).ok_or(BadOption::Count)?;
+    let count = given_in(serve, "count", u64::MAX).ok_or(BadOption::Count)?;
     Ok(Serving {
         setup,
+        has_start: has_start(serve),
+        store,
         port: port as u16,
         count,
     })
 }
 
-/// The number of connections that the options say; none where they say none.
-fn count_in(matches: &ArgMatches<'_>) -> Option<Option<u64>>
-    ensures { result ≡ count_in (rows_of (found_of matches.now)) }
+/// Whether the options say a first incarnation.
+fn has_start(serve: &ArgMatches<'_>) -> bool
+    ensures { result ≡ has_start (rows_of (found_of serve.now)) }
 {
-    match matches.get_str("count") {
-        Some(_) => number_in(matches, "count", 1, u64::MAX).map(Some),
-        None => Some(None),
+    match serve.get_str("start") {
+        Some(_) => true,
+        None => false,
     }
 }
 
@@ -198,7 +251,19 @@ fn settings_in(run: &ArgMatches<'_>) -> Result<Setup, BadOption>
 {
     let cache = number_in(run, "cache", 1, MOST_CACHED).ok_or(BadOption::Cache)?;
     let key = key_in(run).ok_or(BadOption::Key)?;
-    Ok(Setup::new(key, &RING, cache as u32, START).unwrap())
+    let start = given_in(run, "start", MOST_START).ok_or(BadOption::Start)?;
+    let start = start.unwrap_or(START);
+    Ok(Setup::new(key, &RING, cache as u32, start as u32).unwrap())
+}
+
+/// The number, from 1 to the most, that an option says which may be absent; none where it is absent.
+fn given_in(matches: &ArgMatches<'_>, name: &str, most: u64) -> Option<Option<u64>>
+    ensures { result ≡ given_in name.now most (rows_of (found_of matches.now)) }
+{
+    match matches.get_str(name) {
+        Some(_) => number_in(matches, name, 1, most).map(Some),
+        None => Some(None),
+    }
 }
 
 /// The number that an option says, where it is one from the least to the most.

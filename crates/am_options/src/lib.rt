@@ -3,4 +3,4 @@
 
 mod command_line;
 
-pub use command_line::{CommandLine, Serving, options};
+pub use command_line::{CommandLine, Running, Serving, options};

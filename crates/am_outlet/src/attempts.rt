@@ -73,6 +73,7 @@ impl Attempts {
         ensures each { OnOk result ((t : List ℕ) → desk_of t self.new ≡ (if same t tenant.now then started notice (desk_of t self.old) else desk_of t self.old)) }
         ensures fault { IsErrOf result Fault.CountsExhausted ↔ (2 ^ 62 ≤ (desk_of tenant.now self.old).used) }
         ensures no_pattern { IsErrOf result Fault.PatternNotBuilt → ⊥ }
+        ensures no_store { IsErrOf result Fault.StoreRefused → ⊥ }
         ensures err { OnErr result (IsSameOrWithout notice.key tenant.now self.old self.new) }
         ensures others { LeavesOthers tenant.now self.old.attempts self.new.attempts }
     {

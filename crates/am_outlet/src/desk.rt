@@ -132,6 +132,7 @@ impl Desk {
         ensures sending { IfOk result (λ sending. sending ≡ sending_of (self.old.used + 1) 1 notice) }
         ensures fault { IsErrOf result Fault.CountsExhausted ↔ (2 ^ 62 ≤ self.old.used) }
         ensures no_pattern { IsErrOf result Fault.PatternNotBuilt → ⊥ }
+        ensures no_store { IsErrOf result Fault.StoreRefused → ⊥ }
         ensures err { OnErr result ((self.new ≡ self.old) ⊎ (self.new ≡ without notice.key self.old)) }
     {
         if self.used >= GREATEST_COUNT {

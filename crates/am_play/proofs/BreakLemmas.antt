@@ -1,15 +1,16 @@
 -- What a scenario came to of which a stream or the memory failed.
-use Rattle.std.proofs.Common.{◌≡◌, ℕ, List, [], ◌++◌, Option, None, Some, IfSome, refl, ◌∙◌, inl, inr, append-nil}
+use Rattle.std.proofs.Common.{◌≡◌, ℕ, List, [], ◌++◌, Option, None, Some, IfSome, refl, sym, subst, ◌∙◌, inl, inr, append-nil}
 use Rattle.std.proofs.lemmas.List.Concat.{flat_map-append}
 use Rattle.std.specs.Io.KnownBytes.{Appends}
-use Rattle.am_setup.specs.Setup.{Origin}
-use Rattle.am_world.specs.Simulation.{fault_count}
+use Rattle.am_item.specs.declared.item.Item.{Item}
+use Rattle.am_world.specs.Simulation.{Opens, fault_count}
+use Rattle.am_world.specs.declared.state.State.{State}
 use Rattle.am_play.proofs.ScenarioLemmas.{Rest, Upto}
-use Rattle.am_play.proofs.TraceLemmas.{course_until_fault}
+use Rattle.am_play.proofs.TraceLemmas.{course_alone, course_until_fault}
 use Rattle.am_play.proofs.WritingLemmas.{part_later}
 use Rattle.am_play.specs.Link.{Answers, Carries}
 use Rattle.am_play.specs.Playing.{IsStart, ending}
-use Rattle.am_play.specs.Scenario.{CourseBreaks, Course, ScenarioBreaks}
+use Rattle.am_play.specs.Scenario.{CourseBreaks, Course, IsolatesTenants, ScenarioBreaks}
 use Rattle.am_play.specs.Streams.{KnownLines}
 use Rattle.am_play.specs.Trace.{Happened, printed, text_of}
 use Rattle.am_play.specs.Writing.{AppendsPart}
@@ -29,9 +30,9 @@ all_read : (known : KnownLines) (lines : List (List ℕ)) → IfSome known (λ k
 all_read None lines read = tt
 all_read (Some all) lines read = append-nil lines ∙ read
 
-module _ (carries : Carries) (answers : Answers) (start : Player) (known : KnownLines) (old new : Option (List ℕ)) where
+module _ {R : Type 0} (carries : Carries) (answers : Answers) (start : Player R) (known : KnownLines) (old new : Option (List ℕ)) where
   -- some lines were played
-  pub upto_breaks : (p : Player) (left : KnownLines) (n : ℕ) (trace : List Happened) →
+  pub upto_breaks : (p : Player R) (left : KnownLines) (n : ℕ) (trace : List Happened) →
       Upto carries answers start known p left n trace → AppendsPart old new (printed trace) →
       CourseBreaks carries answers start known old new
   upto_breaks p left n trace upto written =
@@ -48,9 +49,9 @@ module _ (carries : Carries) (answers : Answers) (start : Player) (known : Known
       }
 
   -- all lines were played
-  pub course_breaks : (played : Played) (trace : List Happened) (end : Player) →
+  pub course_breaks : (played : Played) (trace : List Happened) (end : Player R) →
       Course carries answers start known played trace end →
-      AppendsPart old new (printed trace ++ ending played (fault_count end.world)) →
+      AppendsPart old new (printed trace ++ ending played (fault_count end.world.state)) →
       CourseBreaks carries answers start known old new
   course_breaks played trace end course written = record {
     lines = course.lines;
@@ -64,15 +65,27 @@ module _ (carries : Carries) (answers : Answers) (start : Player) (known : Known
   }
 
   -- .. from a new world on
-  pub scenario_breaks : (origin : Origin) → IsStart origin start → CourseBreaks carries answers start known old new →
-      ScenarioBreaks carries answers origin known old new
-  scenario_breaks origin is_start course = record {
+  pub scenario_breaks : (w : State) → IsStart w start → CourseBreaks carries answers start known old new →
+      ScenarioBreaks R carries answers w known old new
+  scenario_breaks w is_start course = record {
     start = start;
     is_start = is_start;
     course = course;
-    alone = course_until_fault carries answers origin start None course.played course.trace course.end is_start
+    until_fault = λ origin rows opens.
+        course_until_fault carries answers origin rows start None course.played course.trace course.end (subst (Opens origin rows) (sym is_start.begins) opens)
         (record { lines = course.lines; are_read = tt; plays = course.plays });
   }
+
+-- all of a scenario was played from a new world on
+pub isolates : {R : Type 0} (carries : Carries) (answers : Answers) (start : Player R) (known : KnownLines) (w : State) →
+    IsStart w start → (played : Played) (trace : List Happened) (end : Player R) →
+    Course carries answers start known played trace end → IsolatesTenants w trace (fault_count end.world.state)
+isolates carries answers start known w is_start played trace end course = record {
+  alone = λ origin rows opens.
+      course_alone carries answers origin rows start known played trace end (subst (Opens origin rows) (sym is_start.begins) opens) course;
+  until_fault = λ origin rows opens.
+      course_until_fault carries answers origin rows start known played trace end (subst (Opens origin rows) (sym is_start.begins) opens) course;
+}
 
 -- the lines of a trace were written, and then a first part of those of what followed
 pub trace_later : (a b c : Option (List ℕ)) (trace more : List Happened) → Appends a b (printed trace) →

@@ -6,7 +6,7 @@ use Rattle.std.specs.List.{flat_map}
 use Rattle.am_world.specs.declared.event.Event.{Event}
 use Rattle.am_world.specs.declared.event.Event.TheVariants as event
 use Rattle.am_world.specs.declared.event.Refused.{Refused}
-use Rattle.am_world.specs.declared.world.World.{World}
+use Rattle.am_world.specs.declared.state.State.{State}
 use Rattle.am_world.specs.Places.{up_at}
 use Rattle.am_world.specs.Refusal.{refusal}
 use Rattle.am_world.specs.Runs.{Forgets}
@@ -59,7 +59,7 @@ either_second P Q true e second = absurd (cc)
 either_second P Q false e second = second
 
 -- refusals don't depend on what was put out
-pub refusal_same : (w w' : World) (e : Event) → Forgets w w' → refusal w' e ≡ refusal w e
+pub refusal_same : (w w' : State) (e : Event) → Forgets w w' → refusal w' e ≡ refusal w e
 unfolding up_at
 refusal_same w w' (event.Open c i) forgets = rw forgets.instances refl
 refusal_same w w' (event.Bytes c moment piece) forgets = rw forgets.instances refl
@@ -84,23 +84,23 @@ refused_some (Some d) r e is told =
     ap Some same
 
 -- an event came and was reported: its outputs, and then its refusal
-pub reports_event : (p : Player) (e : Event) (p' : Player) (before : World) (refused : Option Refused)
+pub reports_event : {R : Type 0} (p : Player R) (e : Event) (p' : Player R) (before : State) (refused : Option Refused)
     (old new : Report) →
-    Forgets p.world before → Step before e p'.world → refusal before e ≡ refused →
-    (IsSome refused → p'.world ≡ before) →
+    Forgets p.world.state before → Step before e p'.world.state → refusal before e ≡ refused →
+    (IsSome refused → p'.world.state ≡ before) →
     p'.connections ≡ p.connections → p'.moment ≡ p.moment → p'.hook ≡ p.hook →
     string_bytes new.text ≡
-    (string_bytes old.text ++ flat_map (output_line p.connections) (put_out p'.world)) ++ refusal_line refused →
-    new.tries.items ≡ old.tries.items ++ tries_in (put_out p'.world) →
+    (string_bytes old.text ++ flat_map (output_line p.connections) (put_out p'.world.state)) ++ refusal_line refused →
+    new.tries.items ≡ old.tries.items ++ tries_in (put_out p'.world.state) →
     Reports old new (Happens p e p')
 reports_event p e p' before refused old new forgets step is same connections moment hook text tries =
-    let seen : refusal p.world e ≡ refused = sym (refusal_same p.world before e forgets) ∙ is in
-    let lines = flat_map (output_line p.connections) (put_out p'.world) in (
+    let seen : refusal p.world.state e ≡ refused = sym (refusal_same p.world.state before e forgets) ∙ is in
+    let lines = flat_map (output_line p.connections) (put_out p'.world.state) in (
       happened p e p' ∷ [],
       record {
         text = rw seen (text ∙ append_assoc (string_bytes old.text) lines (refusal_line refused)
             ∙ ap (λ s. string_bytes old.text ++ s) (sym (append-nil (lines ++ refusal_line refused))));
-        tries = tries ∙ ap (λ os. old.tries.items ++ tries_in os) (sym (append-nil (put_out p'.world)));
+        tries = tries ∙ ap (λ os. old.tries.items ++ tries_in os) (sym (append-nil (put_out p'.world.state)));
       },
       record {
         before = before;
@@ -123,12 +123,12 @@ piece_fits size piece rest is_size cut some =
     grind (arith, nat_tests)
 
 -- no bytes came
-pub gives_nothing : (carries : Carries) (c : ℕ) (p : Player) → Gives carries c p [] p []
+pub gives_nothing : {R : Type 0} (carries : Carries) (c : ℕ) (p : Player R) → Gives carries c p [] p []
 gives_nothing carries c p =
     record { pieces = []; left = []; cut = refl; sizes = refl; come = (inl refl, refl, refl) }
 
 -- the next piece was lost
-pub gives_lost : (carries : Carries) (c : ℕ) (p : Player) (piece after : List ℕ) → is_piece piece ≡ true →
+pub gives_lost : {R : Type 0} (carries : Carries) (c : ℕ) (p : Player R) (piece after : List ℕ) → is_piece piece ≡ true →
     carries piece false → Gives carries c p (piece ++ after) p []
 gives_lost carries c p piece after size lost = record {
   pieces = [];
@@ -143,7 +143,7 @@ gives_lost carries c p piece after size lost = record {
 }
 
 -- a piece came, and then others
-pub gives_more : (carries : Carries) (c : ℕ) (p mid p' : Player) (piece bytes : List ℕ) (first rest : List Happened) →
+pub gives_more : {R : Type 0} (carries : Carries) (c : ℕ) (p mid p' : Player R) (piece bytes : List ℕ) (first rest : List Happened) →
     is_piece piece ≡ true → carries piece true → Happens p (event.Bytes c p.moment piece) mid first →
     goes_on c p (event.Bytes c p.moment piece) mid ≡ true → Gives carries c mid bytes p' rest →
     Gives carries c p (piece ++ bytes) p' (first ++ rest)
@@ -156,7 +156,7 @@ gives_more carries c p mid p' piece bytes first rest size came happens goes give
 }
 
 -- a piece came and ended the line
-pub gives_last : (carries : Carries) (c : ℕ) (p mid : Player) (piece left : List ℕ) (first : List Happened) →
+pub gives_last : {R : Type 0} (carries : Carries) (c : ℕ) (p mid : Player R) (piece left : List ℕ) (first : List Happened) →
     is_piece piece ≡ true → carries piece true → Happens p (event.Bytes c p.moment piece) mid first →
     goes_on c p (event.Bytes c p.moment piece) mid ≡ false → Gives carries c p (piece ++ left) mid first
 gives_last carries c p mid piece left first size came happens ends = record {
@@ -168,7 +168,7 @@ gives_last carries c p mid piece left first size came happens ends = record {
 }
 
 -- one of the tries got its outcome, and then the others
-pub settles_more : (answers : Answers) (p mid p' : Player) (tries : List Try) (i : ℕ) (awaited : Try)
+pub settles_more : {R : Type 0} (answers : Answers) (p mid p' : Player R) (tries : List Try) (i : ℕ) (awaited : Try)
     (status : Option ℕ) (first rest : List Happened) →
     i < length tries → awaited ≡ get_or tries i awaited → answers awaited.request p.hook status →
     Happens p (event.Outcome awaited.attempt awaited.tries p.moment status) mid first →

@@ -19,15 +19,15 @@ Rest (Some all) None lines = ⊥
 Rest (Some all) (Some left) lines = lines ++ left ≡ all
 
 -- n lines were played, and this happened; whatever the others come to follows
-pub record Upto (carries : Carries) (answers : Answers) (start : Player) (known : KnownLines) (p : Player)
+pub record Upto {R : Type 0} (carries : Carries) (answers : Answers) (start : Player R) (known : KnownLines) (p : Player R)
     (left : KnownLines) (n : ℕ) (trace : List Happened) : Type 0 where
   pub lines : List (List ℕ)
   pub rest : Rest known left lines
-  pub plays : (others : List (List ℕ)) (played : Played) (more : List Happened) (end : Player) →
+  pub plays : (others : List (List ℕ)) (played : Played) (more : List Happened) (end : Player R) →
       Plays carries answers (n + 1) p others played more end →
       Plays carries answers 1 start (lines ++ others) played (trace ++ more) end
 
-pub upto_first : (carries : Carries) (answers : Answers) (start : Player) (known : KnownLines) →
+pub upto_first : {R : Type 0} (carries : Carries) (answers : Answers) (start : Player R) (known : KnownLines) →
     Upto carries answers start known start known 0 []
 upto_first carries answers start known =
     record { lines = []; rest = by known; plays = λ others played more end plays. plays }
@@ -45,7 +45,7 @@ rest_more (Some all) (Some left) None lines line rest gives = absurd gives
 rest_more (Some all) (Some left) (Some others) lines line rest gives =
     append_assoc lines (line ∷ []) others ∙ ap (λ l. lines ++ l) (sym gives) ∙ rest
 
-pub upto_more : (carries : Carries) (answers : Answers) (start p mid : Player) (known old new : KnownLines)
+pub upto_more : {R : Type 0} (carries : Carries) (answers : Answers) (start p mid : Player R) (known old new : KnownLines)
     (n : ℕ) (line : List ℕ) (command : Command)
     (trace first : List Happened) →
     Upto carries answers start known p old n trace → GivesLine old (Some line) new →
@@ -60,7 +60,7 @@ upto_more carries answers start p mid known old new n line command trace first u
 }
 
 -- these others are left
-ends_with : (carries : Carries) (answers : Answers) (start p : Player) (known left : KnownLines) (n : ℕ)
+ends_with : {R : Type 0} (carries : Carries) (answers : Answers) (start p : Player R) (known left : KnownLines) (n : ℕ)
     (trace : List Happened)
     (upto : Upto carries answers start known p left n trace) (others : List (List ℕ)) (played : Played) →
     Plays carries answers (n + 1) p others played [] p → IfSome known (λ known. upto.lines ++ others ≡ known) →
@@ -74,7 +74,7 @@ ends_with carries answers start p known left n trace upto others played plays re
     }
 
 -- a line that is no command ends it
-pub upto_bad : (carries : Carries) (answers : Answers) (start p : Player) (known left new : KnownLines) (n : ℕ)
+pub upto_bad : {R : Type 0} (carries : Carries) (answers : Answers) (start p : Player R) (known left new : KnownLines) (n : ℕ)
     (line : List ℕ) (trace : List Happened) →
     Upto carries answers start known p left n trace → GivesLine left (Some line) new → command_of line ≡ None →
     Course carries answers start known (BadLine (n + 1)) trace p
@@ -88,7 +88,7 @@ upto_bad carries answers start p (Some all) (Some left) (Some others) n line tra
     (rw bad (refl, refl, refl)) (ap (λ l. upto.lines ++ l) (sym gives) ∙ upto.rest)
 
 -- the source's end does
-pub upto_end : (carries : Carries) (answers : Answers) (start p : Player) (known left new : KnownLines) (n : ℕ)
+pub upto_end : {R : Type 0} (carries : Carries) (answers : Answers) (start p : Player R) (known left new : KnownLines) (n : ℕ)
     (trace : List Happened) →
     Upto carries answers start known p left n trace → GivesLine left None new →
     Course carries answers start known All trace p

@@ -3,7 +3,7 @@ use Rattle.std.specs.Prelude.{◌≡◌, ℕ, ◌+◌, nat_lt, nat_le, Bool, tru
 use Rattle.std.specs.List.{concat, list_all}
 use Rattle.am_world.specs.declared.event.Event.{Event}
 use Rattle.am_world.specs.declared.event.Event.TheVariants as event
-use Rattle.am_world.specs.declared.world.World.{World}
+use Rattle.am_world.specs.declared.state.State.{State}
 use Rattle.am_world.specs.Runs.{Forgets}
 use Rattle.am_setup.specs.Setup.{Origin}
 use Rattle.am_world.specs.Refusal.{refusal}
@@ -24,30 +24,30 @@ use Rattle.am_play.specs.Trace.{Happened, outputs}
 use Rattle.am_play.specs.Tries.{tries_in}
 
 -- what an event is in the trace, by the player before it and after it
-abbrev pub happened : Player → Event → Player → Happened
+abbrev pub happened : {R : Type 0} → Player R → Event → Player R → Happened
 happened p e p' = record {
   event = e;
-  outputs = put_out p'.world;
-  refused = refusal p.world e;
+  outputs = put_out p'.world.state;
+  refused = refusal p.world.state e;
   names = p.connections;
-  faults = fault_count p'.world;
-  unbuilt = refused_by p'.world;
+  faults = fault_count p'.world.state;
+  unbuilt = refused_by p'.world.state;
 }
 
 -- an event came to the world, which forgot its outputs first; a refused one did nothing
-pub record Happens (p : Player) (e : Event) (p' : Player) (trace : List Happened) : Type 0 where
-  pub before : World
-  pub forgets : Forgets p.world before
-  pub step : Step before e p'.world
-  pub refused : IsSome (refusal p.world e) → p'.world ≡ before
+pub record Happens {R : Type 0} (p : Player R) (e : Event) (p' : Player R) (trace : List Happened) : Type 0 where
+  pub before : State
+  pub forgets : Forgets p.world.state before
+  pub step : Step before e p'.world.state
+  pub refused : IsSome (refusal p.world.state e) → p'.world.state ≡ before
   pub connections : p'.connections ≡ p.connections
   pub moment : p'.moment ≡ p.moment
   pub hook : p'.hook ≡ p.hook
   pub traced : trace ≡ happened p e p' ∷ []
 
 -- what stands on a line goes on after an event: it wasn't refused, and didn't answer the line's connection
-abbrev pub goes_on : ℕ → Player → Event → Player → Bool
-goes_on c p e p' = is_none (refusal p.world e) && not (is_answered c (put_out p'.world))
+abbrev pub goes_on : {R : Type 0} → ℕ → Player R → Event → Player R → Bool
+goes_on c p e p' = is_none (refusal p.world.state e) && not (is_answered c (put_out p'.world.state))
 
 -- a piece isn't empty, and has at most 4,096 bytes
 abbrev pub is_piece : List ℕ → Bool
@@ -63,10 +63,10 @@ pub record Loses (carries : Carries) (left : List ℕ) : Type 0 where
 
 -- pieces came on a connection, one after the other; after the last one something is left only if it ended the line, or
 -- if the next piece was lost
-abbrev pub Come : Carries → ℕ → Player → List (List ℕ) → List ℕ → Player → List Happened → Type 0
-Come carries c p [] left p' trace = ((left ≡ []) ⊎ Loses carries left) × (p' ≡ p) × (trace ≡ [])
-Come carries c p (piece ∷ pieces) left p' trace =
-    (mid : Player) × (first rest : List Happened) × carries piece true
+abbrev pub Come : {R : Type 0} → Carries → ℕ → Player R → List (List ℕ) → List ℕ → Player R → List Happened → Type 0
+Come {R} carries c p [] left p' trace = ((left ≡ []) ⊎ Loses carries left) × (p' ≡ p) × (trace ≡ [])
+Come {R} carries c p (piece ∷ pieces) left p' trace =
+    (mid : Player R) × (first rest : List Happened) × carries piece true
     × Happens p (event.Bytes c p.moment piece) mid first
     × (trace ≡ first ++ rest)
     × Either (goes_on c p (event.Bytes c p.moment piece) mid)
@@ -74,7 +74,7 @@ Come carries c p (piece ∷ pieces) left p' trace =
     ((pieces ≡ []) × (p' ≡ mid) × (rest ≡ []))
 
 -- bytes came on a connection, in pieces, all of them unless an event ended the line or a piece was lost
-pub record Gives (carries : Carries) (c : ℕ) (p : Player) (bytes : List ℕ) (p' : Player) (trace : List Happened) :
+pub record Gives {R : Type 0} (carries : Carries) (c : ℕ) (p : Player R) (bytes : List ℕ) (p' : Player R) (trace : List Happened) :
     Type 0 where
   pub pieces : List (List ℕ)
   pub left : List ℕ
@@ -83,7 +83,7 @@ pub record Gives (carries : Carries) (c : ℕ) (p : Player) (bytes : List ℕ) (
   pub come : Come carries c p pieces left p' trace
 
 -- the name of a connection is known from now on
-abbrev pub naming : List ℕ → Player → Player
+abbrev pub naming : {R : Type 0} → List ℕ → Player R → Player R
 naming name p = record p { connections = with_name name p.connections }
 
 -- the number of an instance as the world takes it: none past 255 is in any ring
@@ -91,17 +91,17 @@ abbrev pub instance_of : ℕ → ℕ
 instance_of i = min i 255
 
 -- a connection was opened, and then, unless that was refused, a whole request came on it
-abbrev pub Calls : Carries → ℕ → Player → ℕ → List ℕ → Player → List Happened → Type 0
-Calls carries c p i text p' trace =
-    (mid : Player) × (first rest : List Happened) × Happens p (event.Open c i) mid first × (trace ≡ first ++ rest)
-    × Either (is_none (refusal p.world (event.Open c i))) (Gives carries c mid text p' rest) ((p' ≡ mid) × (rest ≡ []))
+abbrev pub Calls : {R : Type 0} → Carries → ℕ → Player R → ℕ → List ℕ → Player R → List Happened → Type 0
+Calls {R} carries c p i text p' trace =
+    (mid : Player R) × (first rest : List Happened) × Happens p (event.Open c i) mid first × (trace ≡ first ++ rest)
+    × Either (is_none (refusal p.world.state (event.Open c i))) (Gives carries c mid text p' rest) ((p' ≡ mid) × (rest ≡ []))
 
 -- the name of a connection became known, and then this holds of the connection, which is the name's place
-abbrev pub OnNamed : Player → List ℕ → (ℕ → Player → Type 0) → Type 0
+abbrev pub OnNamed : {R : Type 0} → Player R → List ℕ → (ℕ → Player R → Type 0) → Type 0
 OnNamed p name Holds = (c : ℕ) × (place_of name (naming name p).connections ≡ Some c) × Holds c (naming name p)
 
 -- a command was done
-abbrev pub Obeys : Carries → Player → Command → Player → List Happened → Type 0
+abbrev pub Obeys : {R : Type 0} → Carries → Player R → Command → Player R → List Happened → Type 0
 Obeys carries p Skip p' trace = (p' ≡ p) × (trace ≡ [])
 Obeys carries p Pump p' trace = (p' ≡ p) × (trace ≡ [])
 Obeys carries p (At moment) p' trace = (p' ≡ record p { moment = moment }) × (trace ≡ [])
@@ -116,18 +116,18 @@ Obeys carries p (Call name i request) p' trace =
 
 -- each of these tries got its outcome, one after the other: with the status that was read of what the receiver, to
 -- which its request went, answers now
-abbrev pub Settles : Answers → Player → List Try → Player → List Happened → Type 0
-Settles answers p [] p' trace = (p' ≡ p) × (trace ≡ [])
-Settles answers p (awaited ∷ tries) p' trace =
-    (status : Option ℕ) × (mid : Player) × (first rest : List Happened)
+abbrev pub Settles : {R : Type 0} → Answers → Player R → List Try → Player R → List Happened → Type 0
+Settles {R} answers p [] p' trace = (p' ≡ p) × (trace ≡ [])
+Settles {R} answers p (awaited ∷ tries) p' trace =
+    (status : Option ℕ) × (mid : Player R) × (first rest : List Happened)
     × answers awaited.request p.hook status
     × Happens p (event.Outcome awaited.attempt awaited.tries p.moment status) mid first
     × (trace ≡ first ++ rest) × Settles answers mid tries p' rest
 
 -- a line was played: its command was done, and then each try that this sent out got its outcome
-abbrev pub Does : Carries → Answers → Player → Command → Player → List Happened → Type 0
-Does carries answers p command p' trace =
-    (mid : Player) × (first rest : List Happened) × Obeys carries p command mid first × (trace ≡ first ++ rest)
+abbrev pub Does : {R : Type 0} → Carries → Answers → Player R → Command → Player R → List Happened → Type 0
+Does {R} carries answers p command p' trace =
+    (mid : Player R) × (first rest : List Happened) × Obeys carries p command mid first × (trace ≡ first ++ rest)
     × Settles answers mid (tries_in (outputs first)) p' rest
 
 -- the last line of a scenario that was played whole
@@ -140,16 +140,16 @@ ending All faults = faults_line faults
 ending (BadLine n) faults = []
 
 -- the lines from the n-th on were played, up to the first that is no command
-abbrev pub Plays : Carries → Answers → ℕ → Player → List (List ℕ) → Played → List Happened → Player → Type 0
-Plays carries answers n p [] played trace p' = (played ≡ All) × (trace ≡ []) × (p' ≡ p)
-Plays carries answers n p (line ∷ lines) played trace p' = MatchOption (command_of line)
+abbrev pub Plays : {R : Type 0} → Carries → Answers → ℕ → Player R → List (List ℕ) → Played → List Happened → Player R → Type 0
+Plays {R} carries answers n p [] played trace p' = (played ≡ All) × (trace ≡ []) × (p' ≡ p)
+Plays {R} carries answers n p (line ∷ lines) played trace p' = MatchOption (command_of line)
     ((played ≡ BadLine n) × (trace ≡ []) × (p' ≡ p))
-    (λ command. (mid : Player) × (first rest : List Happened) × Does carries answers p command mid first
+    (λ command. (mid : Player R) × (first rest : List Happened) × Does carries answers p command mid first
     × (trace ≡ first ++ rest) × Plays carries answers (n + 1) mid lines played rest p')
 
--- where a scenario begins: a new world, no connection, the moment 0, and a receiver that takes all notices
-pub record IsStart (origin : Origin) (p : Player) : Type 0 where
-  pub opens : Opens origin p.world
+-- where a scenario begins: a world, no connection, the moment 0, and a receiver that takes all notices
+pub record IsStart {R : Type 0} (w : State) (p : Player R) : Type 0 where
+  pub begins : p.world.state ≡ w
   pub connections : p.connections ≡ []
   pub moment : p.moment ≡ 0
   pub hook : p.hook ≡ Some 200

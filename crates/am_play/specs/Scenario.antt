@@ -1,6 +1,10 @@
 -- A whole scenario: its lines, and what playing them comes to.
 use Rattle.std.specs.Prelude.{◌≡◌, ◌⊎◌, ℕ, List, [], ◌++◌, Option, IfSome}
+use Rattle.am_item.specs.declared.item.Item.{Item}
 use Rattle.am_world.specs.Runs.{Alone}
+use Rattle.am_world.specs.Shelves.{Shelf}
+use Rattle.am_world.specs.Simulation.{Opens}
+use Rattle.am_world.specs.declared.state.State.{State}
 use Rattle.am_setup.specs.Setup.{Origin}
 use Rattle.am_world.specs.Simulation.{fault_count}
 use Rattle.am_world.specs.View.{first_watch, names_once}
@@ -17,44 +21,52 @@ abbrev pub Known : Type 0
 Known = Option (List ℕ)
 
 -- lines were played over a link, and this happened; they are the source's, where those are known
-pub record Course (carries : Carries) (answers : Answers) (start : Player) (known : KnownLines) (played : Played)
-    (trace : List Happened) (end : Player) : Type 0 where
+pub record Course {R : Type 0} (carries : Carries) (answers : Answers) (start : Player R) (known : KnownLines) (played : Played)
+    (trace : List Happened) (end : Player R) : Type 0 where
   pub lines : List (List ℕ)
   pub are_read : IfSome known (λ known. lines ≡ known)
   pub plays : Plays carries answers 1 start lines played trace end
 
--- .. from a new world on, in which so many faults came
-pub record Scenario (carries : Carries) (answers : Answers) (origin : Origin) (known : KnownLines) (played : Played)
-    (trace : List Happened) (faults : ℕ) : Type 0 where
-  pub start : Player
-  pub is_start : IsStart origin start
-  pub end : Player
+-- .. from a world on, in which so many faults came, and this is seen of its stores afterwards
+pub record Scenario (R : Type 0) (carries : Carries) (answers : Answers) (w : State) (known : KnownLines) (played : Played)
+    (trace : List Happened) (faults : ℕ) (shelves : List Shelf) : Type 0 where
+  pub start : Player R
+  pub is_start : IsStart w start
+  pub end : Player R
   pub course : Course carries answers start known played trace end
-  pub counted : faults ≡ fault_count end.world
+  pub counted : faults ≡ fault_count end.world.state
+  pub stores : shelves ≡ end.world.shelves
 
 -- wherever a trace is cut: where no fault came before the cut, each tenant is as if alone until there
-abbrev pub AloneUntilFault : Origin → List Happened → Type 0
-AloneUntilFault origin trace = (first rest : List Happened) → trace ≡ first ++ rest → no_fault first →
-    names_once (first_watch origin) (events first) → Alone origin (events first) (unbuilt first) (outputs first)
+abbrev pub AloneUntilFault : Origin → (rows : List ℕ → ℕ → List Item) → List Happened → Type 0
+AloneUntilFault origin rows trace = (first rest : List Happened) → trace ≡ first ++ rest → no_fault first →
+    names_once (first_watch origin) (events first) → Alone origin rows (events first) (unbuilt first) (outputs first)
+
+-- a trace from a world on that was opened over stores with these rows: each tenant is as if alone, where no fault came and no
+-- connection's name was used twice, and until a fault
+pub record IsolatesTenants (w : State) (trace : List Happened) (faults : ℕ) : Type 0 where
+  pub alone : (origin : Origin) (rows : List ℕ → ℕ → List Item) → Opens origin rows w → faults ≡ 0 →
+      names_once (first_watch origin) (events trace) → Alone origin rows (events trace) (unbuilt trace) (outputs trace)
+  pub until_fault : (origin : Origin) (rows : List ℕ → ℕ → List Item) → Opens origin rows w → AloneUntilFault origin rows trace
 
 -- a stream or the memory failed: lines were played, the source's first where those are known, this happened, and a
 -- first part of what is written of it was written. The ending is written behind the source's last line alone
-pub record CourseBreaks (carries : Carries) (answers : Answers) (start : Player) (known : KnownLines)
+pub record CourseBreaks {R : Type 0} (carries : Carries) (answers : Answers) (start : Player R) (known : KnownLines)
     (old new : Known) : Type 0 where
   pub lines : List (List ℕ)
   pub others : List (List ℕ)
   pub are_read : IfSome known (λ known. lines ++ others ≡ known)
   pub played : Played
   pub trace : List Happened
-  pub end : Player
+  pub end : Player R
   pub plays : Plays carries answers 1 start lines played trace end
   pub written : AppendsPart old new (printed trace)
-      ⊎ ((others ≡ []) × AppendsPart old new (printed trace ++ ending played (fault_count end.world)))
+      ⊎ ((others ≡ []) × AppendsPart old new (printed trace ++ ending played (fault_count end.world.state)))
 
--- .. from a new world on; each tenant is as if alone until a fault
-pub record ScenarioBreaks (carries : Carries) (answers : Answers) (origin : Origin) (known : KnownLines)
+-- .. from a world on; each tenant is as if alone until a fault
+pub record ScenarioBreaks (R : Type 0) (carries : Carries) (answers : Answers) (w : State) (known : KnownLines)
     (old new : Known) : Type 0 where
-  pub start : Player
-  pub is_start : IsStart origin start
+  pub start : Player R
+  pub is_start : IsStart w start
   pub course : CourseBreaks carries answers start known old new
-  pub alone : AloneUntilFault origin course.trace
+  pub until_fault : (origin : Origin) (rows : List ℕ → ℕ → List Item) → Opens origin rows w → AloneUntilFault origin rows course.trace

@@ -2,14 +2,13 @@ ghost use Rattle.std.specs.Prelude.{◌≡◌, ◌⊎◌, ◌++◌, ◌&&◌, no
 ghost use Rattle.std.specs.List.{flat_map};
 ghost use Rattle.std.specs.Io.KnownBytes.{Appends, Keeps};
 ghost use Rattle.am_world.specs.Refusal.{refusal};
-ghost use Rattle.am_world.specs.Runs.{Alone};
+ghost use Rattle.am_world.specs.Shelves.{shelves_of};
 ghost use Rattle.am_world.specs.Simulation.{fault_count, put_out};
-ghost use Rattle.am_world.specs.View.{first_watch, names_once};
 ghost use Rattle.am_play.specs.Output.{is_answered};
 ghost use Rattle.am_play.specs.Playing.{Happens, Gives, Calls, Obeys, Settles, Does, ending, faults_line, instance_of};
-ghost use Rattle.am_play.specs.Scenario.{AloneUntilFault, Course, CourseBreaks, Scenario, ScenarioBreaks};
+ghost use Rattle.am_play.specs.Scenario.{Course, CourseBreaks, IsolatesTenants, Scenario, ScenarioBreaks};
 ghost use Rattle.am_play.specs.Streams.{IsFailureOf};
-ghost use Rattle.am_play.specs.Trace.{Happened, Reports, events, outputs, printed, output_line, unbuilt};
+ghost use Rattle.am_play.specs.Trace.{Happened, Reports, printed, output_line};
 ghost use Rattle.am_play.specs.Tries.{tries_in, try_of};
 ghost use Rattle.am_play.specs.Writing.{AppendsPart};
 
@@ -19,8 +18,8 @@ use crate::report::{Report, Try};
 use crate::stops::Stops;
 use crate::streams::{Sink, Source, StreamFailure};
 use am_http::ConnectionId;
+use am_rows::Rows;
 use am_scenario::{Command, LineFault, Request, read_command};
-use am_setup::Setup;
 use am_text::{Octets, Text};
 use am_world::event::{Event, Output};
 use am_world::world::World;
@@ -42,41 +41,37 @@ pub enum Played {
     BadLine(u64),
 }
 
-/// Plays the scenario that `source` gives against a new world, and writes its output lines to `writer`. What a line
-/// gives to a connection goes over the link in pieces, and ends where one is lost. Each notice goes over it too, and the
-/// outcome of its try has the status that was read of the answer.
+/// Plays the scenario that `source` gives against a world, and writes its output lines to `writer`. What a line gives to a
+/// connection goes over the link in pieces, and ends where one is lost. Each notice goes over it too, and the outcome of its try
+/// has the status that was read of the answer. The world's stores are handed back, each at its last commit.
 ///
-/// What is written are the lines of a trace: what happened, event by event. Whatever the other tenants do, a tenant's
-/// outputs in it are, byte for byte and in order, those of a private cluster that has this tenant alone; provided
-/// that no connection's name is opened twice and no pattern that the tenant brings was refused its build, and up to a first
-/// fault.
+/// What is written are the lines of a trace: what happened, event by event. Where the world was just opened, a tenant's outputs in
+/// it are, whatever the other tenants do, byte for byte and in order, those of a private cluster that has this tenant alone and
+/// begins with its rows; provided that no connection's name is opened twice and no pattern that the tenant brings was refused its
+/// build, and up to a first fault.
 ///
 /// # Errors
 /// Out of memory, or an error that one of the streams gave. What was written stays, and is a first part of what is
 /// written of the lines that were played.
-pub fn play<L: Link, S: Source, K: Sink, E: Sink>(
+pub fn play<R: Rows + Drop, L: Link, S: Source, K: Sink, E: Sink>(
     alloc: Global,
-    setup: Setup,
+    world: World<R>,
     link: &mut L,
     source: S,
     writer: &mut K,
     errors: &mut E,
-) -> Result<Played, StreamFailure>
+) -> Result<(Played, Vec<R>), StreamFailure>
     // Where the lines of the source aren't known, there are lines of which this holds.
-    ensures plays { IfOk result (λ played. (trace : List Happened) × (faults : ℕ)
-        × Scenario L.carries L.answers setup.origin (S.lines source) played trace faults
-        × Appends (K.contents writer.old) (K.contents writer.new) (printed trace ++ ending played faults)
-        × (faults ≡ 0 → names_once (first_watch setup.origin) (events trace) →
-        Alone setup.origin (events trace) (unbuilt trace) (outputs trace))
-        × AloneUntilFault setup.origin trace) }
-    // Without memory for a new world nothing is written.
-    ensures breaks { OnErr result (Keeps (K.contents writer.old) (K.contents writer.new)
-        ⊎ ScenarioBreaks L.carries L.answers setup.origin (S.lines source)
+    ensures plays { IfOk result (λ r. (trace : List Happened) × (faults : ℕ)
+        × Scenario R L.carries L.answers world.state (S.lines source) r.0 trace faults
+        (shelves_of R.pairs R.is_clean R.is_open r.1.items)
+        × Appends (K.contents writer.old) (K.contents writer.new) (printed trace ++ ending r.0 faults)
+        × IsolatesTenants world.state trace faults) }
+    ensures breaks { OnErr result (ScenarioBreaks R L.carries L.answers world.state (S.lines source)
         (K.contents writer.old) (K.contents writer.new)) }
     ensures causes { IfErr result (IsFailureOf
         (λ error. S.fails_with error ⊎ K.fails_with error ⊎ E.fails_with error)) }
 {
-    let world = World::open(alloc, setup)?;
     let mut player = Player {
         world,
         connections: Connections::new(alloc),
@@ -85,20 +80,21 @@ pub fn play<L: Link, S: Source, K: Sink, E: Sink>(
     };
     let played = player.play_lines(alloc, link, source, writer, errors)?;
     writer.flush()?;
-    Ok(played)
+    let Player { world, .. } = player;
+    Ok((played, world.into_stores()))
 }
 
 /// A scenario at one of its lines.
 #[derive(Drop)]
-struct Player {
-    world: World,
+struct Player<R: Rows> {
+    world: World<R>,
     connections: Connections,
     moment: u64,
     /// The status that the program's own receiver answers; `None` where it doesn't answer.
     hook: Option<u16>,
 }
 
-impl Player {
+impl<R: Rows + Drop> Player<R> {
     /// Plays the lines that are left, up to one that is no command. The text of each line is written before the next
     /// line is read.
     fn play_lines<L: Link, S: Source, K: Sink, E: Sink>(
@@ -112,7 +108,7 @@ impl Player {
         ensures plays { IfOk result (λ played. (trace : List Happened)
             × Course L.carries L.answers self.old (S.lines source) played trace self.new
             × Appends (K.contents writer.old) (K.contents writer.new)
-            (printed trace ++ ending played (fault_count self.new.world))) }
+            (printed trace ++ ending played (fault_count self.new.world.state))) }
         ensures breaks { OnErr result (CourseBreaks L.carries L.answers self.old (S.lines source)
             (K.contents writer.old) (K.contents writer.new)) }
         ensures causes { IfErr result (IsFailureOf
@@ -277,7 +273,7 @@ impl Player {
         report: &mut Report,
     ) -> Result<bool, AllocError>
         ensures taken { IfOk result (λ taken.
-            taken ≡ is_none (refusal self.old.world (Event.Open connection (instance_of instance)))) }
+            taken ≡ is_none (refusal self.old.world.state (Event.Open connection (instance_of instance)))) }
         ensures happens { OnOk result (Reports report.old report.new
             (Happens self.old (Event.Open connection (instance_of instance)) self.new)) }
     {
@@ -320,7 +316,7 @@ impl Player {
 
     /// Whether the bytes of a line go on after an event: it was taken, and didn't answer the line's connection.
     fn goes_on(&self, is_taken: bool, connection: ConnectionId) -> bool
-        ensures { result ≡ (is_taken && not (is_answered connection (put_out self.now.world))) }
+        ensures { result ≡ (is_taken && not (is_answered connection (put_out self.now.world.state))) }
     {
         is_taken && !is_answered(self.world.outputs(), connection)
     }
@@ -340,7 +336,7 @@ impl Player {
         event: &Event,
         report: &mut Report,
     ) -> Result<bool, AllocError>
-        ensures taken { IfOk result (λ taken. taken ≡ is_none (refusal self.old.world event.now)) }
+        ensures taken { IfOk result (λ taken. taken ≡ is_none (refusal self.old.world.state event.now)) }
         ensures happens { OnOk result (Reports report.old report.new (Happens self.old event.now self.new)) }
     {
         self.world.clear_outputs();
@@ -358,9 +354,9 @@ impl Player {
     /// Reports what the world put out at the last event.
     fn push_outputs(&self, alloc: Global, report: &mut Report) -> Result<(), AllocError>
         ensures text { OnOk result (string_bytes report.new.text ≡ string_bytes report.old.text ++
-            flat_map (output_line self.now.connections) (put_out self.now.world)) }
+            flat_map (output_line self.now.connections) (put_out self.now.world.state)) }
         ensures tries { OnOk result (report.new.tries.items ≡ report.old.tries.items ++
-            tries_in (put_out self.now.world)) }
+            tries_in (put_out self.now.world.state)) }
     {
         for output in self.world.outputs() {
             self.push_output(alloc, output, report)?;

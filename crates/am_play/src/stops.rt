@@ -3,6 +3,7 @@ ghost use Rattle.std.specs.Prelude.{IfErr};
 ghost use Rattle.am_play.specs.Streams.{IsFailureOf};
 
 use crate::streams::{Sink, StreamFailure};
+use am_rows::Rows;
 use am_world::world::World;
 use std::alloc::Global;
 
@@ -22,10 +23,10 @@ impl Stops {
     ///
     /// # Errors
     /// Out of memory, or one of the sink's: an instance of which it wasn't told whole counts as untold.
-    pub fn tell<E: Sink>(
+    pub fn tell<R: Rows, E: Sink>(
         &mut self,
         alloc: Global,
-        world: &World,
+        world: &World<R>,
         errors: &mut E,
     ) -> Result<(), StreamFailure>
         ensures causes { IfErr result (IsFailureOf E.fails_with) }

@@ -1,7 +1,7 @@
 //! How a scenario ends, and what is told of it.
 
 use crate::scenarios::links::Direct;
-use crate::scenarios::{ended, play_on, setup};
+use crate::scenarios::{ended, play_on, world};
 use am_expect::{equal, holds};
 use am_play::ending::tell;
 use am_play::lines::LineReader;
@@ -22,9 +22,9 @@ fn ends(
 ) -> Result<(), Fail> {
     let mut written = Vec::new(alloc);
     let mut errors = Vec::new(alloc);
-    let played = ended(play_on(
+    let (played, _) = ended(play_on(
         alloc,
-        setup()?,
+        world(alloc)?,
         &mut Direct,
         LineReader::new(alloc, scenario.as_bytes()),
         &mut WholeWriter(&mut written),
@@ -75,7 +75,7 @@ fn the_last_write_fails(rt: HostRuntime) -> Result<(), Fail> {
     let mut writer = WholeWriter(BufWriter::new(alloc, Full)?);
     match play_on(
         alloc,
-        setup()?,
+        world(alloc)?,
         &mut Direct,
         LineReader::new(alloc, b"tick\n".as_slice()),
         &mut writer,

@@ -1,6 +1,7 @@
 //! Whole scenarios. What they must print was computed apart from this program.
 
 mod isolation;
+mod kept;
 pub mod links;
 mod streams;
 
@@ -11,9 +12,11 @@ use am_play::play::{Played, play};
 use am_play::streams::{Sink, Source, StreamFailure};
 use am_play::writing::WholeWriter;
 use am_setup::Setup;
+use am_test_store::TestStore;
+use am_world::{OpenRefusal, World};
 use links::Direct;
 use serde_json::Value;
-use std::alloc::Global;
+use std::alloc::{AllocError, Global};
 use std::io;
 use std::test::Fail;
 
@@ -304,26 +307,49 @@ const BAD_LINES: [&[u8]; 30] = [
 const READ: &str =
     "GET /alertmanager/api/v2/alerts HTTP/1.1\r\nHost: amring\r\nX-Scope-OrgID: a\r\nContent-Length: 0\r\n\r\n";
 
-/// The settings of a command line without options.
-pub fn setup() -> Result<Setup, Fail> {
-    Ok(Setup::new([0; 32], &[1, 2, 3], 512, 1).ok_or("no settings")?)
+/// The stores of the eight instances, without rows.
+fn stores(alloc: Global) -> Result<Vec<TestStore>, AllocError> {
+    let mut stores = Vec::with_capacity(alloc, 8)?;
+    for _ in 0..8u8 {
+        stores.push(TestStore::new(alloc))?;
+    }
+    Ok(stores)
+}
+
+/// The world of a command line without options but the first incarnation, over these stores.
+fn opened(
+    alloc: Global,
+    start: u32,
+    stores: Vec<TestStore>,
+) -> Result<World<TestStore>, OpenRefusal> {
+    match Setup::new([0; 32], &[1, 2, 3], 512, start) {
+        Some(setup) if stores.len() == 8 => World::open(alloc, setup, stores),
+        _ => Err(OpenRefusal::OutOfMemory),
+    }
+}
+
+/// The world of a command line without options.
+pub fn world(alloc: Global) -> Result<World<TestStore>, Fail> {
+    Ok(opened(alloc, 1, stores(alloc)?)?)
 }
 
 /// Plays a scenario as the program does. The proofs of the tests that call it need none of what is promised of [`play`], and
 /// cost less without it.
 pub fn play_on<L: Link, S: Source, K: Sink, E: Sink>(
     alloc: Global,
-    setup: Setup,
+    world: World<TestStore>,
     link: &mut L,
     source: S,
     writer: &mut K,
     errors: &mut E,
-) -> Result<Played, StreamFailure> {
-    play(alloc, setup, link, source, writer, errors)
+) -> Result<(Played, Vec<TestStore>), StreamFailure> {
+    play(alloc, world, link, source, writer, errors)
 }
 
-/// How a scenario ended, or the error with which it broke off.
-pub fn ended(played: Result<Played, StreamFailure>) -> io::Result<Played> {
+/// How a scenario ended and the stores that it left, or the error with which it broke off.
+pub fn ended(
+    played: Result<(Played, Vec<TestStore>), StreamFailure>,
+) -> io::Result<(Played, Vec<TestStore>)> {
     match played {
         Ok(end) => Ok(end),
         Err(failure) => Err(failure.into()),
@@ -337,9 +363,9 @@ fn played_over<L: Link>(
     scenario: &[u8],
 ) -> Result<(Played, Vec<u8>), Fail> {
     let mut written = Vec::new(alloc);
-    let played = ended(play_on(
+    let (played, _) = ended(play_on(
         alloc,
-        setup()?,
+        world(alloc)?,
         link,
         LineReader::new(alloc, scenario),
         &mut WholeWriter(&mut written),

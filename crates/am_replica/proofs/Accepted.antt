@@ -1,6 +1,7 @@
 -- What is planned goes by what is held, also once items are accepted.
 use Rattle.std.proofs.Common.{◌≡◌, ◌⊎◌, inl, inr, ℕ, ◌+◌, ◌<◌, length, Bool, List, [], ◌∷◌, Option, Result, Ok, Err, IfErr, true, false, not, refl, sym, ap, ◌∙◌, subst, unwrap_or, arith}
 use Rattle.std.proofs.lemmas.Bool.{cases_Bool}
+use Rattle.std.proofs.lemmas.List.{length-map}
 use Rattle.std.specs.List.{list_any}
 use Rattle.std.specs.List.Sorted.{IsStrictlySortedBy}
 use Rattle.std.specs.Map.{keys_of}
@@ -20,11 +21,12 @@ use Rattle.am_muting.specs.Failing.{HasUnanswered}
 use Rattle.am_muting.specs.Muting.{alert_sets}
 use Rattle.am_planning.specs.Planning.{paces_of, planned_alerts}
 use Rattle.am_members.specs.declared.known.Known.{Known}
+use Rattle.am_members.specs.Grouped.{put_all}
 use Rattle.am_route.specs.Asked.{route_matchers}
 use Rattle.am_text.specs.Outcome.{ForRefused}
 use Rattle.am_text.specs.declared.failure.Failure.{Failure}
 use Rattle.am_text.specs.declared.failure.Failure.TheVariants.{Refused, OutOfMemory}
-use Rattle.am_replica.specs.Accepting.{IsPlannedBy, StopsAccepting, accepted, all_came, brings_alert, brings_configuration, followed, is_known, kept, unknown_of}
+use Rattle.am_replica.specs.Accepting.{IsPlannedBy, StopsAccepting, accepted, all_came, all_sooner, brings_alert, brings_configuration, followed, is_known, kept, met, unknown_of}
 use Rattle.am_replica.specs.Local.{Ledger, Local}
 use Rattle.am_replica.specs.Plans.{IsPlanned, sinces_in}
 use Rattle.am_replica.proofs.AlertSets.{all_rise, keys_came, sets_rise}
@@ -113,10 +115,20 @@ pub by_either : {R : Type 0} (P P' Q : Type 0) (failure : Failure R) → (P → 
 by_either P P' Q (Refused refusal) more found = (more found.0, found.1)
 by_either P P' Q OutOfMemory more found = tt
 
-pub all_with_reason : {R X : Type 0} (P Q : Type 0) (result : Result X (Failure R)) → P → IfErr result (λ failure. ForRefused failure (λ _. Q)) →
-    IfErr result (λ failure. ForRefused failure (λ _. P × Q))
-all_with_reason P Q (Ok x) p q = tt
-all_with_reason P Q (Err failure) p q = with_reason P Q failure p q
+pub all_by_either : {R X : Type 0} (P P' Q : Type 0) (result : Result X (Failure R)) → (P → P') → IfErr result (λ failure. ForRefused failure (λ _. P × Q)) →
+    IfErr result (λ failure. ForRefused failure (λ _. P' × Q))
+all_by_either P P' Q (Ok x) more found = tt
+all_by_either P P' Q (Err failure) more found = by_either P P' Q failure more found
+
+-- alerts are there once label sets came: one of these wasn't known, or one was there before
+pub met_some : (c : Configuration) (moment : ℕ) (sets : List (List Label)) (alerts : List (List Label × Known)) → 0 < length (met c moment sets alerts) →
+    (0 < length (unknown_of moment sets alerts)) ⊎ (0 < length alerts)
+unfolding met all_sooner planned_alerts
+met_some c moment sets alerts some = by (unknown_of moment sets alerts) some
+  where
+    by : (us : List (List Label × ℕ)) → 0 < length (put_all (planned_alerts c us) (all_sooner moment sets alerts)) → (0 < length us) ⊎ (0 < length alerts)
+    by [] there = inr (subst (λ n. 0 < n) (length-map alerts _) there)
+    by (u ∷ us) there = inl (omega arith)
 
 more_unknown : (labels : List Label) (sets : List (List Label)) (alerts : List (List Label × Known)) (moment : ℕ) → (is_known labels alerts ≡ true) ⊎ (is_known labels alerts ≡ false) →
     (0 < length (unknown_of moment sets alerts) → list_any (λ labels. not (is_known labels alerts)) sets ≡ true) →
@@ -135,12 +147,12 @@ some_unknown (labels ∷ sets) alerts moment some =
 
 pub stops : (refused : List (List ℕ)) (moment : ℕ) (items h : List Item) (c : Configuration) (local : Local) (came : List (List Label)) (is_new : Bool) →
     h ≡ all_joined local.held items → c ≡ configuration_in h → came ≡ alert_sets items → is_new ≡ brings_configuration items local →
-    ((0 < length (unknown_of moment came local.plan.grouped.alerts)) ⊎ (is_new ≡ true)) × HasUnanswered refused (patterns_of (route_matchers c.routes)) →
+    ((0 < length (unknown_of moment came local.plan.grouped.alerts)) ⊎ ((is_new ≡ true) × (0 < length local.plan.grouped.alerts))) × HasUnanswered refused (patterns_of (route_matchers c.routes)) →
     StopsAccepting refused items local PatternNotBuilt
 stops refused moment items h c local came is_new held by sets replaced (why, none) =
     (reason why, subst (λ (k : Configuration). HasUnanswered refused (patterns_of (route_matchers k.routes))) (by ∙ ap configuration_in held) none)
   where
-    reason : (0 < length (unknown_of moment came local.plan.grouped.alerts)) ⊎ (is_new ≡ true) →
-        (brings_alert items local ≡ true) ⊎ (brings_configuration items local ≡ true)
+    reason : (0 < length (unknown_of moment came local.plan.grouped.alerts)) ⊎ ((is_new ≡ true) × (0 < length local.plan.grouped.alerts)) →
+        (brings_alert items local ≡ true) ⊎ ((brings_configuration items local ≡ true) × (0 < length local.plan.grouped.alerts))
     reason (inl some) = inl (some_unknown (alert_sets items) local.plan.grouped.alerts moment (rw sets at some))
-    reason (inr new) = inr (sym replaced ∙ new)
+    reason (inr (new, some)) = inr (sym replaced ∙ new, some)

@@ -4,7 +4,7 @@ use Rattle.std.proofs.lemmas.Bool.{cases_Bool}
 use Rattle.std.proofs.lemmas.Bool.Decides.{nat_tests}
 use Rattle.am_outlet.specs.declared.attempt.Notice.{Notice}
 use Rattle.am_item.specs.declared.fault.Fault.{Fault}
-use Rattle.am_item.specs.declared.fault.Fault.TheVariants.{CountsExhausted, OutOfMemory, PatternNotBuilt}
+use Rattle.am_item.specs.declared.fault.Fault.TheVariants.{CountsExhausted, OutOfMemory, PatternNotBuilt, StoreRefused}
 use Rattle.am_replica.specs.Delivery.{started_if}
 use Rattle.am_replica.specs.Held.{StopsFor}
 use Rattle.am_replica.specs.Local.{Local, Reaction, stays}
@@ -31,7 +31,8 @@ no_error x e is = cc
 
 -- a fault is one of a count that passed the greatest, or of memory
 pub stops_for : (reaction : Reaction) (fault : Fault) → (fault ≡ CountsExhausted → reaction.fits ≡ false) → (fault ≡ PatternNotBuilt → ⊥) →
-    StopsFor reaction fault
-stops_for reaction CountsExhausted counts never = counts refl
-stops_for reaction OutOfMemory counts never = tt
-stops_for reaction PatternNotBuilt counts never = never refl
+    (fault ≡ StoreRefused → ⊥) → StopsFor reaction fault
+stops_for reaction CountsExhausted counts never stored = counts refl
+stops_for reaction OutOfMemory counts never stored = tt
+stops_for reaction PatternNotBuilt counts never stored = never refl
+stops_for reaction StoreRefused counts never stored = stored refl

@@ -1,5 +1,6 @@
 mod Accepted
 mod AlertSets
+mod Begun
 mod ByRoutes
 mod Changes
 mod Coming
@@ -19,6 +20,8 @@ mod Outcomes
 mod Planned
 mod Puts
 mod Sequence
+mod StoredRows
+mod StoredTicks
 mod Ticks
 mod Turns
 mod Unmuted

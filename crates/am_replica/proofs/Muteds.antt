@@ -3,7 +3,7 @@ use Rattle.std.proofs.Common.{◌≡◌, ◌∙◌, ℕ, Bool, true, false, not,
 use Rattle.std.specs.List.{list_any}
 use Rattle.std.specs.Map.{lookup}
 use Rattle.am_item.specs.declared.fault.Fault.{Fault}
-use Rattle.am_item.specs.declared.fault.Fault.TheVariants.{OutOfMemory, CountsExhausted, PatternNotBuilt}
+use Rattle.am_item.specs.declared.fault.Fault.TheVariants.{OutOfMemory, CountsExhausted, PatternNotBuilt, StoreRefused}
 use Rattle.am_item.specs.declared.item.Item.{Item}
 use Rattle.am_labels.specs.declared.Label.{Label}
 use Rattle.am_tenant.specs.Names.{same}
@@ -104,6 +104,7 @@ pub stops_among : (refused : List (List ℕ)) (moment : ℕ) (due : List Timer) 
     StopsMuting refused moment (λ t. some_flush t due) held fault
 stops_among refused moment due i x held OutOfMemory within is stops = tt
 stops_among refused moment due i x held CountsExhausted within is stops = absurd stops
+stops_among refused moment due i x held StoreRefused within is stops = absurd stops
 stops_among refused moment due i x held PatternNotBuilt within is (t, flush, unanswered) =
     (t, flush_there t due i x within (ap (is_flush_of t) (sym is) ∙ flush), unanswered)
 
@@ -112,6 +113,7 @@ pub stops_own : (refused : List (List ℕ)) (moment : ℕ) (x : Timer) (held : L
     StopsMuting refused moment (λ t. same t x.name.tenant) held fault → StopsMuting refused moment (λ t. is_flush_of t x) held fault
 stops_own refused moment x held OutOfMemory flush stops = tt
 stops_own refused moment x held CountsExhausted flush stops = absurd stops
+stops_own refused moment x held StoreRefused flush stops = absurd stops
 stops_own refused moment x held PatternNotBuilt flush (t, own, unanswered) = (t, rw (own, flush) refl, unanswered)
 
 -- .. and why timers stop it is why plans do
@@ -119,6 +121,7 @@ pub stops_planned : (refused : List (List ℕ)) (moment : ℕ) (flushes others :
     ((t : List ℕ) → others t ≡ flushes t) → StopsMuting refused moment flushes held fault → StopsMuting refused moment others held fault
 stops_planned refused moment flushes others held OutOfMemory same_flushes stops = tt
 stops_planned refused moment flushes others held CountsExhausted same_flushes stops = absurd stops
+stops_planned refused moment flushes others held StoreRefused same_flushes stops = absurd stops
 stops_planned refused moment flushes others held PatternNotBuilt same_flushes (t, flush, unanswered) = (t, same_flushes t ∙ flush, unanswered)
 
 -- one timer more

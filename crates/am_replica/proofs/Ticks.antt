@@ -12,14 +12,16 @@ use Rattle.am_timer.specs.declared.key.TimerKey.TheVariants.{Operation, Group, R
 use Rattle.am_replica.specs.declared.dispatch.Dispatch.{Dispatch}
 use Rattle.am_replica.specs.declared.here.Here.{Here}
 use Rattle.am_replica.specs.Local.{Local, Reaction, Said, Tells, each, in_turn}
+use Rattle.am_book.specs.Retired.{is_key_retired}
 use Rattle.am_current.specs.Current.{configuration_in}
+use Rattle.am_item.specs.Key.{SilenceKey}
 use Rattle.am_item.specs.declared.fault.Fault.{Fault}
-use Rattle.am_item.specs.declared.fault.Fault.TheVariants.{OutOfMemory, CountsExhausted, PatternNotBuilt}
+use Rattle.am_item.specs.declared.fault.Fault.TheVariants.{OutOfMemory, CountsExhausted, PatternNotBuilt, StoreRefused}
 use Rattle.am_muting.specs.Failing.{HasUnanswered, patterns_muting}
 use Rattle.am_replica.specs.Held.{StopsFor}
 use Rattle.am_replica.specs.Retiring.{retired}
 use Rattle.am_replica.specs.Ticking.{done_by, due_keys, handled, muted_of, ticked}
-use Rattle.am_replica.specs.Ticks.{AreHandled, DoesDue, IsDone, StopsTicking, StopsDoing, StopsHandling, TicksAll, done_for, has_flush, is_flush, keys_for, muted_for, said_of, some_flush}
+use Rattle.am_replica.specs.Ticks.{AreHandled, DoesDue, IsDone, StopsTicking, StopsDoing, StopsHandling, StopsRetiring, TicksAll, done_for, has_flush, is_flush, keys_for, muted_for, said_of, some_flush}
 use Rattle.am_replica.specs.Plans.{IsPlanned}
 use Rattle.am_replica.proofs.Kept.{each_keeps, handled_keeps, ticked_keeps}
 use Rattle.am_replica.proofs.Sequence.{each_more, past_among}
@@ -210,6 +212,7 @@ stops_due here muted due old mid refused same keys known OutOfMemory stops = tt
 stops_due here muted due old mid refused same keys known CountsExhausted (t, past) =
     (t, ap (λ r. r.fits) (sym (ap (λ l. done_for here muted t due l) (same t) ∙ done_due here muted t due (old t) (keys t) (known t))) ∙ past)
 stops_due here muted due old mid refused same keys known PatternNotBuilt stops = absurd stops
+stops_due here muted due old mid refused same keys known StoreRefused stops = absurd stops
 
 -- one of them stops it
 pub stops_one : (here : List ℕ → Here) (muted : Muteds) (xs : List Timer) (x : Timer) (ys : List Timer) (old : List ℕ → Local) (mid : Local) →
@@ -222,6 +225,7 @@ stops_one here muted xs x ys old mid at CountsExhausted past = (
       (ap (λ l. (handled (here x.name.tenant) (muted_for x.name.tenant muted) x.name.key l).fits) (sym at) ∙ past),
 )
 stops_one here muted xs x ys old mid at PatternNotBuilt stops = absurd stops
+stops_one here muted xs x ys old mid at StoreRefused stops = absurd stops
 
 -- ---- the tick
 
@@ -242,6 +246,15 @@ stops_tick here old mid refused left PatternNotBuilt (t, flush, unanswered) = (
   subst (λ (l : Local). has_flush t (here t).moment l.plan ≡ true) (left t) flush,
   subst (λ (l : Local). HasUnanswered refused (patterns_muting (configuration_in l.held) (here t).moment l.held)) (left t) unanswered,
 )
+stops_tick here old mid refused left StoreRefused stops = absurd stops
+
+-- what stops where what is retired goes stops a tick
+pub stops_retiring : (here : List ℕ → Here) (moment : ℕ) (old : List ℕ → Local) (refused : List (List ℕ)) → ((t : List ℕ) → (here t).moment ≡ moment) → (fault : Fault) →
+    StopsRetiring moment old fault → StopsTicking here old refused fault
+stops_retiring here moment old refused now OutOfMemory stops = tt
+stops_retiring here moment old refused now CountsExhausted stops = absurd stops
+stops_retiring here moment old refused now PatternNotBuilt stops = absurd stops
+stops_retiring here moment old refused now StoreRefused (t, id, retires) = (t, id, ap (λ m. is_key_retired m (old t).held (SilenceKey id)) (now t) ∙ retires)
 
 -- where each is ticked, what is planned goes by what is held
 pub all_keep : (here : List ℕ → Here) (old new : List ℕ → Local) (all : List Dispatch) → TicksAll here old new all → ((t : List ℕ) → IsPlanned (old t)) → (t : List ℕ) → IsPlanned (new t)

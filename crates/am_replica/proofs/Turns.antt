@@ -1,7 +1,7 @@
 -- What a flush says is told one after the other: what is done so far, and what is left to do.
 use Rattle.std.proofs.Common.{◌≡◌, ℕ, true, false, ◌&&◌, List, [], ◌∷◌, ◌++◌, refl, sym, ap, ◌∙◌, subst, append_assoc}
 use Rattle.am_item.specs.declared.fault.Fault.{Fault}
-use Rattle.am_item.specs.declared.fault.Fault.TheVariants.{OutOfMemory, CountsExhausted, PatternNotBuilt}
+use Rattle.am_item.specs.declared.fault.Fault.TheVariants.{OutOfMemory, CountsExhausted, PatternNotBuilt, StoreRefused}
 use Rattle.am_telling.specs.declared.telling.Telling.{Telling}
 use Rattle.am_tenant.specs.Names.{same}
 use Rattle.am_replica.specs.declared.here.Here.{Here}
@@ -61,3 +61,4 @@ module _ (here : Here) (tenant : List ℕ) (start : Parts) (all : List Telling) 
   stops telling left words OutOfMemory on stop = tt
   stops telling left words CountsExhausted on stop = sym on.fits ∙ ap (λ b. b && (all_told here left ((told here telling (local_of tenant now)).local)).fits) stop
   stops telling left words PatternNotBuilt on stop = stop
+  stops telling left words StoreRefused on stop = stop

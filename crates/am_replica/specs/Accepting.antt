@@ -1,5 +1,5 @@
 -- What becomes of items that an instance accepts.
-use Rattle.std.specs.Prelude.{◌≡◌, ◌⊎◌, ℕ, ◌+◌, ◌&&◌, true, Bool, min, not, List, [], ◌∷◌, filter, length, map, Option, Some, None, is_some, unwrap_or, if◌then◌else◌}
+use Rattle.std.specs.Prelude.{◌≡◌, ◌⊎◌, ℕ, ◌+◌, ◌<◌, ◌&&◌, true, Bool, min, not, List, [], ◌∷◌, filter, length, map, Option, Some, None, is_some, unwrap_or, if◌then◌else◌}
 use Rattle.std.specs.BTreeMap.{insert_entry}
 use Rattle.std.specs.List.{filter_map, list_any, zip}
 use Rattle.std.specs.Map.{lookup}
@@ -9,7 +9,7 @@ use Rattle.am_current.specs.Current.{configuration_in}
 use Rattle.am_current.specs.Replacing.{replaces}
 use Rattle.am_item.specs.Best.{all_joined, item_at}
 use Rattle.am_item.specs.declared.fault.Fault.{Fault}
-use Rattle.am_item.specs.declared.fault.Fault.TheVariants.{OutOfMemory, CountsExhausted, PatternNotBuilt}
+use Rattle.am_item.specs.declared.fault.Fault.TheVariants.{OutOfMemory, CountsExhausted, PatternNotBuilt, StoreRefused}
 use Rattle.am_item.specs.declared.item.Item.{Item}
 use Rattle.am_item.specs.declared.item.Thing.{Thing}
 use Rattle.am_item.specs.declared.item.Thing.TheVariants.{Alert, Configuration as Stored, SentEntry, Silence}
@@ -24,7 +24,9 @@ use Rattle.am_muting.specs.Failing.{HasUnanswered}
 use Rattle.am_muting.specs.Muting.{alert_sets}
 use Rattle.am_planning.specs.Planning.{paces_of, planned_alerts}
 use Rattle.am_route.specs.Asked.{route_matchers}
+use Rattle.am_rows.specs.Rows.{has_stored}
 use Rattle.am_agenda.specs.Plan.{Plan, with_alerts}
+use Rattle.am_tenant.specs.Names.{same}
 use Rattle.am_replica.specs.Local.{Local}
 use Rattle.am_replica.specs.Plans.{planned_by, sinces_in}
 
@@ -58,6 +60,10 @@ kept moment items drawn local = record (accepted moment items local) {
   ledger = record { stamps = local.ledger.stamps + length items; drawn = unwrap_or drawn local.ledger.drawn };
 }
 
+-- .. of one tenant, as each tenant sees it
+abbrev pub kept_for : List ℕ → ℕ → List Item → (drawn : Option ℕ) → List ℕ → Local → Local
+kept_for tenant moment items drawn t local = if same t tenant then kept moment items drawn local else local
+
 -- ---- how it is done
 
 -- a plan goes by a configuration
@@ -77,14 +83,22 @@ brings_alert items local = list_any (λ labels. not (is_known labels local.plan.
 abbrev pub brings_configuration : List Item → Local → Bool
 brings_configuration items local = list_any (replaces (item_at ConfigurationKey local.held)) items
 
--- why it stops: there is something to plan, and a pattern of the routes of the configuration that is in use then gave no answer; or
+-- why it stops: there are alerts to plan, and a pattern of the routes of the configuration that is in use then gave no answer; or
 -- memory ran out
 abbrev pub StopsAccepting : (refused : List (List ℕ)) → List Item → Local → Fault → Type 0
 StopsAccepting refused items local OutOfMemory = Unit {0}
 StopsAccepting refused items local CountsExhausted = ⊥
 StopsAccepting refused items local PatternNotBuilt =
-    ((brings_alert items local ≡ true) ⊎ (brings_configuration items local ≡ true))
+    ((brings_alert items local ≡ true) ⊎ ((brings_configuration items local ≡ true) × (0 < length local.plan.grouped.alerts)))
     × HasUnanswered refused (patterns_of (route_matchers (configuration_in (all_joined local.held items)).routes))
+StopsAccepting refused items local StoreRefused = ⊥
+
+-- the same of items that are committed first: the store may refuse those that are stored
+abbrev pub StopsCommitting : (refused : List (List ℕ)) → List Item → Local → Fault → Type 0
+StopsCommitting refused items local StoreRefused = has_stored items ≡ true
+StopsCommitting refused items local OutOfMemory = Unit {0}
+StopsCommitting refused items local CountsExhausted = ⊥
+StopsCommitting refused items local PatternNotBuilt = StopsAccepting refused items local PatternNotBuilt
 
 -- the label set of a thing that is an alert
 abbrev pub set_in : Thing → Option (List Label)

@@ -4,7 +4,7 @@ use Rattle.am_tenant.specs.Names.{same}
 use Rattle.am_book.specs.Book.{items_of}
 use Rattle.am_item.specs.Counts.{count_of}
 use Rattle.am_item.specs.declared.fault.Fault.{Fault}
-use Rattle.am_item.specs.declared.fault.Fault.TheVariants.{OutOfMemory, CountsExhausted, PatternNotBuilt}
+use Rattle.am_item.specs.declared.fault.Fault.TheVariants.{OutOfMemory, CountsExhausted, PatternNotBuilt, StoreRefused}
 use Rattle.am_limit.specs.Allowances.{allowance_of}
 use Rattle.am_words.specs.Places.{place_of}
 use Rattle.am_agenda.specs.Planned.{plan_of}
@@ -34,3 +34,4 @@ abbrev pub StopsFor : Reaction → Fault → Type 0
 StopsFor reaction CountsExhausted = reaction.fits ≡ false
 StopsFor reaction OutOfMemory = Unit {0}
 StopsFor reaction PatternNotBuilt = ⊥
+StopsFor reaction StoreRefused = ⊥

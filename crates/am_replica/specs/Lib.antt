@@ -16,3 +16,5 @@ pub mod Ticking
 pub mod Ticks
 -- what it has of all tenants
 pub mod Held
+-- what a store keeps
+pub mod Storing

@@ -3,9 +3,11 @@ use Rattle.std.specs.Prelude.{◌≡◌, ℕ, Bool, true, false, ◌&&◌, List,
 use Rattle.std.specs.List.{list_any}
 use Rattle.std.specs.Map.{lookup}
 use Rattle.am_agenda.specs.Plan.{Plan}
+use Rattle.am_book.specs.Retired.{is_key_retired}
 use Rattle.am_current.specs.Current.{configuration_in}
 use Rattle.am_item.specs.declared.fault.Fault.{Fault}
-use Rattle.am_item.specs.declared.fault.Fault.TheVariants.{OutOfMemory, CountsExhausted, PatternNotBuilt}
+use Rattle.am_item.specs.declared.fault.Fault.TheVariants.{OutOfMemory, CountsExhausted, PatternNotBuilt, StoreRefused}
+use Rattle.am_item.specs.Key.{SilenceKey}
 use Rattle.am_item.specs.declared.item.Item.{Item}
 use Rattle.am_labels.specs.declared.Label.{Label}
 use Rattle.am_limit.specs.Books.{limits_of}
@@ -57,8 +59,16 @@ abbrev pub HasUnmuted : (refused : List (List ℕ)) → ℕ → (flushes : List 
 HasUnmuted refused moment flushes held =
     (t : List ℕ) × (flushes t ≡ true) × HasUnanswered refused (patterns_muting (configuration_in (held t)) moment (held t))
 
+-- why it stops where what is retired goes: the store refused to drop a silence that retires, or memory ran out
+abbrev pub StopsRetiring : ℕ → (before : List ℕ → Local) → Fault → Type 0
+StopsRetiring moment before OutOfMemory = Unit {0}
+StopsRetiring moment before CountsExhausted = ⊥
+StopsRetiring moment before PatternNotBuilt = ⊥
+StopsRetiring moment before StoreRefused =
+    (t : List ℕ) × (id : List ℕ) × (is_key_retired moment (before t).held (SilenceKey id) ≡ true)
+
 -- why it stops at a tick: a count of a tenant would have passed the greatest, a pattern that may mute alerts of one that has a
--- group to flush gave no answer, or memory ran out
+-- group to flush gave no answer, the store refused to drop a silence that retires, or memory ran out
 abbrev pub StopsTicking : (List ℕ → Here) → (before : List ℕ → Local) → (refused : List (List ℕ)) → Fault → Type 0
 StopsTicking here before refused OutOfMemory = Unit {0}
 StopsTicking here before refused CountsExhausted = (t : List ℕ) × ((ticked t (here t) (before t)).fits ≡ false)
@@ -66,6 +76,8 @@ StopsTicking here before refused PatternNotBuilt =
     (t : List ℕ) × (has_flush t (here t).moment (retired (here t).moment (before t)).plan ≡ true)
     × HasUnanswered refused (patterns_muting (configuration_in (retired (here t).moment (before t)).held)
     (here t).moment (retired (here t).moment (before t)).held)
+StopsTicking here before refused StoreRefused =
+    (t : List ℕ) × (id : List ℕ) × (is_key_retired (here t).moment (before t).held (SilenceKey id) ≡ true)
 
 -- ---- what is due
 
@@ -84,6 +96,7 @@ StopsDoing here before refused CountsExhausted = (t : List ℕ) × ((done_by t (
 StopsDoing here before refused PatternNotBuilt =
     (t : List ℕ) × (has_flush t (here t).moment (before t).plan ≡ true)
     × HasUnanswered refused (patterns_muting (configuration_in (before t).held) (here t).moment (before t).held)
+StopsDoing here before refused StoreRefused = ⊥
 
 -- ---- its timers
 
@@ -108,6 +121,7 @@ StopsHandling here muted due before OutOfMemory = Unit {0}
 StopsHandling here muted due before CountsExhausted =
     (t : List ℕ) × ((done_for here muted t due (before t)).fits ≡ false)
 StopsHandling here muted due before PatternNotBuilt = ⊥
+StopsHandling here muted due before StoreRefused = ⊥
 
 -- ---- what is muted
 
@@ -136,3 +150,4 @@ abbrev pub StopsMuting : (refused : List (List ℕ)) → ℕ → (flushes : List
 StopsMuting refused moment flushes held OutOfMemory = Unit {0}
 StopsMuting refused moment flushes held CountsExhausted = ⊥
 StopsMuting refused moment flushes held PatternNotBuilt = HasUnmuted refused moment flushes held
+StopsMuting refused moment flushes held StoreRefused = ⊥

@@ -1,6 +1,6 @@
 //! Items that are accepted.
 
-ghost use Rattle.std.specs.Prelude.{◌≡◌, ◌⊎◌, ◌+◌, ◌<◌, ◌≤◌, ℕ, List, [], ◌∷◌, false, true, length, IfErr, IfOk, OnOk, if◌then◌else◌, map, unwrap_or};
+ghost use Rattle.std.specs.Prelude.{OnErr, ◌≡◌, ◌⊎◌, ◌+◌, ◌<◌, ◌≤◌, ℕ, List, [], ◌∷◌, false, true, length, IfErr, IfOk, OnOk, if◌then◌else◌, map, unwrap_or};
 ghost use Rattle.std.specs.List.{list_any};
 ghost use Rattle.std.specs.List.Sorted.{IsStrictlySortedBy};
 ghost use Rattle.std.specs.Map.{keys_of};
@@ -14,14 +14,17 @@ ghost use Rattle.am_muting.specs.Failing.{HasUnanswered};
 ghost use Rattle.am_pattern.specs.Asking.{Asked};
 ghost use Rattle.am_planning.specs.Planning.{planned_alerts};
 ghost use Rattle.am_route.specs.Asked.{route_matchers};
+ghost use Rattle.am_rows.specs.Rows.{has_stored};
+ghost use Rattle.am_replica.specs.Storing.{AreStored, LeavesRows};
 ghost use Rattle.am_tenant.specs.Names.{same};
 ghost use Rattle.am_text.specs.Outcome.{ForRefused};
 ghost use Rattle.am_words.specs.Places.{place_of};
-ghost use Rattle.am_replica.specs.Accepting.{IsPlannedBy, StopsAccepting, accepted, all_sooner, flagged, followed, is_known, is_new_known, kept, set_of, unknown_of, with_met};
+ghost use Rattle.am_replica.specs.Accepting.{IsPlannedBy, StopsAccepting, StopsCommitting, accepted, all_sooner, flagged, followed, is_known, is_new_known, kept, kept_for, set_of, unknown_of, with_met};
 ghost use Rattle.am_replica.specs.Held.{Makes, local_of};
 ghost use Rattle.am_replica.specs.Plans.{IsPlanned, planned_by, sinces_in};
 
 use crate::parts::Parts;
+use crate::storing::commit;
 use am_agenda::Agenda;
 use am_config::Config;
 use am_current::is_replaced;
@@ -30,6 +33,7 @@ use am_labels::LabelSet;
 use am_members::{Known, copy_groups};
 use am_pattern::{PatternCache, PatternRefusal};
 use am_planning::{paces_of, plan_alerts};
+use am_rows::Rows;
 use am_tenant::TenantName;
 use am_text::{Failure, Moment};
 use am_words::{Place, Places};
@@ -41,8 +45,8 @@ impl Parts {
     /// items, all that is planned is planned anew.
     ///
     /// # Errors
-    /// `PatternNotBuilt` where there is something to plan, and a pattern of the routes of the configuration that is in use then gives no
-    /// answer; or out of memory.
+    /// `PatternNotBuilt` where there are alerts to plan, and a pattern of the routes of the configuration that is in use then gives
+    /// no answer; or out of memory.
     pub(crate) fn accept(
         &mut self,
         alloc: Global,
@@ -97,6 +101,38 @@ impl Parts {
         self.counts.set(alloc, tenant, count)?;
         keep_place(alloc, &mut self.places, tenant, drawn)?;
         Ok(())
+    }
+
+    /// Commits items that the instance made to the store, and accepts them.
+    ///
+    /// # Errors
+    /// Those of [`Parts::accept`]; `StoreRefused`, where one of them is stored. What was committed stays.
+    pub(crate) fn commit<R: Rows>(
+        &mut self,
+        alloc: Global,
+        tenant: &TenantName,
+        moment: Moment,
+        items: Vec<Item>,
+        drawn: Option<Place>,
+        cache: &mut PatternCache,
+        store: &mut R,
+    ) -> Result<(), Fault>
+        requires planned { (t : List ℕ) → IsPlanned (local_of t self.old) }
+        requires fits { 0 < length items.items →
+            (local_of tenant.now self.old).ledger.stamps + length items.items ≤ greatest_count }
+        requires open { R.is_open store.old ≡ true }
+        ensures does { OnOk result (Makes tenant.now (kept moment items.items drawn) self.old self.new) }
+        ensures asked { Asked result cache.old cache.new }
+        ensures fault { IfErr result (StopsCommitting cache.new.refused items.items (local_of tenant.now self.old)) }
+        ensures clean { R.is_clean store.new ≡ true → R.is_clean store.old ≡ true }
+        ensures open { OnOk result (R.is_open store.new ≡ true) }
+        ensures stores { R.is_clean store.new ≡ true → AreStored self.old (R.pairs store.old) → OnOk result (AreStored self.new (R.pairs store.new)) }
+        ensures left { R.is_clean store.new ≡ true → R.is_shut store.new ≡ false → AreStored self.old (R.pairs store.old) → OnErr result (LeavesRows
+            (λ t. local_of t self.old) (λ t. kept_for tenant.now moment items.items drawn t (local_of t self.old)) (R.pairs store.new)) }
+        ensures untouched { has_stored items.items ≡ false → store.new ≡ store.old }
+    {
+        commit(alloc, store, tenant, &items)?;
+        self.keep(alloc, tenant, moment, items, drawn, cache)
     }
 }
 
@@ -170,7 +206,8 @@ fn follow(
         (if same t tenant.now then followed config.now moment (keys_of came.items) (plan_of t agenda.old) else plan_of t agenda.old)) }
     ensures asked { Asked result cache.old cache.new }
     ensures failure { IfErr result (λ failure. ForRefused failure
-        (λ refusal. ((0 < length (unknown_of moment (keys_of came.items) (plan_of tenant.now agenda.old).grouped.alerts)) ⊎ (is_new ≡ true))
+        (λ refusal. ((0 < length (unknown_of moment (keys_of came.items) (plan_of tenant.now agenda.old).grouped.alerts))
+        ⊎ ((is_new ≡ true) × (0 < length (plan_of tenant.now agenda.old).grouped.alerts)))
         × HasUnanswered cache.new.refused (patterns_of (route_matchers config.now.routes)))) }
 {
     meet(alloc, agenda, tenant, moment, came, config, cache)?;
@@ -258,7 +295,25 @@ fn meet_one(
     Ok(true)
 }
 
-// Puts alerts that aren't known, in their groups by the configuration. Where there are none, no pattern is asked.
+// Alerts in their groups by the configuration. Where there are none, no pattern is asked.
+fn plan_known(
+    alloc: Global,
+    config: &Config,
+    alerts: Vec<(LabelSet, Moment)>,
+    cache: &mut PatternCache,
+) -> Result<Vec<(LabelSet, Known)>, Failure<PatternRefusal>>
+    ensures planned { IfOk result (λ v. v.items ≡ planned_alerts config.now alerts.items) }
+    ensures asked { Asked result cache.old cache.new }
+    ensures failure { IfErr result (λ failure. ForRefused failure
+        (λ refusal. (0 < length alerts.items) × HasUnanswered cache.new.refused (patterns_of (route_matchers config.now.routes)))) }
+{
+    if alerts.is_empty() {
+        return Ok(Vec::new(alloc));
+    }
+    plan_alerts(alloc, config, alerts, cache)
+}
+
+// Puts alerts that aren't known, in their groups by the configuration.
 fn plan_new(
     alloc: Global,
     agenda: &mut Agenda,
@@ -275,10 +330,7 @@ fn plan_new(
     ensures failure { IfErr result (λ failure. ForRefused failure
         (λ refusal. (0 < length unknown.items) × HasUnanswered cache.new.refused (patterns_of (route_matchers config.now.routes)))) }
 {
-    if unknown.is_empty() {
-        return Ok(());
-    }
-    let planned = plan_alerts(alloc, config, unknown, cache)?;
+    let planned = plan_known(alloc, config, unknown, cache)?;
     for (labels, known) in planned {
         agenda.put(alloc, tenant, &labels, known)?;
     }
@@ -297,11 +349,12 @@ fn plan_all(
         then planned_by config.now (sinces_in (plan_of t agenda.old)) (plan_of t agenda.old) else plan_of t agenda.old)) }
     ensures asked { Asked result cache.old cache.new }
     ensures failure { IfErr result (λ failure. ForRefused failure
-        (λ refusal. HasUnanswered cache.new.refused (patterns_of (route_matchers config.now.routes)))) }
+        (λ refusal. (0 < length (plan_of tenant.now agenda.old).grouped.alerts)
+        × HasUnanswered cache.new.refused (patterns_of (route_matchers config.now.routes)))) }
 {
     let sinces = agenda.sinces(alloc, tenant)?;
     let paces = paces_of(alloc, config, 0)?;
-    let planned = plan_alerts(alloc, config, sinces, cache)?;
+    let planned = plan_known(alloc, config, sinces, cache)?;
     agenda.rebuild(alloc, tenant, paces, planned)?;
     Ok(())
 }

@@ -6,12 +6,14 @@ mod delivery;
 mod dispatch;
 mod flushing;
 mod here;
+mod holding;
 mod muted;
 mod parts;
 mod recording;
 mod replica;
 mod retiring;
 mod sets;
+mod storing;
 mod ticking;
 
 pub use dispatch::Dispatch;

@@ -1,14 +1,17 @@
 //! What an instance has of all tenants.
 
-ghost use Rattle.std.specs.Prelude.{◌≡◌, ◌+◌, ◌<◌, ◌≤◌, ℕ, List, true, IfErr, IfOk, OnErr, OnOk, length, if◌then◌else◌};
+ghost use Rattle.std.specs.Prelude.{false, ◌≡◌, ◌+◌, ◌<◌, ◌≤◌, ℕ, List, true, IfErr, IfOk, OnErr, OnOk, length, if◌then◌else◌};
 ghost use Rattle.std.specs.Borrow.{sem};
 ghost use Rattle.std.specs.Io.BufRead.{Rests};
 ghost use Rattle.am_alert.specs.Made.{greatest_count};
 ghost use Rattle.am_current.specs.Current.{configuration_in};
 ghost use Rattle.am_item.specs.Best.{IsRising};
 ghost use Rattle.am_pattern.specs.Asking.{Asked};
+ghost use Rattle.am_rows.specs.Rows.{Keeps, has_stored, rows_of, stored_in};
+ghost use Rattle.am_replica.specs.Retiring.{retired};
+ghost use Rattle.am_replica.specs.Storing.{AreStored, LeavesRows};
 ghost use Rattle.am_tenant.specs.Names.{same};
-ghost use Rattle.am_replica.specs.Accepting.{StopsAccepting, kept};
+ghost use Rattle.am_replica.specs.Accepting.{StopsCommitting, accepted, kept, kept_for};
 ghost use Rattle.am_replica.specs.Delivery.{is_awaited, outcome};
 ghost use Rattle.am_replica.specs.Held.{Does, Makes, StopsFor, local_of};
 ghost use Rattle.am_replica.specs.Local.{blank};
@@ -21,8 +24,9 @@ use am_config::Config;
 use am_item::{Fault, Held, Item};
 use am_limit::LimitBook;
 use am_pattern::PatternCache;
+use am_rows::{Rows, StoreRefusal};
 use am_tenant::TenantName;
-use am_text::Moment;
+use am_text::{Failure, Moment};
 use am_words::Place;
 use std::alloc::{AllocError, Global};
 use std::marker::Model;
@@ -107,12 +111,45 @@ impl Replica {
         self.parts.holdings.in_use(alloc, tenant)
     }
 
+    /// Opens a store, and accepts at a moment what it has of all tenants, where nothing is had of any.
+    ///
+    /// # Errors
+    /// `F2` where a call of the database was refused, `F3` where it is no store, or out of memory. No row is lost, and nothing is
+    /// had of any tenant.
+    pub fn hold<R: Rows>(
+        &mut self,
+        alloc: Global,
+        moment: Moment,
+        cache: &mut PatternCache,
+        store: &mut R,
+    ) -> Result<(), Failure<StoreRefusal>>
+        requires { (t : List ℕ) → local_of t self.old ≡ blank }
+        ensures asked { Asked result cache.old cache.new }
+        ensures clean { R.is_clean store.new ≡ true → R.is_clean store.old ≡ true }
+        ensures open { OnOk result (R.is_open store.new ≡ true) }
+        ensures keeps { R.is_clean store.new ≡ true → OnOk result (Keeps (R.pairs store.old) (R.pairs store.new)) }
+        ensures held { R.is_clean store.new ≡ true → OnOk result ((t : List ℕ) →
+            local_of t self.new ≡ accepted moment (rows_of t (R.pairs store.old)) blank) }
+        ensures stores { R.is_clean store.new ≡ true → OnOk result (AreStored self.new (R.pairs store.new)) }
+        ensures lost { OnErr result ((t : List ℕ) → local_of t self.new ≡ blank) }
+    {
+        let parts = &mut self.parts;
+        match parts.hold(alloc, moment, cache, store) {
+            Ok(()) => Ok(()),
+            Err(failure) => {
+                self.parts.clear(alloc);
+                Err(failure)
+            }
+        }
+    }
+
     /// Accepts items of a tenant that the instance made at a moment, and counts their stamps: the best are held, and what is
     /// planned goes by these. `drawn` is the place of the next word where words were drawn for them. No count may pass 2^62.
     ///
     /// # Errors
-    /// `PatternNotBuilt` where a pattern of the routes that are in use then gave no answer, or out of memory.
-    pub fn accept(
+    /// `PatternNotBuilt` where there are alerts to plan, and a pattern of the routes that are in use then gave no answer;
+    /// `StoreRefused` where one of the items is stored; or out of memory. The rows are as before, or as committed.
+    pub fn accept<R: Rows>(
         &mut self,
         alloc: Global,
         tenant: &TenantName,
@@ -120,15 +157,23 @@ impl Replica {
         items: Vec<Item>,
         drawn: Option<Place>,
         cache: &mut PatternCache,
+        store: &mut R,
     ) -> Result<(), Fault>
         requires fits { 0 < length items.items → (local_of tenant.now self.old).ledger.stamps + length items.items ≤ greatest_count }
+        requires open { R.is_open store.old ≡ true }
         ensures does { OnOk result (Makes tenant.now (kept moment items.items drawn) self.old self.new) }
         ensures lost { OnErr result ((t : List ℕ) → local_of t self.new ≡ blank) }
         ensures asked { Asked result cache.old cache.new }
-        ensures fault { IfErr result (StopsAccepting cache.new.refused items.items (local_of tenant.now self.old)) }
+        ensures fault { IfErr result (StopsCommitting cache.new.refused items.items (local_of tenant.now self.old)) }
+        ensures clean { R.is_clean store.new ≡ true → R.is_clean store.old ≡ true }
+        ensures open { OnOk result (R.is_open store.new ≡ true) }
+        ensures stores { R.is_clean store.new ≡ true → AreStored self.old (R.pairs store.old) → OnOk result (AreStored self.new (R.pairs store.new)) }
+        ensures left { R.is_clean store.new ≡ true → R.is_shut store.new ≡ false → AreStored self.old (R.pairs store.old) → OnErr result (LeavesRows
+            (λ t. local_of t self.old) (λ t. kept_for tenant.now moment items.items drawn t (local_of t self.old)) (R.pairs store.new)) }
+        ensures untouched { has_stored items.items ≡ false → store.new ≡ store.old }
     {
         let parts = &mut self.parts;
-        match parts.keep(alloc, tenant, moment, items, drawn, cache) {
+        match parts.commit(alloc, tenant, moment, items, drawn, cache, store) {
             Ok(()) => Ok(()),
             Err(fault) => {
                 self.parts.clear(alloc);
@@ -142,8 +187,9 @@ impl Replica {
     ///
     /// # Errors
     /// `CountsExhausted` where a count of a tenant would pass 2^62, `PatternNotBuilt` where a pattern that may mute alerts of a
-    /// group gave no answer, or out of memory.
-    pub fn tick(
+    /// group gave no answer, `StoreRefused` where silences retire, or out of memory. The rows are as before, or without the
+    /// silences that retire.
+    pub fn tick<R: Rows>(
         &mut self,
         alloc: Global,
         instance: u8,
@@ -151,14 +197,21 @@ impl Replica {
         moment: Moment,
         limits: &LimitBook,
         cache: &mut PatternCache,
+        store: &mut R,
     ) -> Result<Vec<Dispatch>, Fault>
+        requires { R.is_open store.old ≡ true }
         ensures ticks { IfOk result (λ all. TicksAll (here_for instance incarnation moment limits.now) (λ t. local_of t self.old) (λ t. local_of t self.new) all.items) }
         ensures lost { OnErr result ((t : List ℕ) → local_of t self.new ≡ blank) }
         ensures asked { Asked result cache.old cache.new }
         ensures fault { IfErr result (StopsTicking (here_for instance incarnation moment limits.now) (λ t. local_of t self.old) cache.new.refused) }
+        ensures clean { R.is_clean store.new ≡ true → R.is_clean store.old ≡ true }
+        ensures open { OnOk result (R.is_open store.new ≡ true) }
+        ensures stores { R.is_clean store.new ≡ true → AreStored self.old (R.pairs store.old) → OnOk result (AreStored self.new (R.pairs store.new)) }
+        ensures left { R.is_clean store.new ≡ true → R.is_shut store.new ≡ false → AreStored self.old (R.pairs store.old) → OnErr result (LeavesRows
+            (λ t. local_of t self.old) (λ t. retired moment (local_of t self.old)) (R.pairs store.new)) }
     {
         let parts = &mut self.parts;
-        match parts.tick(alloc, instance, incarnation, moment, limits, cache) {
+        match parts.tick(alloc, instance, incarnation, moment, limits, cache, store) {
             Ok(all) => Ok(all),
             Err(fault) => {
                 self.parts.clear(alloc);
@@ -192,6 +245,7 @@ impl Replica {
         ensures does { OnOk result (Does tenant.now (outcome here.now number tries status) self.old self.new) }
         ensures awaited { IfOk result (λ awaited. awaited ≡ is_awaited number tries (local_of tenant.now self.old)) }
         ensures fits { IfOk result (λ _. (outcome here.now number tries status (local_of tenant.now self.old)).fits ≡ true) }
+        ensures stored { OnOk result ((t : List ℕ) → stored_in (local_of t self.new).held ≡ stored_in (local_of t self.old).held) }
         ensures lost { OnErr result ((t : List ℕ) → local_of t self.new ≡ blank) }
         ensures fault { IfErr result (StopsFor (outcome here.now number tries status (local_of tenant.now self.old))) }
     {

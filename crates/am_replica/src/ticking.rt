@@ -1,6 +1,6 @@
 //! Ticks.
 
-ghost use Rattle.std.specs.Prelude.{◌≡◌, ◌++◌, ℕ, List, [], true, IfErr, IfOk, OnOk, map, if◌then◌else◌};
+ghost use Rattle.std.specs.Prelude.{◌≡◌, ◌++◌, ℕ, List, [], false, true, IfErr, IfOk, OnErr, OnOk, map, if◌then◌else◌};
 ghost use Rattle.am_tenant.specs.Names.{same};
 ghost use Rattle.am_agenda.specs.Plan.{flush_due};
 ghost use Rattle.am_outlet.specs.Attempts.{is_due};
@@ -10,6 +10,8 @@ ghost use Rattle.am_replica.specs.Delivery.{tells};
 ghost use Rattle.am_replica.specs.Held.{Does, StopsFor, local_of};
 ghost use Rattle.am_replica.specs.Local.{Tells};
 ghost use Rattle.am_replica.specs.Plans.{IsPlanned};
+ghost use Rattle.am_replica.specs.Retiring.{retired};
+ghost use Rattle.am_replica.specs.Storing.{AreStored, LeavesRows};
 ghost use Rattle.am_replica.specs.Ticking.{due_keys, handled};
 ghost use Rattle.am_replica.specs.Ticks.{AreHandled, DoesDue, StopsTicking, StopsDoing, StopsHandling, StopsMuting, TicksAll, has_flush, here_for, keys_for, muted_at, muted_for, said_of, some_flush};
 
@@ -22,6 +24,7 @@ use am_limit::LimitBook;
 use am_members::Group;
 use am_outlet::Sending;
 use am_pattern::PatternCache;
+use am_rows::Rows;
 use am_tenant::TenantName;
 use am_text::{Moment, Text};
 use am_timer::{FlushKey, Timer, TimerKey};
@@ -33,8 +36,8 @@ impl Parts {
     ///
     /// # Errors
     /// `CountsExhausted` where a count of a tenant would pass 2^62, `PatternNotBuilt` where a pattern that may mute alerts of a
-    /// group gave no answer, or out of memory.
-    pub(crate) fn tick(
+    /// group gave no answer, `StoreRefused` where silences retire, or out of memory.
+    pub(crate) fn tick<R: Rows>(
         &mut self,
         alloc: Global,
         instance: u8,
@@ -42,13 +45,20 @@ impl Parts {
         moment: Moment,
         limits: &LimitBook,
         cache: &mut PatternCache,
+        store: &mut R,
     ) -> Result<Vec<Dispatch>, Fault>
         requires planned { (t : List ℕ) → IsPlanned (local_of t self.old) }
+        requires open { R.is_open store.old ≡ true }
         ensures ticks { IfOk result (λ all. TicksAll (here_for instance incarnation moment limits.now) (λ t. local_of t self.old) (λ t. local_of t self.new) all.items) }
         ensures asked { Asked result cache.old cache.new }
         ensures fault { IfErr result (StopsTicking (here_for instance incarnation moment limits.now) (λ t. local_of t self.old) cache.new.refused) }
+        ensures clean { R.is_clean store.new ≡ true → R.is_clean store.old ≡ true }
+        ensures open { OnOk result (R.is_open store.new ≡ true) }
+        ensures stores { R.is_clean store.new ≡ true → AreStored self.old (R.pairs store.old) → OnOk result (AreStored self.new (R.pairs store.new)) }
+        ensures left { R.is_clean store.new ≡ true → R.is_shut store.new ≡ false → AreStored self.old (R.pairs store.old) → OnErr result (LeavesRows
+            (λ t. local_of t self.old) (λ t. retired moment (local_of t self.old)) (R.pairs store.new)) }
     {
-        self.retire(alloc, moment)?;
+        self.retire(alloc, moment, store)?;
         self.do_due(alloc, instance, incarnation, moment, limits, cache)
     }
 

@@ -54,6 +54,25 @@ impl Setup {
         })
     }
 
+    /// These settings with another first incarnation, which isn't 0.
+    pub fn with_start(self, start: u32) -> Setup
+        requires { 0 < start }
+        ensures { result ≡ record self { origin = record self.origin { first = start } } }
+    {
+        let Setup {
+            key,
+            ring,
+            cache,
+            ..
+        } = self;
+        Setup {
+            key,
+            ring,
+            cache,
+            start,
+        }
+    }
+
     /// The first incarnation of every instance.
     pub fn start(&self) -> u32
         ensures { result ≡ self.now.origin.first }

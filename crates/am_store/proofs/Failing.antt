@@ -14,8 +14,8 @@ use Rattle.sqlite.specs.Tree.{Trees}
 use Rattle.am_store.specs.Failing.{FailsForCause, FailsToOpen, IsCaused, IsExcused, IsJudged, MayFail}
 use Rattle.am_store.specs.Reading.{GivesValue, RefusesForeign}
 use Rattle.am_store.specs.Rows.{IsStore}
-use Rattle.am_store.specs.declared.refusal.StoreRefusal.{StoreRefusal}
-use Rattle.am_store.specs.declared.refusal.StoreRefusal.TheVariants as refusal
+use Rattle.am_rows.specs.declared.refusal.StoreRefusal.{StoreRefusal}
+use Rattle.am_rows.specs.declared.refusal.StoreRefusal.TheVariants as refusal
 use Rattle.am_store.proofs.Asked.{by_cause}
 
 -- an error of the database as it is told

@@ -34,3 +34,5 @@ pub mod RowsOf
 pub mod Identifiers
 pub mod Unique
 pub mod KeyOrder
+pub mod Shelves
+pub mod Removed

@@ -29,8 +29,8 @@ use Rattle.am_store.specs.Steps.{PutsRow, TakesOut}
 use Rattle.am_store.specs.Stored.{ConfigurationText, Content, SilenceWords, Stored, key_in, of_key}
 use Rattle.am_store.specs.Tables.{config, silence, store_schema}
 use Rattle.am_store.specs.Where.{hit, of_silence, of_tenant}
-use Rattle.am_store.specs.declared.refusal.StoreRefusal.{StoreRefusal}
-use Rattle.am_store.specs.declared.refusal.StoreRefusal.TheVariants as refusal
+use Rattle.am_rows.specs.declared.refusal.StoreRefusal.{StoreRefusal}
+use Rattle.am_rows.specs.declared.refusal.StoreRefusal.TheVariants as refusal
 
 -- the disk failed or refused during the call, a failure before it had shut the connection, or the connection has a
 -- limit on the steps of a query

@@ -1,4 +1,3 @@
-pub mod Codes
 pub mod Tables
 pub mod Texts
 pub mod Where
@@ -11,3 +10,4 @@ pub mod Kept
 pub mod Opening
 pub mod Failing
 pub mod Best
+pub mod Items

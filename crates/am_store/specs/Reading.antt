@@ -19,8 +19,8 @@ use Rattle.am_item.specs.declared.item.Item.{Item}
 use Rattle.am_item.specs.Key.{Key, key_cmp}
 use Rattle.am_store.specs.Rows.{IsConfig, IsSilenceRow, IsStamp, config_in, pairs_in, silence_in, stamp_at}
 use Rattle.am_store.specs.Stored.{key_in, stored_item}
-use Rattle.am_store.specs.declared.refusal.StoreRefusal.{StoreRefusal}
-use Rattle.am_store.specs.declared.refusal.StoreRefusal.TheVariants.{Foreign}
+use Rattle.am_rows.specs.declared.refusal.StoreRefusal.{StoreRefusal}
+use Rattle.am_rows.specs.declared.refusal.StoreRefusal.TheVariants.{Foreign}
 
 -- there is a value, unless memory ran out
 abbrev pub GivesValue : {X R : Type 0} → Result X (Failure R) → Type 0

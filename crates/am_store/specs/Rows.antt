@@ -1,6 +1,6 @@
 -- The rows that spell what is stored.
 use Rattle.std.specs.Prelude.{◌≡◌, ◌+◌, ◌<◌, ◌≤◌, ◌^◌, ℕ, ℤ, pos, List, [], ◌∷◌, ◌++◌, map, All, IsTrue, IsUtf8, IfSome}
-use Rattle.std.specs.Prelude.{Option, Some, None, Ok, Err, unwrap_or, ⊤}
+use Rattle.std.specs.Prelude.{Option, Some, None, Ok, Err, unwrap_or}
 use Rattle.std.specs.List.{AllByRecursion}
 use Rattle.sqlite.specs.declared.types.Value.{Value}
 use Rattle.sqlite.specs.declared.types.Value.TheVariants.{Null, Int, Text, Blob}
@@ -14,9 +14,6 @@ use Rattle.am_match.specs.Matchers.{IsMatcher, MatcherText}
 use Rattle.am_match.specs.Spelling.{IsSpellable, spelling}
 use Rattle.am_match.specs.Taking.{Taken, taken}
 use Rattle.am_item.specs.Counts.{greatest_count}
-use Rattle.am_item.specs.declared.item.Item.{Item}
-use Rattle.am_item.specs.declared.item.Thing.{Thing}
-use Rattle.am_item.specs.declared.item.Thing.TheVariants as thing
 use Rattle.am_item.specs.declared.stamp.Stamp.{Stamp}
 use Rattle.am_store.specs.Apart.{AreApart}
 use Rattle.am_store.specs.Stored.{ConfigurationText, SilenceText, SilenceWords, Stored, stamped}
@@ -73,23 +70,6 @@ pub record IsSilence (s : SilenceText) : Type 0 where
   pub comment : IsUtf8 s.comment
   pub spellable : IsSpellable s.matchers
   pub matchers : All IsMatcher s.matchers
-
--- what a stamp's type leaves open: an instance from 1 to 8, a count up to the greatest
-pub record IsNumbered (s : Stamp) : Type 0 where
-  pub first : 1 ≤ s.instance
-  pub last : s.instance ≤ 8
-  pub count : s.count ≤ greatest_count
-
--- an item that may be stored, as far as its type leaves that open: the matchers of a silence can be written as bytes
-abbrev pub IsFitThing : Thing → Type 0
-IsFitThing (thing.Configuration text) = ⊤
-IsFitThing (thing.Silence silence) = IsSpellable silence.matchers
-IsFitThing (thing.Alert alert) = ⊤
-IsFitThing (thing.SentEntry entry) = ⊤
-
-pub record IsFit (item : Item) : Type 0 where
-  pub stamp : IsNumbered item.stamp
-  pub thing : IsFitThing item.thing
 
 -- the row is that of a configuration of a tenant
 pub record IsConfig (row : Row) : Type 0 where

@@ -1,5 +1,5 @@
 -- What the calls of a store make of its database.
-use Rattle.std.specs.Prelude.{◌≡◌, ℕ, ℤ, Bool, false, not, List, ◌∷◌, filter, None, IsTrue, if◌then◌else◌}
+use Rattle.std.specs.Prelude.{◌≡◌, ℕ, ℤ, Bool, false, not, List, [], ◌∷◌, filter, None, IsTrue, if◌then◌else◌}
 use Rattle.std.specs.List.{AllByRecursion}
 use Rattle.std.specs.Ordering.{is_eq}
 use Rattle.sqlite.specs.declared.types.Value.TheVariants.{Int}
@@ -8,7 +8,7 @@ use Rattle.sqlite.specs.Edit.{is_taken, next_rowid}
 use Rattle.sqlite.specs.Tree.{Trees, put_row}
 use Rattle.sqlite.specs.Effect.{Database}
 use Rattle.sqlite.specs.State.{State}
-use Rattle.am_item.specs.Key.{key_cmp}
+use Rattle.am_item.specs.Key.{SilenceKey, key_cmp}
 use Rattle.am_item.specs.declared.key.ThingKey.{ThingKey as Key}
 use Rattle.am_share.specs.Pairs.{Drops, LeavesOthers}
 use Rattle.am_store.specs.Rows.{IsStore, pairs_in}
@@ -48,6 +48,11 @@ pub record Removes (tenant : List ℕ) (key : Key) (old new : Database) : Type 0
       → stored_at tenant k (pairs_in new.trees)
       ≡ (if is_eq (key_cmp key k) then None else stored_at tenant k (pairs_in old.trees))
   pub others : LeavesOthers tenant (pairs_in old.trees) (pairs_in new.trees)
+
+-- silences, each named with its tenant, were removed one after the other
+abbrev pub RemovesEach : List (List ℕ × List ℕ) → Database → Database → Type 0
+RemovesEach [] old new = new ≡ old
+RemovesEach (s ∷ ss) old new = (mid : Database) × Removes s.0 (SilenceKey s.1) old mid × RemovesEach ss mid new
 
 -- the database is a store again, in which nothing of a tenant is left
 pub record Empties (tenant : List ℕ) (old new : Database) : Type 0 where

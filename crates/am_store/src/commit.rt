@@ -7,8 +7,9 @@ ghost use Rattle.sqlite.specs.Held.{state};
 ghost use Rattle.sqlite.specs.State.{HasCleanDisk, KeepsCommit, Survives};
 ghost use Rattle.am_item.specs.Key.{SilenceKey};
 ghost use Rattle.am_store.specs.Failing.{IsExcused, IsPutExcused, IsReady, PutsEach};
-ghost use Rattle.am_store.specs.Rows.{IsFit, IsStore};
-ghost use Rattle.am_store.specs.Steps.{Commits, Empties, IsSame, Leaves, Removes, Stores};
+ghost use Rattle.am_rows.specs.Fit.{IsFit};
+ghost use Rattle.am_store.specs.Rows.{IsStore};
+ghost use Rattle.am_store.specs.Steps.{Commits, Empties, IsSame, Leaves, Removes, RemovesEach, Stores};
 ghost use Rattle.am_store.specs.Stored.{stored_item, stored_items};
 
 use crate::{config, silence};
@@ -161,6 +162,49 @@ pub(crate) fn drop_silence<S: Alter>(
     let _settled = conn.is_autocommit();
     let mut tx = conn.transaction();
     take_silence(&mut tx, tenant, id)?;
+    tx.commit()
+}
+
+// Takes silences out one after the other.
+fn take_silences<S: Alter>(
+    tx: &mut Transaction<'_, S>,
+    silences: &[(TenantName, SilenceId)],
+) -> Result<(), Error>
+    ensures same_reference { tx.new.conn.ghost_name ≡ tx.old.conn.ghost_name }
+    ensures ok { HasCleanDisk (state S.Store tx.new.conn.now) → IsStore (state S.Store tx.old.conn.now).now
+        → OnOk result (RemovesEach silences.now (state S.Store tx.old.conn.now).now (state S.Store tx.new.conn.now).now) }
+    ensures kept { HasCleanDisk (state S.Store tx.new.conn.now)
+        → KeepsCommit (state S.Store tx.old.conn.now) (state S.Store tx.new.conn.now) }
+    ensures inside { HasCleanDisk (state S.Store tx.new.conn.now)
+        → OnOk result (IsTrue (state S.Store tx.old.conn.now).in_transaction
+        → IsTrue (state S.Store tx.new.conn.now).in_transaction) }
+    ensures survives { Survives (state S.Store tx.old.conn.now) (state S.Store tx.new.conn.now) (λ _. ⊥) }
+{
+    for (tenant, id) in silences {
+        take_silence(tx, tenant, id)?;
+    }
+    Ok(())
+}
+
+// Drops silences, each named with its tenant, all or none.
+pub(crate) fn drop_silences<S: Alter>(
+    conn: &mut Connection<S>,
+    silences: &[(TenantName, SilenceId)],
+) -> Result<(), Error>
+    requires { conn.old.in_transaction ≡ false }
+    ensures ok { HasCleanDisk (state S.Store conn.new) → IsStore (state S.Store conn.old).now
+        → OnOk result (Commits (RemovesEach silences.now) (state S.Store conn.old) (state S.Store conn.new)) }
+    ensures err { HasCleanDisk (state S.Store conn.new) → IsTrue (state S.Store conn.new).is_open
+        → IsStore (state S.Store conn.old).now
+        → OnErr result (IsSame (state S.Store conn.old) (state S.Store conn.new)) }
+    ensures idle { conn.new.in_transaction ≡ false }
+    ensures crash { Survives (state S.Store conn.old) (state S.Store conn.new)
+        (Leaves (RemovesEach silences.now) (state S.Store conn.old)) }
+{
+    let _live = conn.schema();
+    let _settled = conn.is_autocommit();
+    let mut tx = conn.transaction();
+    take_silences(&mut tx, silences)?;
     tx.commit()
 }
 

@@ -3,7 +3,9 @@
 
 mod commit;
 mod config;
+mod fit;
 mod laws;
+mod made;
 mod numbers;
 mod opening;
 mod query;
@@ -11,11 +13,13 @@ mod reading;
 mod refusal;
 mod rows;
 mod schema;
+mod shelf;
 mod silence;
 mod stamps;
 mod store;
 mod tenants;
 
-pub use laws::rows_are_the_best;
-pub use refusal::StoreRefusal;
+pub use laws::{memory_stays_clean, rows_are_the_best};
+pub use made::{FileShelf, MemoryShelf};
+pub use shelf::Shelf;
 pub use store::Store;

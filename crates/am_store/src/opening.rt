@@ -16,8 +16,9 @@ ghost use Rattle.am_store.specs.Tables.{config, no_schema, one_table, silence, s
 
 use crate::query;
 use crate::reading::{or_foreign, read_config, read_silence};
-use crate::refusal::{StoreRefusal, failure_of};
+use crate::refusal::failure_of;
 use crate::schema::{is_blank, is_store};
+use am_rows::StoreRefusal;
 use am_text::Failure;
 use sqlite::{Alter, Connection, Error, Row, Transaction};
 use sqlite_value::value::ValueRef;

@@ -10,7 +10,8 @@ ghost use Rattle.am_store.specs.Failing.{FailsForCause, IsQuery};
 ghost use Rattle.am_store.specs.Opening.{Rests};
 ghost use Rattle.am_store.specs.Tables.{store_schema};
 
-use crate::refusal::{StoreRefusal, failure_of};
+use crate::refusal::failure_of;
+use am_rows::StoreRefusal;
 use am_text::Failure;
 use sqlite::{Alter, Connection, Row};
 use sqlite_value::value::ValueRef;

@@ -11,11 +11,11 @@ ghost use Rattle.am_tenant.specs.Names.{is_tenant_name};
 ghost use Rattle.am_store.specs.Reading.{GivesColumn, GivesValue, ReadsConfig, ReadsSilence, RefusesForeign};
 ghost use Rattle.am_store.specs.Rows.{IsConfig, IsSilenceRow, body_value, id_text};
 
-use crate::refusal::StoreRefusal;
 use crate::silence::text_of;
 use crate::stamps::{moment_of, stamp_of};
 use am_item::{Item, Matchers, Silence, SilenceId, Thing};
 use am_match::{Matcher, take_matchers};
+use am_rows::StoreRefusal;
 use am_tenant::TenantName;
 use am_text::{Failure, Text};
 use sqlite::{Error, ErrorCode, Row};

@@ -1,52 +1,18 @@
-//! Why a store does not do what it is asked.
+//! What a call of the database that failed is told as.
 
-ghost use Rattle.std.specs.Prelude.{◌≡◌, ◌↔◌, Some};
+ghost use Rattle.std.specs.Prelude.{◌≡◌, ◌↔◌};
 ghost use Rattle.am_text.specs.Outcome.{ForRefused};
-ghost use Rattle.am_store.specs.Codes.{code_of};
 
+use am_rows::StoreRefusal;
 use am_text::Failure;
-use sqlite::{Error as DatabaseError, ErrorCode};
-use std::error::Error;
-use std::fmt;
+use sqlite::{Error, ErrorCode};
 
-/// Why a store does not do what it is asked.
-#[derive(Clone, Copy, Debug, PartialEq, Eq)]
-pub enum StoreRefusal {
-    /// A call of the database was refused.
-    Database,
-    /// The database has another schema, or a row that is no item of a tenant.
-    Foreign,
-}
-
-impl StoreRefusal {
-    /// The code of the refusal, `F2` or `F3`.
-    pub fn code(self) -> &'static str
-        ensures { result.now ≡ code_of self }
-    {
-        match self {
-            StoreRefusal::Database => "F2",
-            StoreRefusal::Foreign => "F3",
-        }
-    }
-}
-
-impl fmt::Display for StoreRefusal {
-    ghost output = { λ refusal. Some (code_of refusal) };
-
-    fn fmt<W: fmt::Write>(&self, f: &mut fmt::Formatter<W>) -> fmt::Result {
-        f.pad(self.code())
-    }
-}
-
-impl Error for StoreRefusal {}
-
-// What a call of the database that failed is told as.
-pub(crate) fn failure_of(error: DatabaseError) -> Failure<StoreRefusal>
-    ensures memory { (result ≡ Failure.OutOfMemory) ↔ (error ≡ DatabaseError.SqliteFailure ErrorCode.OutOfMemory) }
+pub(crate) fn failure_of(error: Error) -> Failure<StoreRefusal>
+    ensures memory { (result ≡ Failure.OutOfMemory) ↔ (error ≡ Error.SqliteFailure ErrorCode.OutOfMemory) }
     ensures database { ForRefused result (λ refusal. refusal ≡ StoreRefusal.Database) }
 {
     match error {
-        DatabaseError::SqliteFailure(ErrorCode::OutOfMemory) => Failure::OutOfMemory,
+        Error::SqliteFailure(ErrorCode::OutOfMemory) => Failure::OutOfMemory,
         _ => Failure::Refused(StoreRefusal::Database),
     }
 }

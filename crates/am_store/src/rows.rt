@@ -13,12 +13,13 @@ ghost use Rattle.am_store.specs.Opening.{Rests};
 ghost use Rattle.am_store.specs.Reading.{AreInOrder, GivesValue, KeysRise, config_key, silence_key};
 ghost use Rattle.am_store.specs.Rows.{IsConfig, IsSilenceRow, IsStore, config_in, pairs_in, silence_in};
 ghost use Rattle.am_store.specs.Stored.{stored_items};
+ghost use Rattle.am_rows.specs.Rows.{stored_in};
 
 use crate::config::named;
 use crate::query;
 use crate::reading::{read_config, read_silence};
-use crate::refusal::StoreRefusal;
 use am_item::Item;
+use am_rows::StoreRefusal;
 use am_tenant::TenantName;
 use am_text::Failure;
 use sqlite::{Alter, Connection, Row};
@@ -133,6 +134,7 @@ pub(crate) fn rows_of<S: Alter>(
         → IfOk result (λ items. IsPermutation (things_of tenant.now (pairs_in (state S.Store conn.old).now.trees))
         (stored_items items.items)) }
     ensures order { IfOk result (λ items. IsRising items.items) }
+    ensures stored { IfOk result (λ items. stored_in items.items ≡ items.items) }
     ensures fails { HasCleanDisk (state S.Store conn.new) → IsStore (state S.Store conn.old).now
         → FailsForCause (state S.Store conn.old) (state S.Store conn.new) result }
     ensures rests { (HasCleanDisk (state S.Store conn.old) → IsStore (state S.Store conn.old).now)

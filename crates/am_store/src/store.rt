@@ -14,14 +14,16 @@ ghost use Rattle.am_share.specs.Pairs.{things_of};
 ghost use Rattle.am_text.specs.Outcome.{ForRefused};
 ghost use Rattle.am_store.specs.Failing.{FailsForCause, IsJudged, IsPutCaused};
 ghost use Rattle.am_store.specs.Opening.{IsForeign, LeavesNew, Opens, Rests};
-ghost use Rattle.am_store.specs.Rows.{IsFit, IsStore, pairs_in};
+ghost use Rattle.am_rows.specs.Fit.{IsFit};
+ghost use Rattle.am_store.specs.Rows.{IsStore, pairs_in};
 ghost use Rattle.am_store.specs.Steps.{Commits, Empties, IsSame, Leaves, Removes, Stores};
 ghost use Rattle.am_store.specs.Stored.{stored_items};
 ghost use Rattle.am_store.specs.Tables.{no_schema};
 
-use crate::refusal::{StoreRefusal, failure_of};
+use crate::refusal::failure_of;
 use crate::{commit, opening, rows, tenants};
 use am_item::{Item, SilenceId};
+use am_rows::StoreRefusal;
 use am_share::{ShareRefusal, Shared};
 use am_tenant::TenantName;
 use am_text::Failure;

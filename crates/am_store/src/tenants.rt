@@ -16,7 +16,7 @@ ghost use Rattle.am_store.specs.Rows.{IsStore, pairs_in};
 
 use crate::query;
 use crate::reading::tenant_in;
-use crate::refusal::StoreRefusal;
+use am_rows::StoreRefusal;
 use am_tenant::TenantName;
 use am_text::Failure;
 use sqlite::{Alter, Connection, Row};
@@ -54,6 +54,8 @@ fn named<S: Alter>(conn: &mut Connection<S>) -> Result<(Vec<Row>, Vec<Row>), Fai
         → FailsForCause (state S.Store conn.old) (state S.Store conn.new) result }
     ensures rests { (HasCleanDisk (state S.Store conn.old) → IsStore (state S.Store conn.old).now)
         → Rests (state S.Store conn.old) (state S.Store conn.new) }
+    ensures same { HasCleanDisk (state S.Store conn.new) → IsStore (state S.Store conn.old).now
+        → OnOk result ((state S.Store conn.new).now ≡ (state S.Store conn.old).now) }
     ensures idle { conn.old.in_transaction ≡ false → conn.new.in_transaction ≡ false }
 {
     let configs = query::rows(conn, "SELECT tenant FROM config", &[])?;
@@ -75,6 +77,8 @@ pub(crate) fn tenants<S: Alter>(
         → FailsForCause (state S.Store conn.old) (state S.Store conn.new) result }
     ensures rests { (HasCleanDisk (state S.Store conn.old) → IsStore (state S.Store conn.old).now)
         → Rests (state S.Store conn.old) (state S.Store conn.new) }
+    ensures same { HasCleanDisk (state S.Store conn.new) → IsStore (state S.Store conn.old).now
+        → OnOk result ((state S.Store conn.new).now ≡ (state S.Store conn.old).now) }
     ensures idle { conn.old.in_transaction ≡ false → conn.new.in_transaction ≡ false }
 {
     let (configs, silences) = named(conn)?;

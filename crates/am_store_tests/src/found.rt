@@ -4,7 +4,7 @@ use crate::by_hand::PIECES;
 use crate::disk::see;
 use crate::work::{Told, Work};
 use am_expect::{equal, holds};
-use am_store::StoreRefusal;
+use am_rows::StoreRefusal;
 use am_text::Failure;
 use sqlite::Files;
 use sqlite_disk::{Disk, Fuse, Memory};

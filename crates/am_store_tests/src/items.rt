@@ -5,7 +5,8 @@ ghost use Rattle.am_store.specs.Rows.{IsFit, IsNumbered};
 
 use crate::work::Told;
 use am_item::{Item, Matchers, Silence, SilenceId, Stamp, Thing};
-use am_store::{Store, StoreRefusal};
+use am_rows::StoreRefusal;
+use am_store::Store;
 use am_tenant::TenantName;
 use am_text::{Failure, Moment, Text};
 use sqlite::Alter;

@@ -2,7 +2,8 @@
 
 use crate::by_hand::known;
 use crate::items::{rows, steps};
-use am_store::{Store, StoreRefusal};
+use am_rows::StoreRefusal;
+use am_store::Store;
 use am_text::Failure;
 use sqlite::{Alter, Connection};
 use std::alloc::Global;

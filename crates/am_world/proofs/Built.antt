@@ -14,7 +14,7 @@ use Rattle.am_world.specs.declared.event.Event.{Event}
 use Rattle.am_world.specs.declared.event.Event.TheVariants.{Open, Bytes, Close, Limits, Tick, Outcome}
 use Rattle.am_world.specs.declared.event.Output.{Output}
 use Rattle.am_world.specs.declared.instance.Instance.{Instance}
-use Rattle.am_world.specs.declared.world.World.{World}
+use Rattle.am_world.specs.declared.state.State.{State}
 use Rattle.am_world.specs.Places.{AreBuilt, HasMore, KeepRefused, refused_at}
 use Rattle.am_world.specs.PrivateCluster.{Happening, patterns_brought, patterns_in}
 use Rattle.am_world.specs.Simulation.{KeepsBuilds, refused_by}
@@ -42,7 +42,7 @@ pub added_none : (old new : List (List ℕ)) → AddsAmong [] old new → new �
 added_none old new adds = adds.refused ∙ ap (λ more. old ++ more) (no_more adds.more adds.each) ∙ append-nil old
 
 -- an event that refuses no build
-pub builds_kept : (w w' : World) (e : Event) (i : ℕ) (outs : List Output) → refused_by w' i ≡ refused_by w i → KeepsBuilds w e i outs w'
+pub builds_kept : (w w' : State) (e : Event) (i : ℕ) (outs : List Output) → refused_by w' i ≡ refused_by w i → KeepsBuilds w e i outs w'
 builds_kept w w' (Open c j) i outs same = same
 builds_kept w w' (Bytes c m piece) i outs same = inl same
 builds_kept w w' (Close c) i outs same = same
@@ -54,7 +54,7 @@ pub more_among : (texts old new : List (List ℕ)) → AddsAmong texts old new �
 more_among texts old new adds = (adds.more, adds.refused)
 
 -- and what any event leaves
-pub builds_more : (w w' : World) (e : Event) (i : ℕ) (outs : List Output) → KeepsBuilds w e i outs w' → HasMore (refused_by w i) (refused_by w' i)
+pub builds_more : (w w' : State) (e : Event) (i : ℕ) (outs : List Output) → KeepsBuilds w e i outs w' → HasMore (refused_by w i) (refused_by w' i)
 builds_more w w' (Open c j) i outs same = more_nothing _ _ same
 builds_more w w' (Bytes c m piece) i outs (inl same) = more_nothing _ _ same
 builds_more w w' (Bytes c m piece) i outs (inr refuses) = more_among _ _ _ refuses.adds

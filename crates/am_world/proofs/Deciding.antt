@@ -12,7 +12,7 @@ use Rattle.am_config.specs.Configuration.{Configuration}
 use Rattle.am_current.specs.Current.{configuration_in}
 use Rattle.am_http.specs.declared.request.Request.{Request}
 use Rattle.am_item.specs.declared.fault.Fault.{Fault}
-use Rattle.am_item.specs.declared.fault.Fault.TheVariants.{CountsExhausted, OutOfMemory, PatternNotBuilt}
+use Rattle.am_item.specs.declared.fault.Fault.TheVariants.{CountsExhausted, OutOfMemory, PatternNotBuilt, StoreRefused}
 use Rattle.am_item.specs.declared.item.Item.{Item}
 use Rattle.std.proofs.lemmas.Bool.{false≢true}
 use Rattle.std.proofs.lemmas.List.{append-nil}
@@ -29,7 +29,8 @@ use Rattle.am_pattern.specs.Asking.{Asked}
 use Rattle.am_pattern.specs.Cache.{Cache}
 use Rattle.am_pattern.proofs.AskingLemmas.{grows-asked}
 use Rattle.am_limit.specs.declared.limits.Limits.{Limits}
-use Rattle.am_replica.specs.Accepting.{StopsAccepting}
+use Rattle.am_rows.specs.Rows.{has_stored}
+use Rattle.am_replica.specs.Accepting.{StopsCommitting}
 use Rattle.am_replica.specs.Local.{Local}
 use Rattle.am_world.specs.Places.{HasMore, here_of, local_in}
 use Rattle.am_world.specs.Reaction.{AcceptsBuilt, Here, MayDecide, StopsFor, Terms, decision_at, maker, refusal_reply, words}
@@ -100,20 +101,24 @@ stops_for old new (Ok d) request here local returned = tt
 stops_for old new (Err OutOfMemory) request here local returned = tt
 stops_for old new (Err CountsExhausted) request here local returned = returned
 stops_for old new (Err PatternNotBuilt) request here local returned = inl returned
+stops_for old new (Err StoreRefused) request here local returned = absurd returned
 
 -- ---- what it brings is accepted
 
 -- why an instance stops that accepts what was decided
 pub stops_accepting : (old between new : List (List ℕ)) (request : Request) (limits : Limits) (here : Here) (local after : Local) (fault : Fault)
     (d : Decision) → MayDecide old between request limits (decision_at here request local) d → AcceptsBuilt request d → after ≡ local →
-    StopsAccepting new d.items after fault → StopsFor fault request here local new
+    StopsCommitting new d.items after fault → StopsFor fault request here local new
 stops_accepting old between new request limits here local after OutOfMemory d may built same stops = tt
 stops_accepting old between new request limits here local after CountsExhausted d may built same stops = absurd stops
 stops_accepting old between new request limits here local after PatternNotBuilt d (inl right) built same stops =
     inr (rw (same, right.0) at stops, subst (AcceptsBuilt request) right.0 built)
 stops_accepting old between new request limits here local after PatternNotBuilt d (inr refused) built same stops =
     let none = no_items d refused.unbuilt in
-    elim ((rw (same, none) at stops).0) [ inl alert ↦ absurd (false≢true alert) | inr configuration ↦ absurd (false≢true configuration) ]
+    elim ((rw (same, none) at stops).0) [ inl alert ↦ absurd (false≢true alert) | inr configuration ↦ absurd (false≢true configuration.0) ]
+stops_accepting old between new request limits here local after StoreRefused d (inl right) built same stops = ap (λ (e : Decision). has_stored e.items) (sym right.0) ∙ stops
+stops_accepting old between new request limits here local after StoreRefused d (inr refused) built same stops =
+    absurd (false≢true (sym (ap has_stored (no_items d refused.unbuilt)) ∙ stops))
 
 -- no pattern that was refused is forgotten
 pub more_asked : {X E : Type 0} (result : Result X E) (texts : List (List ℕ)) (old new : Cache) → HasMore texts old.refused →

@@ -8,7 +8,7 @@ use Rattle.am_limit.specs.declared.limits.Limits as limit
 use Rattle.am_world.specs.declared.event.Event.{Event}
 use Rattle.am_world.specs.declared.event.Event.TheVariants.{Limits}
 use Rattle.am_world.specs.declared.instance.Instance.{Instance}
-use Rattle.am_world.specs.declared.world.World.{World}
+use Rattle.am_world.specs.declared.state.State.{State}
 use Rattle.am_world.specs.Moments.{clock_after}
 use Rattle.am_world.specs.Places.{IsDownAt, KeepRefused, SameElsewhere, incarnation_at, instance_at, incarnation_where, roster_of}
 use Rattle.am_world.specs.Refusal.{refusal}
@@ -36,7 +36,7 @@ one_fault i =
     let most = count_once 1 i numbers (refl, (refl, (refl, (refl, (refl, (refl, (refl, (refl, tt)))))))) in
     omega arith
 
-pub faulted_at : (w w' : World) (e : Event) (i : ℕ) → refusal w e ≡ None → works w e i ≡ true → IsDownAt i w'.instances → StoppedBy w e i w' →
+pub faulted_at : (w w' : State) (e : Event) (i : ℕ) → refusal w e ≡ None → works w e i ≡ true → IsDownAt i w'.instances → StoppedBy w e i w' →
     SameElsewhere i w.instances w'.instances → ((j : ℕ) → incarnation_at j w'.instances ≡ (roster_after e (roster_of w.instances)).incarnation j) →
     put_out w' ≡ put_out w → fault_count w' ≡ min (fault_count w + 1) (2 ^ 64 - 1) → w'.clock ≡ clock_after e w.clock → w'.limits ≡ w.limits → w'.service_key ≡ w.service_key →
     KeepRefused w.instances w'.instances → Faulted w e w'
@@ -65,7 +65,7 @@ faulted_at w w' e i taken worked down cause others incarnations outputs counted 
     }
 
 -- new limits that find no memory: nothing has changed, and one fault is counted
-pub faulted_limits : (w w' : World) (tenant : List ℕ) (limits : limit.Limits) → w'.instances ≡ w.instances → put_out w' ≡ put_out w →
+pub faulted_limits : (w w' : State) (tenant : List ℕ) (limits : limit.Limits) → w'.instances ≡ w.instances → put_out w' ≡ put_out w →
     fault_count w' ≡ min (fault_count w + 1) (2 ^ 64 - 1) → w'.clock ≡ w.clock → ((t : List ℕ) → limits_of t w'.limits ≡ limits_of t w.limits) →
     w'.service_key ≡ w.service_key → Faulted w (Limits tenant limits) w'
 faulted_limits w w' tenant limits instances outputs counted clock same service_key = record {

@@ -71,7 +71,7 @@ same_step q p = elim (cases_Bool (nat_eq q p)) [
   | inr e ↦ let next : nat_eq (suc q) (suc p) ≡ false = grind (arith, nat_tests) in e ∙ sym next
 ]
 
-set_get : {A : Type 0} (xs : List A) (p q : ℕ) (y : A) → p < length xs →
+pub set_get : {A : Type 0} (xs : List A) (p q : ℕ) (y : A) → p < length xs →
     slice_get (slice_set xs p y) q ≡ (if nat_eq q p then Some y else slice_get xs q)
 set_get [] p q y less = absurd (omega arith)
 set_get (x ∷ xs) zero zero y less = refl

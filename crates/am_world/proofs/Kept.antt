@@ -8,7 +8,7 @@ use Rattle.am_world.specs.declared.event.Event.TheVariants.{Open, Bytes, Limits,
 use Rattle.am_world.specs.declared.event.Refused.{Refused}
 use Rattle.am_world.specs.declared.event.Refused.TheVariants.{MomentRefused}
 use Rattle.am_world.specs.declared.instance.Instance.{Instance}
-use Rattle.am_world.specs.declared.world.World.{World}
+use Rattle.am_world.specs.declared.state.State.{State}
 use Rattle.am_world.specs.Moments.{clock_after, last_moment}
 use Rattle.am_world.specs.Outputs.{front_told}
 use Rattle.am_world.specs.Places.{IsReadOnce, SameElsewhere, bytes_at, incarnation_at, local_at, refused_at, roster_of, up_at}
@@ -29,7 +29,7 @@ pub roster_then : (a b c : Roster) → IsSameRoster a b → IsSameRoster b c →
 roster_then a b c first next = record { up = λ i. first.up i ∙ next.up i; incarnation = λ i. first.incarnation i ∙ next.incarnation i }
 
 -- the new world has of instances, tenants and the clock what the old one has
-pub record SameParts (w w' : World) : Type 0 where
+pub record SameParts (w w' : State) : Type 0 where
   pub clock : w'.clock ≡ w.clock
   pub limits : w'.limits ≡ w.limits
   pub service_key : w'.service_key ≡ w.service_key
@@ -37,10 +37,10 @@ pub record SameParts (w w' : World) : Type 0 where
   pub local : (t : List ℕ) (i : ℕ) → local_at t i w'.instances ≡ local_at t i w.instances
   pub refused : (i : ℕ) → refused_at i w'.instances ≡ refused_at i w.instances
 
-pub same_itself : (w : World) → SameParts w w
+pub same_itself : (w : State) → SameParts w w
 same_itself w = record { clock = refl; limits = refl; service_key = refl; roster = same_again (roster_of w.instances); local = λ t i. refl; refused = λ i. refl }
 
-pub stands_same : (t : List ℕ) (w w' : World) (p : PrivateCluster) → SameParts w w' → Stands t w p → Stands t w' p
+pub stands_same : (t : List ℕ) (w w' : State) (p : PrivateCluster) → SameParts w w' → Stands t w p → Stands t w' p
 stands_same t w w' p e s = record {
   tenant = s.tenant;
   clock = e.clock ∙ s.clock;
@@ -64,7 +64,7 @@ once_read (Some (AskedAs t)) i j one other = absurd cc
 once_read (Some FrontAnswered) i j one other = absurd cc
 once_read (Some Shut) i j one other = absurd cc
 
-pub read_once : (v : Watch) (w : World) (c : ℕ) → Follows v w → IsReadOnce c w.instances
+pub read_once : (v : Watch) (w : State) (c : ℕ) → Follows v w → IsReadOnce c w.instances
 read_once v w c f i j one other = once_read (look c v.table) i j (rw (f.reading c i) at one) (rw (f.reading c j) at other)
 
 -- the connection that is opened is read at its instance alone, and every other is as before
@@ -74,7 +74,7 @@ open_reading : (b : Bool) (d i j : ℕ) (v : Watch) (o : Option (List ℕ)) (x :
 open_reading true d i j v o x e h = e
 open_reading false d i j v o x e h = e ∙ h
 
-follows_open : (v : Watch) (w w' : World) (c i : ℕ) → up_at i w.instances ≡ true →
+follows_open : (v : Watch) (w w' : State) (c i : ℕ) → up_at i w.instances ≡ true →
     (IsReadOnce c w.instances → (d j : ℕ) → bytes_at d j w'.instances ≡ (if d == c then (if j == i then Some [] else None) else bytes_at d j w.instances)) →
     IsSameRoster (roster_of w'.instances) (roster_of w.instances) → Follows v w → Follows (watch v (Open c i)) w'
 unfolding watch
@@ -85,7 +85,7 @@ follows_open v w w' c i up reading same f = rw (sym (f.roster.up i) ∙ up) (rec
 
 -- An event that changes nothing of what a world has of any tenant, is nothing to any cluster and puts nothing out. What is
 -- read may change.
-pub kept_quiet : (w w' : World) (e : Event) → ((v : Watch) → Follows v w → Follows (watch v e) w') →
+pub kept_quiet : (w w' : State) (e : Event) → ((v : Watch) → Follows v w → Follows (watch v e) w') →
     ((t : List ℕ) (v : Watch) (p : PrivateCluster) → Premises t v p w →
     (after_all p (adds t v e) ≡ p) × (told_all p (adds t v e) ≡ []) × (fits_all p (adds t v e) ≡ true) × AreAllBuilt p (adds t v e)) →
     ((v : Watch) → Follows v w → front_told v e ≡ []) → IsSameRoster (roster_of w'.instances) (roster_after e (roster_of w.instances)) →
@@ -111,7 +111,7 @@ kept_quiet w w' e follows nothing unsaid roster clock limits same outputs faults
   faults = faults;
 }
 
-pub kept_open : (w w' : World) (c i : ℕ) → up_at i w.instances ≡ true →
+pub kept_open : (w w' : State) (c i : ℕ) → up_at i w.instances ≡ true →
     (IsReadOnce c w.instances → (d j : ℕ) → bytes_at d j w'.instances ≡ (if d == c then (if j == i then Some [] else None) else bytes_at d j w.instances)) →
     SameParts w w' → put_out w' ≡ put_out w → fault_count w' ≡ fault_count w → Kept w (Open c i) w'
 unfolding watch adds front_told
@@ -119,7 +119,7 @@ kept_open w w' c i up reading same = kept_quiet w w' (Open c i) (λ v f. follows
     (λ t v p given. (refl, refl, refl, tt)) (λ v f. refl) same.roster same.clock (λ t. ap (limits_of t) same.limits) same
 
 -- an event that adds nothing to any view, and is no change to what is known of any world
-pub kept_nothing : (w : World) (e : Event) → ((v : Watch) → Follows v w → watch v e ≡ v) →
+pub kept_nothing : (w : State) (e : Event) → ((v : Watch) → Follows v w → watch v e ≡ v) →
     ((t : List ℕ) (v : Watch) (p : PrivateCluster) → Premises t v p w →
     (after_all p (adds t v e) ≡ p) × (told_all p (adds t v e) ≡ []) × (fits_all p (adds t v e) ≡ true) × AreAllBuilt p (adds t v e)) →
     ((v : Watch) → Follows v w → front_told v e ≡ []) → IsSameRoster (roster_of w.instances) (roster_after e (roster_of w.instances)) →
@@ -127,12 +127,12 @@ pub kept_nothing : (w : World) (e : Event) → ((v : Watch) → Follows v w → 
 kept_nothing w e unchanged nothing unsaid roster clock limits = kept_quiet w w e (λ v f. rw (unchanged v f) f) nothing unsaid roster clock
     (λ t. limits t (limits_of t w.limits)) (same_itself w) refl refl
 
-pub kept_not_up : (w : World) (c i : ℕ) → up_at i w.instances ≡ false → Kept w (Open c i) w
+pub kept_not_up : (w : State) (c i : ℕ) → up_at i w.instances ≡ false → Kept w (Open c i) w
 unfolding watch adds front_told
 kept_not_up w c i down = kept_nothing w (Open c i) (λ v f. rw (sym (f.roster.up i) ∙ down) refl) (λ t v p given. (refl, refl, refl, tt)) (λ v f. refl)
     (same_again (roster_of w.instances)) refl (λ t limits. refl)
 
-pub kept_late_bytes : (w : World) (c m : ℕ) (piece : List ℕ) → nat_lt last_moment m ≡ true → Kept w (Bytes c m piece) w
+pub kept_late_bytes : (w : State) (c m : ℕ) (piece : List ℕ) → nat_lt last_moment m ≡ true → Kept w (Bytes c m piece) w
 unfolding watch adds front_told
 kept_late_bytes w c m piece late = kept_nothing w (Bytes c m piece) (λ v f. rw late refl) (λ t v p given. rw late (refl, refl, refl, tt)) (λ v f. rw late refl)
     (same_again (roster_of w.instances)) refl (λ t limits. refl)
@@ -152,7 +152,7 @@ tick_course false p m e =
     ap (λ b. if is_some (let o : Option Refused = if b then Some MomentRefused else None in o) then unchanged p else ticks m p) e
 
 -- a tick that is refused changes no private cluster either
-pub kept_refused_tick : (w : World) (m : ℕ) → (nat_lt last_moment m || nat_lt m w.clock) ≡ true → Kept w (Tick m) w
+pub kept_refused_tick : (w : State) (m : ℕ) → (nat_lt last_moment m || nat_lt m w.clock) ≡ true → Kept w (Tick m) w
 unfolding watch adds front_told
 kept_refused_tick w m refused = kept_nothing w (Tick m) (λ v f. refl)
     (λ t v p given.
@@ -170,7 +170,7 @@ unfolding course
 limited_course p limits = refl
 
 -- the tenant's cluster gets them, and no other
-limited_alone : (b : Bool) (t : List ℕ) (w' : World) (p : PrivateCluster) (limits : limit.Limits) →
+limited_alone : (b : Bool) (t : List ℕ) (w' : State) (p : PrivateCluster) (limits : limit.Limits) →
     limits_of t w'.limits ≡ (if b then limits else p.limits) → w'.service_key ≡ p.service_key → p.tenant ≡ t → w'.clock ≡ p.clock →
     IsSameRoster (roster_of w'.instances) p.roster → ((i : ℕ) → local_at t i w'.instances ≡ p.at i) →
     Stands t w' (after_all p (if b then Limited limits ∷ [] else []))
@@ -184,7 +184,7 @@ limited_alone false t w' p limits has service_key tenant clock roster local =
 limits_then : (b : Bool) (limits old own : limit.Limits) → old ≡ own → (if b then limits else old) ≡ (if b then limits else own)
 limits_then b limits old own e = rw e refl
 
-pub kept_limits : (w w' : World) (tenant : List ℕ) (limits : limit.Limits) →
+pub kept_limits : (w w' : State) (tenant : List ℕ) (limits : limit.Limits) →
     ((t : List ℕ) → limits_of t w'.limits ≡ (if same t tenant then limits else limits_of t w.limits)) → w'.service_key ≡ w.service_key → w'.clock ≡ w.clock →
     w'.instances ≡ w.instances → put_out w' ≡ put_out w → fault_count w' ≡ fault_count w → Kept w (Limits tenant limits) w'
 unfolding watch adds front_told

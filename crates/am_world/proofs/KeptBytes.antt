@@ -17,7 +17,7 @@ use Rattle.am_tenant.proofs.Same.{same_tells}
 use Rattle.am_world.specs.declared.event.Event.TheVariants.{Bytes}
 use Rattle.am_world.specs.declared.event.Output.TheVariants.{Reply}
 use Rattle.am_world.specs.declared.instance.Instance.{Instance}
-use Rattle.am_world.specs.declared.world.World.{World}
+use Rattle.am_world.specs.declared.state.State.{State}
 use Rattle.am_world.specs.Moments.{effective, last_moment}
 use Rattle.am_world.specs.Outputs.{answered_by, answered_on, are_owned, front_outputs, front_told, outputs_of, owner}
 use Rattle.am_world.specs.Places.{SameElsewhere, bytes_at, bytes_where, here_in, instance_at, local_at, local_where, roster_of}
@@ -45,7 +45,7 @@ reading_there n (Some (AskedAs tenant)) bytes e = cc
 reading_there n (Some FrontAnswered) bytes e = cc
 reading_there n (Some Shut) bytes e = cc
 
-pub seen_reading : (v : Watch) (w : World) (n c : ℕ) (before : List ℕ) → Follows v w → bytes_at c n w.instances ≡ Some before → look c v.table ≡ Some (Reading n before)
+pub seen_reading : (v : Watch) (w : State) (n c : ℕ) (before : List ℕ) → Follows v w → bytes_at c n w.instances ≡ Some before → look c v.table ≡ Some (Reading n before)
 seen_reading v w n c before f here = reading_there n (look c v.table) before (sym here ∙ f.reading c n)
 
 -- a connection that no instance reads takes no piece
@@ -73,37 +73,37 @@ answered_unread (Some (AskedAs tenant)) c piece unread = refl
 answered_unread (Some FrontAnswered) c piece unread = refl
 answered_unread (Some Shut) c piece unread = refl
 
-pub unread_anywhere : (v : Watch) (w : World) (c : ℕ) → Follows v w → ((i : ℕ) → bytes_at c i w.instances ≡ None) → (i : ℕ) → bytes_read i (look c v.table) ≡ None
+pub unread_anywhere : (v : Watch) (w : State) (c : ℕ) → Follows v w → ((i : ℕ) → bytes_at c i w.instances ≡ None) → (i : ℕ) → bytes_read i (look c v.table) ≡ None
 unread_anywhere v w c f unread i = sym (f.reading c i) ∙ unread i
 
 -- ---- bytes that are refused
 
-table_unread : (v : Watch) (w : World) (c m : ℕ) (piece : List ℕ) → ((i : ℕ) → bytes_at c i w.instances ≡ None) → Follows v w →
+table_unread : (v : Watch) (w : State) (c m : ℕ) (piece : List ℕ) → ((i : ℕ) → bytes_at c i w.instances ≡ None) → Follows v w →
     (if nat_lt last_moment m then v.table else noted c piece (look c v.table) v.table) ≡ v.table
 table_unread v w c m piece unread f = elim (nat_lt last_moment m) as (λ b. (if b then v.table else noted c piece (look c v.table) v.table) ≡ v.table) [
   | true ↦ refl
   | false ↦ noted_unread (look c v.table) c piece v.table (unread_anywhere v w c f unread)
 ]
 
-watch_unread : (v : Watch) (w : World) (c m : ℕ) (piece : List ℕ) → ((i : ℕ) → bytes_at c i w.instances ≡ None) → Follows v w → watch v (Bytes c m piece) ≡ v
+watch_unread : (v : Watch) (w : State) (c m : ℕ) (piece : List ℕ) → ((i : ℕ) → bytes_at c i w.instances ≡ None) → Follows v w → watch v (Bytes c m piece) ≡ v
 unfolding watch
 watch_unread v w c m piece unread f = ap (λ table. (let u : Watch = record { table = table; roster = v.roster } in u)) (table_unread v w c m piece unread f)
 
-adds_unread : (t : List ℕ) (v : Watch) (w : World) (c m : ℕ) (piece : List ℕ) → ((i : ℕ) → bytes_at c i w.instances ≡ None) → Follows v w → adds t v (Bytes c m piece) ≡ []
+adds_unread : (t : List ℕ) (v : Watch) (w : State) (c m : ℕ) (piece : List ℕ) → ((i : ℕ) → bytes_at c i w.instances ≡ None) → Follows v w → adds t v (Bytes c m piece) ≡ []
 unfolding adds
 adds_unread t v w c m piece unread f = elim (nat_lt last_moment m) as (λ b. (if b then [] else asked_on t c m piece (look c v.table)) ≡ []) [
   | true ↦ refl
   | false ↦ asked_unread (look c v.table) t c m piece (unread_anywhere v w c f unread)
 ]
 
-front_unread : (v : Watch) (w : World) (c m : ℕ) (piece : List ℕ) → ((i : ℕ) → bytes_at c i w.instances ≡ None) → Follows v w → front_told v (Bytes c m piece) ≡ []
+front_unread : (v : Watch) (w : State) (c m : ℕ) (piece : List ℕ) → ((i : ℕ) → bytes_at c i w.instances ≡ None) → Follows v w → front_told v (Bytes c m piece) ≡ []
 unfolding front_told
 front_unread v w c m piece unread f = elim (nat_lt last_moment m) as (λ b. (if b then [] else answered_on c piece (look c v.table)) ≡ []) [
   | true ↦ refl
   | false ↦ answered_unread (look c v.table) c piece (unread_anywhere v w c f unread)
 ]
 
-pub kept_unread_bytes : (w : World) (c m : ℕ) (piece : List ℕ) → ((i : ℕ) → bytes_at c i w.instances ≡ None) → Kept w (Bytes c m piece) w
+pub kept_unread_bytes : (w : State) (c m : ℕ) (piece : List ℕ) → ((i : ℕ) → bytes_at c i w.instances ≡ None) → Kept w (Bytes c m piece) w
 kept_unread_bytes w c m piece unread = kept_nothing w (Bytes c m piece)
     (λ v f. watch_unread v w c m piece unread f)
     (λ t v p given. rw (adds_unread t v w c m piece unread given.follows) (refl, refl, refl, tt))
@@ -115,17 +115,17 @@ kept_unread_bytes w c m piece unread = kept_nothing w (Bytes c m piece)
 -- ---- bytes that are taken
 
 -- the table and the view, by the verdict
-pub sees : (v : Watch) (w : World) (n c m : ℕ) (before piece : List ℕ) → nat_lt last_moment m ≡ false → bytes_at c n w.instances ≡ Some before → Follows v w →
+pub sees : (v : Watch) (w : State) (n c m : ℕ) (before piece : List ℕ) → nat_lt last_moment m ≡ false → bytes_at c n w.instances ≡ Some before → Follows v w →
     watch v (Bytes c m piece) ≡ record { table = (c, seen_as n (before ++ piece) (verdict (before ++ piece))) ∷ v.table; roster = v.roster }
 unfolding watch
 sees v w n c m before piece allowed here f = rw (allowed, seen_reading v w n c before f here) refl
 
-pub gives : (t : List ℕ) (v : Watch) (w : World) (n c m : ℕ) (before piece : List ℕ) → nat_lt last_moment m ≡ false → bytes_at c n w.instances ≡ Some before → Follows v w →
+pub gives : (t : List ℕ) (v : Watch) (w : State) (n c m : ℕ) (before piece : List ℕ) → nat_lt last_moment m ≡ false → bytes_at c n w.instances ≡ Some before → Follows v w →
     adds t v (Bytes c m piece) ≡ asked_by t c n m (verdict (before ++ piece))
 unfolding adds
 gives t v w n c m before piece allowed here f = rw (allowed, seen_reading v w n c before f here) refl
 
-pub says : (v : Watch) (w : World) (n c m : ℕ) (before piece : List ℕ) → nat_lt last_moment m ≡ false → bytes_at c n w.instances ≡ Some before → Follows v w →
+pub says : (v : Watch) (w : State) (n c m : ℕ) (before piece : List ℕ) → nat_lt last_moment m ≡ false → bytes_at c n w.instances ≡ Some before → Follows v w →
     front_told v (Bytes c m piece) ≡ answered_by c (verdict (before ++ piece))
 unfolding front_told
 says v w n c m before piece allowed here f = rw (allowed, seen_reading v w n c before f here) refl
@@ -168,7 +168,7 @@ reading_after told n c v before bytes xs ys reading seen here others d j = elim 
 -- ---- what stands afterwards
 
 -- of the tenant, the world at every place has what these local parts say
-pub record Reacts (t : List ℕ) (n : ℕ) (w w' : World) (reaction : Reaction) : Type 0 where
+pub record Reacts (t : List ℕ) (n : ℕ) (w w' : State) (reaction : Reaction) : Type 0 where
   pub here : local_at t n w'.instances ≡ reaction.local
   pub others : (j : ℕ) → nat_eq j n ≡ false → local_at t j w'.instances ≡ local_at t j w.instances
   pub clock : w'.clock ≡ w.clock
@@ -176,7 +176,7 @@ pub record Reacts (t : List ℕ) (n : ℕ) (w w' : World) (reaction : Reaction) 
   pub service_key : w'.service_key ≡ w.service_key
   pub roster : IsSameRoster (roster_of w'.instances) (roster_of w.instances)
 
-pub stands_reacts : (t : List ℕ) (n : ℕ) (w w' : World) (p : PrivateCluster) (reaction : Reaction) → Reacts t n w w' reaction → Stands t w p →
+pub stands_reacts : (t : List ℕ) (n : ℕ) (w w' : State) (p : PrivateCluster) (reaction : Reaction) → Reacts t n w w' reaction → Stands t w p →
     Stands t w' (record p { at = put_at p.at n reaction.local })
 stands_reacts t n w w' p reaction r s = record {
   tenant = s.tenant;
@@ -193,12 +193,12 @@ stands_reacts t n w w' p reaction r s = record {
 }
 
 -- the private cluster's reaction is that of what the world has
-pub terms_same : (t : List ℕ) (w : World) (p : PrivateCluster) → Stands t w p → terms_at p ≡ terms_of w.service_key w.limits t
+pub terms_same : (t : List ℕ) (w : State) (p : PrivateCluster) → Stands t w p → terms_at p ≡ terms_of w.service_key w.limits t
 terms_same t w p s =
     ap (λ name. terms_with p.service_key p.limits name) s.tenant ∙ ap (λ limits. terms_with p.service_key limits t) (sym s.limits)
     ∙ ap (λ key. terms_with key (limits_of t w.limits) t) (sym s.service_key)
 
-pub here_same : (t : List ℕ) (n m : ℕ) (w : World) (p : PrivateCluster) → Stands t w p →
+pub here_same : (t : List ℕ) (n m : ℕ) (w : State) (p : PrivateCluster) → Stands t w p →
     here_at p (effective m p.clock) n ≡ here_in (effective m w.clock) (terms_of w.service_key w.limits t) n w.instances
 here_same t n m w p s =
     ap (λ clock. (let h : Here = record { instance = n; incarnation = p.roster.incarnation n; moment = effective m clock; terms = terms_at p } in h)) (sym s.clock)
@@ -207,12 +207,12 @@ here_same t n m w p s =
     (sym (s.roster.incarnation n))
 
 -- the decision on a request of the tenant, by what the world has
-abbrev pub decision_in : List ℕ → (n m : ℕ) → Request → World → Decision
+abbrev pub decision_in : List ℕ → (n m : ℕ) → Request → State → Decision
 decision_in t n m r w =
     decision_at (here_in (effective m w.clock) (terms_of w.service_key w.limits t) n w.instances) r (local_at t n w.instances)
 
 -- a request of the tenant, on the world and on its cluster
-asked_course : (t : List ℕ) (n c m : ℕ) (r : Request) (w : World) (p : PrivateCluster) → Stands t w p →
+asked_course : (t : List ℕ) (n c m : ℕ) (r : Request) (w : State) (p : PrivateCluster) → Stands t w p →
     course p (Asked c n m r) ≡
     (let reaction : Reaction = carried_out (effective m w.clock) c (decision_in t n m r w) (local_at t n w.instances) in
     record { cluster = record p { at = put_at p.at n reaction.local }; outputs = put_out_at p n reaction.said; fits = reaction.fits })
@@ -220,7 +220,7 @@ unfolding course asked
 asked_course t n c m r w p s = rw (← here_same t n m w p s, s.clock, s.local n) refl
 
 -- a tenant of whom nothing changed
-pub stands_kept : (t : List ℕ) (w w' : World) (p : PrivateCluster) → w'.clock ≡ w.clock → w'.limits ≡ w.limits → w'.service_key ≡ w.service_key →
+pub stands_kept : (t : List ℕ) (w w' : State) (p : PrivateCluster) → w'.clock ≡ w.clock → w'.limits ≡ w.limits → w'.service_key ≡ w.service_key →
     IsSameRoster (roster_of w'.instances) (roster_of w.instances) →
     ((j : ℕ) → local_at t j w'.instances ≡ local_at t j w.instances) → Stands t w p → Stands t w' p
 stands_kept t w w' p clock limits service_key roster local s = record {
@@ -253,18 +253,18 @@ unfolding owner
 of_tenant t s u c bytes seen = rw seen (elim (same t s) [ true ↦ refl | false ↦ refl ])
 
 -- what a piece brings to the world, where this is decided on requests, and what its table says afterwards
-abbrev pub brings : Fed → (Request → Decision) → (n c m : ℕ) → World → Brought
+abbrev pub brings : Fed → (Request → Decision) → (n c m : ℕ) → State → Brought
 brings told decide n c m w = brought told decide (effective m w.clock) c (λ s. local_at s n w.instances)
 
 abbrev pub then_seen : Fed → ℕ → ℕ → List ℕ → Watch → Watch
 then_seen told n c bytes v = record { table = (c, seen_as n bytes told) ∷ v.table; roster = v.roster }
 
 -- what is decided on a request of the tenant is what its cluster decides
-abbrev pub IsRight : List ℕ → (n m : ℕ) → World → Fed → (Request → Decision) → Type 0
+abbrev pub IsRight : List ℕ → (n m : ℕ) → State → Fed → (Request → Decision) → Type 0
 IsRight t n m w told decide = (r : Request) → told ≡ fed.Request r → t ≡ r.tenant → decide r ≡ decision_in t n m r w
 
 -- the tenant that asked
-asked_alone : (t : List ℕ) (n c m : ℕ) (r : Request) (w w' : World) (p : PrivateCluster) → Stands t w p →
+asked_alone : (t : List ℕ) (n c m : ℕ) (r : Request) (w w' : State) (p : PrivateCluster) → Stands t w p →
     local_at t n w'.instances ≡ (carried_out (effective m w.clock) c (decision_in t n m r w) (local_at t n w.instances)).local →
     SameElsewhere n w.instances w'.instances → w'.clock ≡ w.clock → w'.limits ≡ w.limits → w'.service_key ≡ w.service_key →
     IsSameRoster (roster_of w'.instances) (roster_of w.instances) → Stands t w' (after p (Asked c n m r))
@@ -274,7 +274,7 @@ asked_alone t n c m r w w' p s here others clock limits service_key roster =
     let reacts : Reacts t n w w' reaction = record { here = here; others = λ j h. ap (local_where t) (others j h); clock = clock; limits = limits; service_key = service_key; roster = roster } in
     rw (ap (λ (q : Course). q.cluster) (asked_course t n c m r w p s)) (stands_reacts t n w w' p reaction reacts s)
 
-pub stands_bytes : (told : Fed) (decide : Request → Decision) (t : List ℕ) (n c m : ℕ) (w w' : World) (p : PrivateCluster) → Stands t w p →
+pub stands_bytes : (told : Fed) (decide : Request → Decision) (t : List ℕ) (n c m : ℕ) (w w' : State) (p : PrivateCluster) → Stands t w p →
     IsRight t n m w told decide → ((s : List ℕ) → local_at s n w'.instances ≡ (brings told decide n c m w).local s) →
     SameElsewhere n w.instances w'.instances → w'.clock ≡ w.clock → w'.limits ≡ w.limits → w'.service_key ≡ w.service_key →
     IsSameRoster (roster_of w'.instances) (roster_of w.instances) → Stands t w' (after_all p (asked_by t c n m told))
@@ -294,11 +294,11 @@ stands_bytes (fed.Request r) decide t n c m w w' p s right local others clock li
       rw (e.0) (stands_kept t w w' p clock limits service_key roster (local_everywhere t n w.instances w'.instances here others) s)
 ]
 
-told_asked : (t : List ℕ) (n c m : ℕ) (r : Request) (w : World) (p : PrivateCluster) → Stands t w p →
+told_asked : (t : List ℕ) (n c m : ℕ) (r : Request) (w : State) (p : PrivateCluster) → Stands t w p →
     Reply c (reply (decision_in t n m r w).status (decision_in t n m r w).body) ∷ [] ≡ told p (Asked c n m r)
 told_asked t n c m r w p s = rw (ap (λ (q : Course). q.outputs) (asked_course t n c m r w p s)) refl
 
-pub told_bytes : (told : Fed) (decide : Request → Decision) (t : List ℕ) (n c m : ℕ) (bytes : List ℕ) (v u : Watch) (w : World) (p : PrivateCluster) →
+pub told_bytes : (told : Fed) (decide : Request → Decision) (t : List ℕ) (n c m : ℕ) (bytes : List ℕ) (v u : Watch) (w : State) (p : PrivateCluster) →
     Stands t w p → IsRight t n m w told decide → Later (then_seen told n c bytes v) u →
     outputs_of t u (brings told decide n c m w).outputs ≡ told_all p (asked_by t c n m told)
 told_bytes fed.Waits decide t n c m bytes v u w p s right later = refl
@@ -312,7 +312,7 @@ told_bytes (fed.Request r) decide t n c m bytes v u w p s right later =
       | inr e ↦ rw (e.0) refl
     ]
 
-pub fits_bytes : (told : Fed) (decide : Request → Decision) (t : List ℕ) (n c m : ℕ) (w : World) (p : PrivateCluster) → Stands t w p →
+pub fits_bytes : (told : Fed) (decide : Request → Decision) (t : List ℕ) (n c m : ℕ) (w : State) (p : PrivateCluster) → Stands t w p →
     IsRight t n m w told decide → (brings told decide n c m w).fits ≡ true → fits_all p (asked_by t c n m told) ≡ true
 fits_bytes fed.Waits decide t n c m w p s right fit = refl
 fits_bytes (fed.Refused reason) decide t n c m w p s right fit = refl
@@ -333,7 +333,7 @@ not_of_front : (t : List ℕ) (u : Watch) (c : ℕ) (bytes : List ℕ) → look 
 unfolding owner
 not_of_front t u c bytes seen = rw seen refl
 
-pub front_bytes : (told : Fed) (decide : Request → Decision) (n c m : ℕ) (bytes : List ℕ) (v u : Watch) (w : World) →
+pub front_bytes : (told : Fed) (decide : Request → Decision) (n c m : ℕ) (bytes : List ℕ) (v u : Watch) (w : State) →
     Later (then_seen told n c bytes v) u → front_outputs u (brings told decide n c m w).outputs ≡ answered_by c told
 front_bytes fed.Waits decide n c m bytes v u w later = refl
 front_bytes (fed.Refused reason) decide n c m bytes v u w later = of_front u c _ (later.answered c (look_here c FrontAnswered v.table))
@@ -349,7 +349,7 @@ owned_reply : (t : List ℕ) (u : Watch) (c : ℕ) (bytes : List ℕ) → look c
 unfolding owner
 owned_reply t u c bytes seen = rw seen refl
 
-pub owned_bytes : (told : Fed) (decide : Request → Decision) (n c m : ℕ) (bytes : List ℕ) (v u : Watch) (w : World) →
+pub owned_bytes : (told : Fed) (decide : Request → Decision) (n c m : ℕ) (bytes : List ℕ) (v u : Watch) (w : State) →
     Later (then_seen told n c bytes v) u → are_owned u (brings told decide n c m w).outputs ≡ true
 owned_bytes fed.Waits decide n c m bytes v u w later = refl
 owned_bytes (fed.Refused reason) decide n c m bytes v u w later = owned_answer u c _ (later.answered c (look_here c FrontAnswered v.table))

@@ -4,7 +4,7 @@ use Rattle.std.proofs.lemmas.Bool.{cases_Bool}
 use Rattle.std.proofs.lemmas.Bool.Decides.{nat_tests}
 use Rattle.am_limit.specs.Books.{limits_of}
 use Rattle.am_world.specs.declared.event.Event.TheVariants.{Close}
-use Rattle.am_world.specs.declared.world.World.{World}
+use Rattle.am_world.specs.declared.state.State.{State}
 use Rattle.am_world.specs.Outputs.{front_told}
 use Rattle.am_world.specs.Places.{bytes_at, roster_of}
 use Rattle.am_world.specs.Simulation.{Follows, Kept, bytes_read, fault_count, put_out}
@@ -20,12 +20,12 @@ left_unread (Some (AskedAs tenant)) c v unread = refl
 left_unread (Some FrontAnswered) c v unread = refl
 left_unread (Some Shut) c v unread = refl
 
-watch_unread : (v : Watch) (w : World) (c : ℕ) → ((i : ℕ) → bytes_at c i w.instances ≡ None) → Follows v w → watch v (Close c) ≡ v
+watch_unread : (v : Watch) (w : State) (c : ℕ) → ((i : ℕ) → bytes_at c i w.instances ≡ None) → Follows v w → watch v (Close c) ≡ v
 unfolding watch
 watch_unread v w c unread f = ap (λ table. (let u : Watch = record { table = table; roster = v.roster } in u))
     (left_unread (look c v.table) c v.table (unread_anywhere v w c f unread))
 
-pub kept_unread_close : (w : World) (c : ℕ) → ((i : ℕ) → bytes_at c i w.instances ≡ None) → Kept w (Close c) w
+pub kept_unread_close : (w : State) (c : ℕ) → ((i : ℕ) → bytes_at c i w.instances ≡ None) → Kept w (Close c) w
 unfolding adds front_told
 kept_unread_close w c unread = kept_nothing w (Close c)
     (λ v f. watch_unread v w c unread f)
@@ -53,7 +53,7 @@ shut_at d c j n v before old new is reads seen = elim (cases_Bool (nat_eq d c)) 
   ]
 ]
 
-pub kept_close : (w w' : World) (n c : ℕ) (before : List ℕ) → bytes_at c n w.instances ≡ Some before →
+pub kept_close : (w w' : State) (n c : ℕ) (before : List ℕ) → bytes_at c n w.instances ≡ Some before →
     ((d j : ℕ) → bytes_at d j w'.instances ≡ (if j == n then (if d == c then None else bytes_at d j w.instances) else bytes_at d j w.instances)) →
     SameParts w w' → put_out w' ≡ put_out w → fault_count w' ≡ fault_count w → Kept w (Close c) w'
 unfolding watch adds front_told

@@ -13,7 +13,7 @@ use Rattle.am_world.specs.declared.event.AttemptName.{AttemptName}
 use Rattle.am_world.specs.declared.event.Event.TheVariants.{Outcome}
 use Rattle.am_world.specs.declared.event.Refused.{Refused}
 use Rattle.am_world.specs.declared.event.Refused.TheVariants.{MomentRefused, NotAwaited}
-use Rattle.am_world.specs.declared.world.World.{World}
+use Rattle.am_world.specs.declared.state.State.{State}
 use Rattle.am_world.specs.Moments.{effective, last_moment}
 use Rattle.am_world.specs.Outputs.{front_told}
 use Rattle.am_world.specs.Places.{SameElsewhere, awaits_at, bytes_at, here_in, local_at, refused_at, roster_of}
@@ -61,7 +61,7 @@ nothing_tried true p i k number tries moment status unchanging =
     (ap (λ (q : Course). q.cluster) is, ap (λ (q : Course). q.outputs ++ []) is, ap (λ (q : Course). q.fits && true) is, (tt, tt))
 nothing_tried false p i k number tries moment status unchanging = (refl, refl, refl, tt)
 
-pub kept_unawaited : (w : World) (attempt : AttemptName) (tries m : ℕ) (status : Option ℕ) →
+pub kept_unawaited : (w : State) (attempt : AttemptName) (tries m : ℕ) (status : Option ℕ) →
     ((nat_lt last_moment m ≡ true) ⊎ (awaits_at attempt tries w.instances ≡ false)) → Kept w (Outcome attempt tries m status) w
 unfolding watch adds front_told
 kept_unawaited w attempt tries m status why = kept_nothing w (Outcome attempt tries m status) (λ v f. refl)
@@ -85,7 +85,7 @@ unfolding course
 tried_taken p i k number tries m status allowed awaited = rw (allowed, awaited) refl
 
 -- on the world and on its cluster
-tried_course : (attempt : AttemptName) (tries m : ℕ) (status : Option ℕ) (w : World) (p : PrivateCluster) → Stands attempt.tenant w p →
+tried_course : (attempt : AttemptName) (tries m : ℕ) (status : Option ℕ) (w : State) (p : PrivateCluster) → Stands attempt.tenant w p →
     nat_lt last_moment m ≡ false → awaits_at attempt tries w.instances ≡ true →
     course p (Tried attempt.instance attempt.incarnation attempt.number tries m status)
     ≡ by_reaction p attempt.instance
@@ -100,7 +100,7 @@ tried_course attempt tries m status w p s allowed awaited =
     (sym (s.local i))
 
 -- the tenant of the attempt has what its cluster has of it, which says nothing; every other has what it had
-tried_alone : (t : List ℕ) (w w' : World) (p : PrivateCluster) (attempt : AttemptName) (tries m : ℕ) (status : Option ℕ) → Stands t w p →
+tried_alone : (t : List ℕ) (w w' : State) (p : PrivateCluster) (attempt : AttemptName) (tries m : ℕ) (status : Option ℕ) → Stands t w p →
     nat_lt last_moment m ≡ false → awaits_at attempt tries w.instances ≡ true →
     local_at t attempt.instance w'.instances ≡ (if same t attempt.tenant
     then (outcome (in_replica (here_in (effective m w.clock) (terms_of w.service_key w.limits attempt.tenant) attempt.instance w.instances))
@@ -144,7 +144,7 @@ tried_alone t w w' p attempt tries m status s allowed awaited local fit others c
       )
 ]
 
-pub kept_outcome : (w w' : World) (attempt : AttemptName) (tries m : ℕ) (status : Option ℕ) → nat_lt last_moment m ≡ false →
+pub kept_outcome : (w w' : State) (attempt : AttemptName) (tries m : ℕ) (status : Option ℕ) → nat_lt last_moment m ≡ false →
     awaits_at attempt tries w.instances ≡ true →
     ((t : List ℕ) → local_at t attempt.instance w'.instances ≡ (if same t attempt.tenant
     then (outcome (in_replica (here_in (effective m w.clock) (terms_of w.service_key w.limits attempt.tenant) attempt.instance w.instances))

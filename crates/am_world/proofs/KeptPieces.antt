@@ -17,7 +17,7 @@ use Rattle.am_world.specs.declared.event.Event.{Event}
 use Rattle.am_world.specs.declared.event.Event.TheVariants.{Bytes}
 use Rattle.am_world.specs.declared.event.Output.{Output}
 use Rattle.am_world.specs.declared.instance.Instance.{Instance}
-use Rattle.am_world.specs.declared.world.World.{World}
+use Rattle.am_world.specs.declared.state.State.{State}
 use Rattle.am_world.specs.Moments.{effective, last_moment}
 use Rattle.am_world.specs.Places.{SameElsewhere, bytes_at, incarnation_at, incarnation_where, local_at, local_where, refused_at, refused_where, roster_of, up_at, up_where}
 use Rattle.am_world.specs.PrivateCluster.{AreAllBuilt, Course, PrivateCluster, answered, here_at, put_out_at}
@@ -45,14 +45,14 @@ roster_taken n c bytes m terms xs ys outs outs' takes = record {
 }
 
 -- a refusal for a pattern of the tenant's own request
-record IsRefusedHere (t : List ℕ) (w w' : World) (n : ℕ) (limits : Limits) (told : Fed) (decide : Request → Decision) : Type 0 where
+record IsRefusedHere (t : List ℕ) (w w' : State) (n : ℕ) (limits : Limits) (told : Fed) (decide : Request → Decision) : Type 0 where
   request : Request
   is : told ≡ fed.Request request
   own : t ≡ request.tenant
   refused : IsRefusedBuild (refused_by w n) (refused_by w' n) request limits (decide request)
 
 -- what was decided on a request of the tenant is the decision, or such a refusal
-right_or_refused : (t : List ℕ) (n m : ℕ) (w w' : World) (told : Fed) (decide : Request → Decision) →
+right_or_refused : (t : List ℕ) (n m : ℕ) (w w' : State) (told : Fed) (decide : Request → Decision) →
     ((r : Request) → told ≡ fed.Request r →
     MayDecide (refused_at n w.instances) (refused_at n w'.instances) r (limits_of r.tenant w.limits) (decision_in r.tenant n m r w) (decide r)) →
     IsRight t n m w told decide ⊎ IsRefusedHere t w w' n (limits_of t w.limits) told decide
@@ -70,14 +70,14 @@ right_or_refused t n m w w' (fed.Request r) decide decided = elim (same_tells t 
 ]
 
 -- the course of a request that is answered so, on the world and on its cluster
-answered_course : (t : List ℕ) (n c m : ℕ) (d : Decision) (w : World) (p : PrivateCluster) → Stands t w p →
+answered_course : (t : List ℕ) (n c m : ℕ) (d : Decision) (w : State) (p : PrivateCluster) → Stands t w p →
     answered c n m d p ≡
     (let reaction : Reaction = carried_out (effective m w.clock) c d (local_at t n w.instances) in
     record { cluster = record p { at = put_at p.at n reaction.local }; outputs = put_out_at p n reaction.said; fits = reaction.fits })
 answered_course t n c m d w p s = rw (s.clock, s.local n) refl
 
 -- the tenant is told of the refusal alone
-refused_alone : (t : List ℕ) (v : Watch) (p : PrivateCluster) (w w' : World) (e : Event) (outs : List Output) (n c m : ℕ) (bytes : List ℕ)
+refused_alone : (t : List ℕ) (v : Watch) (p : PrivateCluster) (w w' : State) (e : Event) (outs : List Output) (n c m : ℕ) (bytes : List ℕ)
     (told : Fed) (decide : Request → Decision) → Stands t w p → adds t v e ≡ asked_by t c n m told →
     watch v e ≡ then_seen told n c bytes v → outs ≡ (brings told decide n c m w).outputs →
     IsRefusedHere t w w' n (limits_of t w.limits) told decide →
@@ -112,7 +112,7 @@ refused_alone t v p w w' e outs n c m bytes told decide s adds_here sees_here sa
     same_itself s e = elim (same_tells t s) [ inl tells ↦ tells.0 | inr tells ↦ absurd (tells.1 e) ]
 
 -- what is accepted of the tenant has only patterns that were built
-built_bytes : (told : Fed) (decide : Request → Decision) (t : List ℕ) (n c m : ℕ) (w : World) (p : PrivateCluster) → Stands t w p →
+built_bytes : (told : Fed) (decide : Request → Decision) (t : List ℕ) (n c m : ℕ) (w : State) (p : PrivateCluster) → Stands t w p →
     IsRight t n m w told decide → ((r : Request) → told ≡ fed.Request r → AcceptsBuilt r (decide r)) → AreAllBuilt p (asked_by t c n m told)
 built_bytes fed.Waits decide t n c m w p s right built = tt
 built_bytes (fed.Refused reason) decide t n c m w p s right built = tt
@@ -127,7 +127,7 @@ built_bytes (fed.Request r) decide t n c m w p s right built = elim (same_tells 
 ]
 
 -- the instance that reads the connection is refused no build, but where its request is refused for it
-builds_here : (w w' : World) (n c m : ℕ) (before piece : List ℕ) (told : Fed) (decide : Request → Decision) →
+builds_here : (w w' : State) (n c m : ℕ) (before piece : List ℕ) (told : Fed) (decide : Request → Decision) →
     bytes_at c n w.instances ≡ Some before → verdict (before ++ piece) ≡ told →
     ((r : Request) → told ≡ fed.Request r →
     MayDecide (refused_by w n) (refused_by w' n) r (limits_of r.tenant w.limits) (decision_in r.tenant n m r w) (decide r)) →
@@ -151,7 +151,7 @@ builds_here w w' n c m before piece (fed.Request r) decide here is may adds = el
 ]
 
 -- and no other instance
-builds_bytes : (w w' : World) (n c m : ℕ) (piece : List ℕ) (outs : List Output) →
+builds_bytes : (w w' : State) (n c m : ℕ) (piece : List ℕ) (outs : List Output) →
     (refused_by w' n ≡ refused_by w n) ⊎ RefusesBuild w c m piece n outs w' → SameElsewhere n w.instances w'.instances →
     (i : ℕ) → KeepsBuilds w (Bytes c m piece) i outs w'
 unfolding refused_at
@@ -162,7 +162,7 @@ builds_bytes w w' n c m piece outs builds others i = elim (cases_Bool (nat_eq i 
   | inr h ↦ inl (ap refused_where (others i h))
 ]
 
-pub kept_bytes : (w w' : World) (n c m : ℕ) (before piece : List ℕ) → nat_lt last_moment m ≡ false → bytes_at c n w.instances ≡ Some before →
+pub kept_bytes : (w w' : State) (n c m : ℕ) (before piece : List ℕ) → nat_lt last_moment m ≡ false → bytes_at c n w.instances ≡ Some before →
     Takes n c (before ++ piece) (effective m w.clock) (λ t. terms_of w.service_key w.limits t) w.instances w'.instances (put_out w) (put_out w') →
     w'.clock ≡ w.clock → w'.limits ≡ w.limits → w'.service_key ≡ w.service_key →
     fault_count w' ≡ fault_count w → Kept w (Bytes c m piece) w'

@@ -9,7 +9,7 @@ use Rattle.am_limit.specs.declared.limits.Limits.{Limits}
 use Rattle.am_replica.specs.Local.{Reaction}
 use Rattle.am_world.specs.declared.event.Event.TheVariants.{Tick}
 use Rattle.am_world.specs.declared.instance.Instance.{Instance}
-use Rattle.am_world.specs.declared.world.World.{World}
+use Rattle.am_world.specs.declared.state.State.{State}
 use Rattle.am_world.specs.Moments.{last_moment}
 use Rattle.am_world.specs.Outputs.{front_told}
 use Rattle.am_world.specs.Places.{incarnation_at, local_at, roster_of, up_at}
@@ -28,12 +28,12 @@ counts : CountsFrom 1 numbers
 counts = (refl, (refl, (refl, (refl, (refl, (refl, (refl, (refl, tt))))))))
 
 -- the tick of an instance for a tenant is that of the tenant's cluster
-turn_alone : (t : List ℕ) (m i : ℕ) (w : World) (p : PrivateCluster) → Stands t w p →
+turn_alone : (t : List ℕ) (m i : ℕ) (w : State) (p : PrivateCluster) → Stands t w p →
     turn t m w.limits w.instances i ≡ tick_at p m i
 turn_alone t m i w p s =
     rw (s.roster.up i, s.roster.incarnation i, s.local i, s.limits, s.tenant) refl
 
-put_out_alone : (t : List ℕ) (m : ℕ) (w : World) (p : PrivateCluster) → Stands t w p → (ns : List ℕ) →
+put_out_alone : (t : List ℕ) (m : ℕ) (w : State) (p : PrivateCluster) → Stands t w p → (ns : List ℕ) →
     flat_map (λ i. map (output_of t i (incarnation_at i w.instances)) (turn t m w.limits w.instances i).said) ns
     ≡ flat_map (λ i. put_out_at p i (tick_at p m i).said) ns
 put_out_alone t m w p s [] = refl
@@ -44,7 +44,7 @@ put_out_alone t m w p s (i ∷ ns) =
     ∙ ap (λ name. map (output_of name i (p.roster.incarnation i)) (tick_at p m i).said) (sym s.tenant) in
     rw (one, put_out_alone t m w p s ns) refl
 
-fits_alone : (t : List ℕ) (m : ℕ) (w : World) (p : PrivateCluster) → Stands t w p → (ns : List ℕ) →
+fits_alone : (t : List ℕ) (m : ℕ) (w : State) (p : PrivateCluster) → Stands t w p → (ns : List ℕ) →
     list_all (λ i. (turn t m w.limits w.instances i).fits) ns ≡ list_all (λ i. (tick_at p m i).fits) ns
 fits_alone t m w p s [] = refl
 fits_alone t m w p s (i ∷ ns) =
@@ -73,7 +73,7 @@ not_among i apart = elim (cases_Bool (is_instance i)) [
     right_true true b e = e
     right_true false b e = cc
 
-local_alone : (t : List ℕ) (m : ℕ) (w : World) (p : PrivateCluster) (ys : List Instance) → Stands t w p →
+local_alone : (t : List ℕ) (m : ℕ) (w : State) (p : PrivateCluster) (ys : List Instance) → Stands t w p →
     ((i : ℕ) → up_at i w.instances ≡ true → is_instance i ≡ true) →
     ((i : ℕ) → local_at t i ys ≡ (if has i numbers then (turn t m w.limits w.instances i).local else local_at t i w.instances)) →
     (i : ℕ) → local_at t i ys ≡ (tick_at p m i).local
@@ -87,7 +87,7 @@ local_alone t m w p ys s exist local i = local i ∙ elim (cases_Bool (has i num
       rw apart (sym (idle_turn t m w.limits w.instances i down) ∙ ap (λ (r : Reaction). r.local) (turn_alone t m i w p s))
 ]
 
-stands_ticked : (t : List ℕ) (w w' : World) (p : PrivateCluster) (m : ℕ) → w'.clock ≡ m → w'.limits ≡ w.limits →
+stands_ticked : (t : List ℕ) (w w' : State) (p : PrivateCluster) (m : ℕ) → w'.clock ≡ m → w'.limits ≡ w.limits →
     w'.service_key ≡ w.service_key → IsSameRoster (roster_of w'.instances) (roster_of w.instances) →
     ((i : ℕ) → local_at t i w'.instances ≡ (tick_at p m i).local) → Stands t w p → Stands t w' (ticks m p).cluster
 stands_ticked t w w' p m clock limits service_key roster local s = record {
@@ -99,7 +99,7 @@ stands_ticked t w w' p m clock limits service_key roster local s = record {
   local = local;
 }
 
-pub kept_tick : (w w' : World) (m : ℕ) (faults : ℕ) → (nat_lt last_moment m || nat_lt m w.clock) ≡ false → w'.clock ≡ m →
+pub kept_tick : (w w' : State) (m : ℕ) (faults : ℕ) → (nat_lt last_moment m || nat_lt m w.clock) ≡ false → w'.clock ≡ m →
     TakeTurns m w.limits numbers w.instances w'.instances (put_out w) (put_out w') faults → faults ≡ 0 →
     ((i : ℕ) → up_at i w.instances ≡ true → is_instance i ≡ true) → w'.limits ≡ w.limits → w'.service_key ≡ w.service_key →
     fault_count w' ≡ fault_count w → Kept w (Tick m) w'
@@ -134,7 +134,7 @@ kept_tick w w' m faults allowed clock turns none exist limits service_key counte
 more_faults : (stopped : ℕ → Bool) (faults : ℕ) → faults ≢ 0 → faults ≡ length (filter stopped numbers) → faults_of stopped ≡ faults
 more_faults stopped faults some counted = rw (← counted) (omega arith)
 
-pub faulted_tick : (w w' : World) (m faults : ℕ) → (nat_lt last_moment m || nat_lt m w.clock) ≡ false → w'.clock ≡ m →
+pub faulted_tick : (w w' : State) (m faults : ℕ) → (nat_lt last_moment m || nat_lt m w.clock) ≡ false → w'.clock ≡ m →
     TakeTurns m w.limits numbers w.instances w'.instances (put_out w) (put_out w') faults → faults ≢ 0 →
     w'.limits ≡ w.limits → w'.service_key ≡ w.service_key → fault_count w' ≡ min (fault_count w + faults) (2 ^ 64 - 1) → Faulted w (Tick m) w'
 faulted_tick w w' m faults allowed clock turns some limits service_key counted =

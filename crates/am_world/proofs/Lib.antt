@@ -1,3 +1,4 @@
+mod Backed
 mod Built
 mod Deciding
 mod Faults
@@ -8,8 +9,9 @@ mod KeptClose
 mod KeptOutcome
 mod KeptPieces
 mod KeptTick
-mod Opening
+mod Opened
 mod RefusalSeen
+mod Shelved
 mod Run
 pub mod Steps
 mod Ticking

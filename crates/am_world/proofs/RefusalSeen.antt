@@ -3,7 +3,7 @@ use Rattle.std.proofs.Common.{◌≡◌, ◌∙◌, ℕ, List, true, false, is_s
 use Rattle.am_world.specs.declared.event.Event.{Event}
 use Rattle.am_world.specs.declared.event.Event.TheVariants.{Open, Bytes, Close, Limits, Tick, Outcome}
 use Rattle.am_world.specs.declared.instance.Instance.{Instance}
-use Rattle.am_world.specs.declared.world.World.{World}
+use Rattle.am_world.specs.declared.state.State.{State}
 use Rattle.am_world.specs.declared.event.AttemptName.{AttemptName}
 use Rattle.am_world.specs.Places.{AreNumbered, awaits_at, reader_of, reads}
 use Rattle.am_world.specs.PrivateCluster.{PrivateCluster, awaits}
@@ -27,7 +27,7 @@ some_read (Some (AskedAs tenant)) i read = absurd cc
 some_read (Some FrontAnswered) i read = absurd cc
 some_read (Some Shut) i read = absurd cc
 
-read_where : (v : Watch) (w : World) (c : ℕ) (o : Option Instance) → find (reads c) w.instances ≡ o → AreNumbered w.instances → Follows v w →
+read_where : (v : Watch) (w : State) (c : ℕ) (o : Option Instance) → find (reads c) w.instances ≡ o → AreNumbered w.instances → Follows v w →
     is_some (option_map (λ (x : Instance). x.number) o) ≡ is_read (look c v.table)
 read_where v w c None found numbered f =
     sym (none_read (look c v.table) (λ i. sym (nobody_reads c w.instances found i) ∙ f.reading c i))
@@ -35,12 +35,12 @@ read_where v w c (Some x) found numbered f =
     sym (some_read (look c v.table) x.number (rw (f.reading c x.number) at (reader_reads c w.instances x numbered found)))
 
 -- what the world awaits of a tenant, its cluster awaits
-pub awaits_same : (w : World) (attempt : AttemptName) (tries : ℕ) (p : PrivateCluster) → Stands attempt.tenant w p →
+pub awaits_same : (w : State) (attempt : AttemptName) (tries : ℕ) (p : PrivateCluster) → Stands attempt.tenant w p →
     awaits_at attempt tries w.instances ≡ awaits p attempt.instance attempt.incarnation attempt.number tries
 unfolding awaits_at
 awaits_same w attempt tries p s = rw (s.roster.incarnation attempt.instance, s.local attempt.instance) refl
 
-pub refusal_follows : (v : Watch) (w : World) (alone : List ℕ → PrivateCluster) (e : Event) → AreNumbered w.instances → Follows v w →
+pub refusal_follows : (v : Watch) (w : State) (alone : List ℕ → PrivateCluster) (e : Event) → AreNumbered w.instances → Follows v w →
     ((t : List ℕ) → Stands t w (alone t)) → refusal w e ≡ refusal_seen v w.clock alone e
 unfolding reader_of
 refusal_follows v w alone (Open c i) numbered f s = rw (f.roster.up i) refl

@@ -6,10 +6,11 @@ use Rattle.std.proofs.lemmas.List.{append-nil, append_assoc}
 use Rattle.std.proofs.lemmas.List.Elements.{filter-append}
 use Rattle.std.proofs.lemmas.List.Folds.{list_all-append}
 use Rattle.am_api.specs.Patterns.{patterns_of_request}
+use Rattle.am_item.specs.declared.item.Item.{Item}
 use Rattle.am_world.specs.declared.event.Event.{Event}
 use Rattle.am_world.specs.declared.event.Event.TheVariants.{Open, Bytes, Close, Limits, Tick, Outcome}
 use Rattle.am_world.specs.declared.event.Output.{Output}
-use Rattle.am_world.specs.declared.world.World.{World}
+use Rattle.am_world.specs.declared.state.State.{State}
 use Rattle.am_world.specs.Moments.{last_moment}
 use Rattle.am_world.specs.Outputs.{are_owned, front_outputs, front_told, front_told_all, is_front, is_tenant, outputs_of, owner}
 use Rattle.am_world.specs.Places.{AreBuilt, KeepRefused}
@@ -116,40 +117,40 @@ fits_all-append p (x ∷ xs) ys fit more =
     both_fit (fits p x) (fits_all (after p x) xs) _ fit (λ rest. fits_all-append (after p x) xs ys rest more)
 
 -- a fault is counted for good
-pub faulted_counts : (w : World) (e : Event) (w' : World) → Faulted w e w' → fault_count w' ≢ 0
+pub faulted_counts : (w : State) (e : Event) (w' : State) → Faulted w e w' → fault_count w' ≢ 0
 faulted_counts w e w' f none = let counted = f.counted in omega arith
 
-pub step_faults : (w : World) (e : Event) (w' : World) → Step w e w' → fault_count w ≢ 0 → fault_count w' ≢ 0
+pub step_faults : (w : State) (e : Event) (w' : State) → Step w e w' → fault_count w ≢ 0 → fault_count w' ≢ 0
 step_faults w e w' (inl kept) some = λ none. some (sym kept.faults ∙ none)
 step_faults w e w' (inr faulted) some = faulted_counts w e w' faulted
 
-faults_stay : (w : World) (es : List Event) (w' : World) → Run w es w' → fault_count w ≢ 0 → fault_count w' ≢ 0
+faults_stay : (w : State) (es : List Event) (w' : State) → Run w es w' → fault_count w ≢ 0 → fault_count w' ≢ 0
 faults_stay w [] w' run some = λ none. some (sym (ap fault_count run) ∙ none)
 faults_stay w (e ∷ es) w' (mid, step, run) some = faults_stay mid es w' run (step_faults w e mid step some)
 
 -- a step met no fault where none was counted later on
-pub step_kept : (w : World) (e : Event) (mid w' : World) → Step w e mid → (fault_count mid ≢ 0 → fault_count w' ≢ 0) →
+pub step_kept : (w : State) (e : Event) (mid w' : State) → Step w e mid → (fault_count mid ≢ 0 → fault_count w' ≢ 0) →
     fault_count w' ≡ 0 → Kept w e mid
 step_kept w e mid w' (inl kept) stay none = kept
 step_kept w e mid w' (inr faulted) stay none = absurd (stay (faulted_counts w e mid faulted) none)
 
 -- one event more
-pub run_more : (w : World) (es : List Event) (mid : World) (e : Event) (w' : World) → Run w es mid → Step mid e w' →
+pub run_more : (w : State) (es : List Event) (mid : State) (e : Event) (w' : State) → Run w es mid → Step mid e w' →
     Run w (es ++ e ∷ []) w'
 run_more w [] mid e w' run step = (w', rw run at step, refl)
 run_more w (x ∷ es) mid e w' (next, first, run) step = (next, first, run_more next es mid e w' run step)
 
 -- no pattern that was refused is forgotten
-pub step_refused : (w : World) (e : Event) (w' : World) → Step w e w' → KeepRefused w.instances w'.instances
+pub step_refused : (w : State) (e : Event) (w' : State) → Step w e w' → KeepRefused w.instances w'.instances
 step_refused w e w' (inl kept) = λ i. builds_more w w' e i kept.outs (kept.refused i)
 step_refused w e w' (inr faulted) = faulted.refused
 
-run_refused : (w : World) (es : List Event) (w' : World) → Run w es w' → KeepRefused w.instances w'.instances
-run_refused w [] w' run = keep_equal _ _ (ap (λ (x : World). x.instances) run)
+run_refused : (w : State) (es : List Event) (w' : State) → Run w es w' → KeepRefused w.instances w'.instances
+run_refused w [] w' run = keep_equal _ _ (ap (λ (x : State). x.instances) run)
 run_refused w (e ∷ es) w' (mid, step, run) = keep_then _ _ _ (step_refused w e mid step) (run_refused mid es w' run)
 
 -- what events without fault did for a tenant, where Q holds: these are the outputs that they added
-pub record Ran (Q : Type 0) (es : List Event) (outs : List Output) (w' : World) (t : List ℕ) (v : Watch) (p : PrivateCluster) :
+pub record Ran (Q : Type 0) (es : List Event) (outs : List Output) (w' : State) (t : List ℕ) (v : Watch) (p : PrivateCluster) :
     Type 0 where
   pub told : Q → (u : Watch) → Later (watch_all v es) u → outputs_of t u outs ≡ told_all p (view t v es)
   pub front : (u : Watch) → Later (watch_all v es) u → front_outputs u outs ≡ front_told_all v es
@@ -159,14 +160,14 @@ pub record Ran (Q : Type 0) (es : List Event) (outs : List Output) (w' : World) 
   pub stands : Q → Stands t w' (after_all p (view t v es))
 
 -- what they need
-pub record Given (Q : Type 0) (t : List ℕ) (v : Watch) (p : PrivateCluster) (w : World) (es : List Event) (w' : World) :
+pub record Given (Q : Type 0) (t : List ℕ) (v : Watch) (p : PrivateCluster) (w : State) (es : List Event) (w' : State) :
     Type 0 where
   pub follows : Follows v w
   pub once : names_once v es
   pub stands : Q → Stands t w p
   pub brought : Q → AreBuilt (refused_by w') (patterns_in (view t v es))
 
-pub ran_nothing : (Q : Type 0) (w : World) (t : List ℕ) (v : Watch) (p : PrivateCluster) → Follows v w → (Q → Stands t w p) →
+pub ran_nothing : (Q : Type 0) (w : State) (t : List ℕ) (v : Watch) (p : PrivateCluster) → Follows v w → (Q → Stands t w p) →
     Ran Q [] [] w t v p
 ran_nothing Q w t v p f s = record {
   told = λ q u later. refl;
@@ -178,7 +179,7 @@ ran_nothing Q w t v p f s = record {
 }
 
 -- no request was refused for a pattern of the tenant's, where none that it brings was refused a build
-none_refused_alone : (t : List ℕ) (v : Watch) (p : PrivateCluster) (w : World) (e : Event) (outs : List Output) (w' : World) →
+none_refused_alone : (t : List ℕ) (v : Watch) (p : PrivateCluster) (w : State) (e : Event) (outs : List Output) (w' : State) →
     AreBuilt (refused_by w') (patterns_in (adds t v e)) → IsRefusedAlone t v p w e outs w' → ⊥
 none_refused_alone t v p w e outs w' built alone =
     let all = rw alone.asked at (built alone.instance) in
@@ -186,7 +187,7 @@ none_refused_alone t v p w e outs w' built alone =
     (rw (append-nil (patterns_of_request alone.request)) at all) alone.refused.own
 
 -- what a tenant gets of an event, where none of the patterns that it brings was refused a build
-pub as_alone : (t : List ℕ) (v : Watch) (p : PrivateCluster) (w : World) (e : Event) (w' : World) (kept : Kept w e w') →
+pub as_alone : (t : List ℕ) (v : Watch) (p : PrivateCluster) (w : State) (e : Event) (w' : State) (kept : Kept w e w') →
     Premises t v p w → AreBuilt (refused_by w') (patterns_in (adds t v e)) → IsAsAlone t v p e kept.outs w'
 as_alone t v p w e w' kept given built = elim (kept.tenants t v p given) [
   | inl alone ↦ alone
@@ -194,14 +195,14 @@ as_alone t v p w e w' kept given built = elim (kept.tenants t v p given) [
 ]
 
 -- what the first event does of what all do
-pub first_alone : (Q : Type 0) (t : List ℕ) (v : Watch) (p : PrivateCluster) (w : World) (e : Event) (mid : World) (es : List Event) (w' : World) →
+pub first_alone : (Q : Type 0) (t : List ℕ) (v : Watch) (p : PrivateCluster) (w : State) (e : Event) (mid : State) (es : List Event) (w' : State) →
     (kept : Kept w e mid) → Given Q t v p w (e ∷ es) w' → KeepRefused mid.instances w'.instances → Q → IsAsAlone t v p e kept.outs mid
 first_alone Q t v p w e mid es w' kept given keep q = as_alone t v p w e mid kept (record { follows = given.follows; stands = given.stands q })
     (built_before mid.instances w'.instances (patterns_in (adds t v e)) keep
     (built_parts (refused_by w') (adds t v e) (view t (watch v e) es) (given.brought q)).0)
 
 -- what the others need
-pub rest_given : (Q : Type 0) (t : List ℕ) (v : Watch) (p : PrivateCluster) (w : World) (e : Event) (mid : World) (es : List Event) (w' : World) →
+pub rest_given : (Q : Type 0) (t : List ℕ) (v : Watch) (p : PrivateCluster) (w : State) (e : Event) (mid : State) (es : List Event) (w' : State) →
     Given Q t v p w (e ∷ es) w' → (kept : Kept w e mid) → (Q → IsAsAlone t v p e kept.outs mid) →
     Given Q t (watch v e) (after_all p (adds t v e)) mid es w'
 rest_given Q t v p w e mid es w' given kept one = record {
@@ -211,7 +212,7 @@ rest_given Q t v p w e mid es w' given kept one = record {
   brought = λ q. (built_parts (refused_by w') (adds t v e) (view t (watch v e) es) (given.brought q)).1;
 }
 
-pub ran_more : (Q : Type 0) (w : World) (e : Event) (mid : World) (es : List Event) (outs : List Output) (w' : World)
+pub ran_more : (Q : Type 0) (w : State) (e : Event) (mid : State) (es : List Event) (outs : List Output) (w' : State)
     (t : List ℕ) (v : Watch) (p : PrivateCluster) (kept : Kept w e mid) →
     Follows v w → (Q → IsAsAlone t v p e kept.outs mid) → names_once (watch v e) es →
     Ran Q es outs w' t (watch v e) (after_all p (adds t v e)) → Ran Q (e ∷ es) (kept.outs ++ outs) w' t v p
@@ -239,7 +240,7 @@ ran_more Q w e mid es outs w' t v p kept follows one once rest =
       stands = λ q. rw (after_all-append p (adds t v e) (view t (watch v e) es)) (rest.stands q);
     }
 
-ran : (Q : Type 0) (w : World) (es : List Event) (w' : World) (t : List ℕ) (v : Watch) (p : PrivateCluster) → Run w es w' →
+ran : (Q : Type 0) (w : State) (es : List Event) (w' : State) (t : List ℕ) (v : Watch) (p : PrivateCluster) → Run w es w' →
     fault_count w' ≡ 0 → Given Q t v p w es w' → (outs : List Output) × (put_out w' ≡ put_out w ++ outs) × Ran Q es outs w' t v p
 ran Q w [] w' t v p run none given =
     rw run ([], sym (append-nil (put_out w)), ran_nothing Q w t v p given.follows given.stands)
@@ -254,7 +255,7 @@ ran Q w (e ∷ es) w' t v p (mid, step, run) none given =
     )
 
 -- a run of steps is the headline's
-pub headline : (w : World) (es : List Event) (w' : World) → Run w es w' → Headline w es w'
+pub headline : (w : State) (es : List Event) (w' : State) → Run w es w' → Headline w es w'
 headline w es w' run none t v p given =
     let all : Given (Unit {0}) t v p w es w' = record {
       follows = given.follows;
@@ -275,11 +276,11 @@ headline w es w' run none t v p given =
 
 -- ---- a run up to its first fault
 
-step_adds : (w : World) (e : Event) (w' : World) → Step w e w' → (outs : List Output) × (put_out w' ≡ put_out w ++ outs)
+step_adds : (w : State) (e : Event) (w' : State) → Step w e w' → (outs : List Output) × (put_out w' ≡ put_out w ++ outs)
 step_adds w e w' (inl kept) = (kept.outs, kept.appended)
 step_adds w e w' (inr faulted) = (faulted.outs, faulted.appended)
 
-run_adds : (w : World) (es : List Event) (w' : World) → Run w es w' → (outs : List Output) × (put_out w' ≡ put_out w ++ outs)
+run_adds : (w : State) (es : List Event) (w' : State) → Run w es w' → (outs : List Output) × (put_out w' ≡ put_out w ++ outs)
 run_adds w [] w' run = ([], ap put_out run ∙ sym (append-nil (put_out w)))
 run_adds w (e ∷ es) w' (mid, step, run) =
     let first = step_adds w e mid step in
@@ -287,19 +288,19 @@ run_adds w (e ∷ es) w' (mid, step, run) =
     (first.0 ++ later.0, later.1 ∙ ap (λ os. os ++ later.0) first.1 ∙ append_assoc (put_out w) first.0 later.0)
 
 -- a run that met a fault has a first one
-record BreaksAt (w : World) (es : List Event) (w' : World) : Type 0 where
+record BreaksAt (w : State) (es : List Event) (w' : State) : Type 0 where
   before : List Event
   event : Event
   after : List Event
   events : es ≡ before ++ event ∷ after
-  mid : World
+  mid : State
   unbroken : fault_count mid ≡ fault_count w
   run : Run w before mid
-  stopped : World
+  stopped : State
   fault : Faulted mid event stopped
   rest : Run stopped after w'
 
-breaks : (w : World) (es : List Event) (w' : World) → Run w es w' → (fault_count w' ≡ fault_count w) ⊎ BreaksAt w es w'
+breaks : (w : State) (es : List Event) (w' : State) → Run w es w' → (fault_count w' ≡ fault_count w) ⊎ BreaksAt w es w'
 breaks w [] w' run = inl (ap fault_count run)
 breaks w (e ∷ es) w' (mid, inr fault, run) = inr (record {
   before = [];
@@ -329,7 +330,7 @@ breaks w (e ∷ es) w' (mid, inl kept, run) = elim (breaks mid es w' run) [
   })
 ]
 
-pub prefixes : (w : World) (es : List Event) (w' : World) → Run w es w' → Prefixes w es w'
+pub prefixes : (w : State) (es : List Event) (w' : State) → Run w es w' → Prefixes w es w'
 prefixes w es w' run = elim (breaks w es w' run) [
   | inl same ↦ inl same
   | inr b ↦
@@ -355,12 +356,12 @@ prefixes w es w' run = elim (breaks w es w' run) [
 -- ---- from the opening on: no output stands before the run
 
 -- what is told of each tenant, where none of its patterns was refused a build, and of the front
-pub record RanAlone (origin : Origin) (es : List Event) (refused : ℕ → List (List ℕ)) (outs : List Output) (w' : World) : Type 0 where
-  pub all : (t : List ℕ) → Ran (AreBuilt refused (patterns_in (view t (first_watch origin) es))) es outs w' t (first_watch origin) (opened origin t)
+pub record RanAlone (origin : Origin) (rows : List ℕ → ℕ → List Item) (es : List Event) (refused : ℕ → List (List ℕ)) (outs : List Output) (w' : State) : Type 0 where
+  pub all : (t : List ℕ) → Ran (AreBuilt refused (patterns_in (view t (first_watch origin) es))) es outs w' t (first_watch origin) (opened origin (rows t) t)
 
-pub alone_of : (origin : Origin) (es : List Event) (refused : ℕ → List (List ℕ)) (outs : List Output) (w' : World) →
-    RanAlone origin es refused outs w' → Alone origin es refused outs
-alone_of origin es refused outs w' ran =
+pub alone_of : (origin : Origin) (rows : List ℕ → ℕ → List Item) (es : List Event) (refused : ℕ → List (List ℕ)) (outs : List Output) (w' : State) →
+    RanAlone origin rows es refused outs w' → Alone origin rows es refused outs
+alone_of origin rows es refused outs w' ran =
     let last = later_itself (watch_all (first_watch origin) es) in
     record {
       tenants = λ t built. (ran.all t).told built (watch_all (first_watch origin) es) last;
@@ -369,19 +370,19 @@ alone_of origin es refused outs w' ran =
     }
 
 -- what an opened world gives to a run
-pub given_opening : (origin : Origin) (w : World) (es : List Event) (w' : World) (t : List ℕ) → Opens origin w → names_once (first_watch origin) es →
-    Given (AreBuilt (refused_by w') (patterns_in (view t (first_watch origin) es))) t (first_watch origin) (opened origin t) w es w'
-given_opening origin w es w' t opens once =
+pub given_opening : (origin : Origin) (rows : List ℕ → ℕ → List Item) (w : State) (es : List Event) (w' : State) (t : List ℕ) → Opens origin rows w → names_once (first_watch origin) es →
+    Given (AreBuilt (refused_by w') (patterns_in (view t (first_watch origin) es))) t (first_watch origin) (opened origin (rows t) t) w es w'
+given_opening origin rows w es w' t opens once =
     record { follows = opens.follows; once = once; stands = λ built. opens.stands t; brought = λ built. built }
 
 same_outputs : (before outs : List Output) → before ≡ [] → (all : List Output) → all ≡ before ++ outs → outs ≡ all
 same_outputs before outs empty all is = ap (λ os. os ++ outs) (sym empty) ∙ sym is
 
-pub alone_opening : (origin : Origin) (w : World) (es : List Event) (w' : World) → Opens origin w → Run w es w' → fault_count w' ≡ 0 →
-    names_once (first_watch origin) es → Alone origin es (refused_by w') (put_out w')
-alone_opening origin w es w' opens run none once = alone_of origin es (refused_by w') (put_out w') w' (record {
+pub alone_opening : (origin : Origin) (rows : List ℕ → ℕ → List Item) (w : State) (es : List Event) (w' : State) → Opens origin rows w → Run w es w' → fault_count w' ≡ 0 →
+    names_once (first_watch origin) es → Alone origin rows es (refused_by w') (put_out w')
+alone_opening origin rows w es w' opens run none once = alone_of origin rows es (refused_by w') (put_out w') w' (record {
   all = λ t.
       let Q = AreBuilt (refused_by w') (patterns_in (view t (first_watch origin) es)) in
-      let r = ran Q w es w' t (first_watch origin) (opened origin t) run none (given_opening origin w es w' t opens once) in
+      let r = ran Q w es w' t (first_watch origin) (opened origin (rows t) t) run none (given_opening origin rows w es w' t opens once) in
       rw (same_outputs (put_out w) r.0 opens.outputs (put_out w') r.1) at r.2;
 })

@@ -17,7 +17,7 @@ use Rattle.am_world.specs.Reaction.{Here, IsCause, Terms, in_replica}
 use Rattle.am_setup.specs.Setup.{is_instance, numbers}
 use Rattle.am_world.specs.Ticks.{Either, Stops, StopsAt, TakesTurn, Ticks, TicksAt}
 use Rattle.am_item.specs.declared.fault.Fault.{Fault}
-use Rattle.am_item.specs.declared.fault.Fault.TheVariants.{OutOfMemory, CountsExhausted, PatternNotBuilt}
+use Rattle.am_item.specs.declared.fault.Fault.TheVariants.{OutOfMemory, CountsExhausted, PatternNotBuilt, StoreRefused}
 use Rattle.am_http.specs.declared.request.Fed.{Fed}
 use Rattle.am_http.specs.declared.request.Fed.TheVariants as fed
 use Rattle.am_replica.specs.declared.here.Here.{Here as ReplicaHere}
@@ -55,6 +55,7 @@ same_cause : (fault : Fault) (here here' : List ℕ → ReplicaHere) (before bef
     StopsTicking here before refused fault → StopsTicking here' before' refused fault
 same_cause OutOfMemory here here' before before' refused heres sames cause = cause
 same_cause CountsExhausted here here' before before' refused heres sames (t, e) = (t, rw (heres t, sames t) e)
+same_cause StoreRefused here here' before before' refused heres sames (t, id, e) = (t, id, rw (heres t, sames t) e)
 same_cause PatternNotBuilt here here' before before' refused heres sames (t, flush, e) = (t, rw (heres t, sames t) flush, rw (heres t, sames t) e)
 
 stops_here : (i moment : ℕ) (limits : List (List ℕ × Limits)) (xs ys : List Instance) (x y : Instance) (before after : List Output) →

@@ -10,3 +10,6 @@ pub mod Simulation
 pub mod Taking
 pub mod Ticks
 pub mod View
+pub mod Shelves
+pub mod Opening
+pub mod Whole

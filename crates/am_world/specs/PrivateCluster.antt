@@ -4,8 +4,10 @@ use Rattle.std.specs.List.{flat_map, list_all}
 use Rattle.am_api.specs.Patterns.{patterns_of_request}
 use Rattle.am_api.specs.Replied.{Decision}
 use Rattle.am_http.specs.declared.request.Request.{Request}
+use Rattle.am_item.specs.declared.item.Item.{Item}
 use Rattle.am_limit.specs.declared.limits.Limits.{Limits}
 use Rattle.am_limit.specs.Limits.{default_limits}
+use Rattle.am_replica.specs.Accepting.{accepted}
 use Rattle.am_replica.specs.Delivery.{is_awaited, outcome}
 use Rattle.am_replica.specs.Local.{Local, Reaction, Said, blank}
 use Rattle.am_world.specs.declared.event.Output.{Output}
@@ -13,7 +15,7 @@ use Rattle.am_world.specs.declared.event.Refused.{Refused}
 use Rattle.am_world.specs.declared.event.Refused.TheVariants.{MomentRefused, NotAwaited}
 use Rattle.am_world.specs.Moments.{effective, is_refused_tick, is_too_late}
 use Rattle.am_world.specs.Reaction.{AcceptsBuilt, Here, Terms, asked, carried_out, decision_at, in_replica, output_of, terms_with, tick_if}
-use Rattle.am_world.specs.Roster.{Roster, opened_roster, put_at}
+use Rattle.am_world.specs.Roster.{Roster, opened_roster, put_at, serves}
 use Rattle.am_setup.specs.Setup.{Origin, numbers}
 
 -- one thing that happens to the tenant
@@ -43,15 +45,19 @@ pub record Course : Type 0 where
   pub outputs : List Output
   pub fits : Bool
 
--- the tenant's cluster as it is opened
-abbrev pub opened : Origin → List ℕ → PrivateCluster
-opened origin tenant = record {
+-- what an instance has of the tenant as it is opened: where it serves, what its store has
+abbrev pub opened_at : (ℕ → List Item) → ℕ → Local
+opened_at rows i = if serves i then accepted 0 (rows i) blank else blank
+
+-- the tenant's cluster as it is opened, where the stores of its instances have these rows of the tenant
+abbrev pub opened : Origin → (rows : ℕ → List Item) → List ℕ → PrivateCluster
+opened origin rows tenant = record {
   tenant = tenant;
   service_key = origin.service_key;
   clock = 0;
   limits = default_limits;
   roster = opened_roster origin;
-  at = λ i. blank;
+  at = opened_at rows;
 }
 
 -- ---- one instance of it

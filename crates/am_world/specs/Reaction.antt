@@ -9,7 +9,7 @@ use Rattle.am_http.specs.declared.request.Fed.{Fed}
 use Rattle.am_http.specs.declared.request.Fed.TheVariants as fed
 use Rattle.am_http.specs.declared.request.Request.{Request}
 use Rattle.am_item.specs.declared.fault.Fault.{Fault}
-use Rattle.am_item.specs.declared.fault.Fault.TheVariants.{OutOfMemory, CountsExhausted, PatternNotBuilt}
+use Rattle.am_item.specs.declared.fault.Fault.TheVariants.{OutOfMemory, CountsExhausted, PatternNotBuilt, StoreRefused}
 use Rattle.am_pattern.specs.Cache.{Cache}
 use Rattle.am_pattern.specs.Kept.{HasRegex}
 use Rattle.am_outlet.specs.declared.attempt.Sending.{Sending}
@@ -28,6 +28,7 @@ use Rattle.am_api.specs.Decision.{decided}
 use Rattle.am_api.specs.Deciding.{IsUnbuilt}
 use Rattle.am_api.specs.Patterns.{patterns_of_request}
 use Rattle.am_api.specs.Refusing.{Refuses, stored_asked}
+use Rattle.am_rows.specs.Rows.{has_stored}
 use Rattle.am_replica.specs.declared.here.Here.{Here as ReplicaHere}
 use Rattle.am_replica.specs.Accepting.{StopsAccepting, kept}
 use Rattle.am_replica.specs.Local.{Ledger, Local, Reaction, Said, Replies, Tells, stays}
@@ -176,7 +177,7 @@ asked_for (fed.Request request) moment locals =
 
 -- what stops an instance at a request: a count would pass the greatest; a pattern in use that the request asks gave no answer, or,
 -- where what was decided is to be planned, one of the routes that are in use once it is stored, though each that the request
--- brought was built; memory may run out anywhere
+-- brought was built; the store may refuse what is to be stored, and memory may run out anywhere
 abbrev pub StopsFor : Fault → Request → Here → Local → List (List ℕ) → Type 0
 StopsFor OutOfMemory request here local refused = Unit {0}
 StopsFor CountsExhausted request here local refused = counts_fit (decision_at here request local).items ≡ false
@@ -184,6 +185,7 @@ StopsFor PatternNotBuilt request here local refused =
     HasUnanswered refused (stored_asked request (patterns_in_use (configuration_in local.held) here.moment local.held))
     ⊎ (StopsAccepting refused (decision_at here request local).items local PatternNotBuilt
     × AcceptsBuilt request (decision_at here request local))
+StopsFor StoreRefused request here local refused = has_stored (decision_at here request local).items ≡ true
 
 -- .. and at bytes, by their verdict
 abbrev pub IsCause : Fault → Fed → (Request → Here) → (List ℕ → Local) → List (List ℕ) → Type 0

@@ -4,14 +4,14 @@ use Rattle.am_world.specs.declared.event.Event.{Event}
 use Rattle.am_world.specs.declared.event.Event.TheVariants.{Open, Bytes, Close, Limits, Tick, Outcome}
 use Rattle.am_world.specs.declared.event.Refused.{Refused}
 use Rattle.am_world.specs.declared.event.Refused.TheVariants.{MomentRefused, InstanceNotUp, NotAwaited, NotReading}
-use Rattle.am_world.specs.declared.world.World.{World}
+use Rattle.am_world.specs.declared.state.State.{State}
 use Rattle.am_world.specs.Moments.{is_too_late, is_refused_tick}
 use Rattle.am_world.specs.Places.{awaits_at, up_at, reader_of}
 use Rattle.am_world.specs.PrivateCluster.{PrivateCluster, Tried, refusal_of}
 use Rattle.am_world.specs.View.{Seen, Reading, AskedAs, FrontAnswered, Shut, Watch, look}
 
 -- the moment is looked at first
-abbrev pub refusal : World → Event → Option Refused
+abbrev pub refusal : State → Event → Option Refused
 refusal w (Open c i) = if up_at i w.instances then None else Some InstanceNotUp
 refusal w (Bytes c moment piece) =
     if is_too_late moment then Some MomentRefused

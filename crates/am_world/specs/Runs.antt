@@ -1,8 +1,9 @@
 -- whole runs: whatever the other tenants do, each tenant is as if alone
 use Rattle.std.specs.Prelude.{ℕ, ◌≡◌, ◌⊎◌, true, List, [], ◌∷◌, ◌++◌, length, take, drop}
+use Rattle.am_item.specs.declared.item.Item.{Item}
 use Rattle.am_world.specs.declared.event.Event.{Event}
 use Rattle.am_world.specs.declared.event.Output.{Output}
-use Rattle.am_world.specs.declared.world.World.{World}
+use Rattle.am_world.specs.declared.state.State.{State}
 use Rattle.am_world.specs.Outputs.{outputs_of, front_outputs, front_told_all, are_owned}
 use Rattle.am_world.specs.Places.{AreBuilt}
 use Rattle.am_world.specs.PrivateCluster.{PrivateCluster, opened, after_all, told_all, fits_all, patterns_in}
@@ -11,21 +12,21 @@ use Rattle.am_world.specs.Simulation.{put_out, fault_count, refused_by, Follows,
 use Rattle.am_world.specs.View.{Watch, first_watch, watch_all, view, names_once}
 
 -- one step for each event
-abbrev pub Run : World → List Event → World → Type 0
+abbrev pub Run : State → List Event → State → Type 0
 Run w [] w' = w' ≡ w
-Run w (e ∷ es) w' = (mid : World) × Step w e mid × Run mid es w'
+Run w (e ∷ es) w' = (mid : State) × Step w e mid × Run mid es w'
 
 -- one step for each event, from an opening on
-abbrev pub RunsFrom : Origin → List Event → World → Type 0
-RunsFrom origin es w' = (w : World) × Opens origin w × Run w es w'
+abbrev pub RunsFrom : Origin → (rows : List ℕ → ℕ → List Item) → List Event → State → Type 0
+RunsFrom origin rows es w' = (w : State) × Opens origin rows w × Run w es w'
 
 -- the outputs that a run added
-abbrev pub added : World → World → List Output
+abbrev pub added : State → State → List Output
 added w w' = drop (length (put_out w)) (put_out w')
 
 -- what a run needs, of a tenant: what is known is so, the cluster has what the world has, no name is used twice, and no
 -- pattern that the tenant brings was refused a build by its end
-pub record RunPremises (t : List ℕ) (v : Watch) (p : PrivateCluster) (w : World) (es : List Event) (w' : World) :
+pub record RunPremises (t : List ℕ) (v : Watch) (p : PrivateCluster) (w : State) (es : List Event) (w' : State) :
     Type 0 where
   pub follows : Follows v w
   pub stands : Stands t w p
@@ -34,7 +35,7 @@ pub record RunPremises (t : List ℕ) (v : Watch) (p : PrivateCluster) (w : Worl
 
 -- what the tenant has of a run: of the outputs that were added its own are the private cluster's, the others are other
 -- tenants' or the front's, no count of the tenant's passed the greatest, and a further run can go on from here
-pub record Isolated (t : List ℕ) (v : Watch) (p : PrivateCluster) (w : World) (es : List Event) (w' : World) :
+pub record Isolated (t : List ℕ) (v : Watch) (p : PrivateCluster) (w : State) (es : List Event) (w' : State) :
     Type 0 where
   pub told : outputs_of t (watch_all v es) (added w w') ≡ told_all p (view t v es)
   pub front : front_outputs (watch_all v es) (added w w') ≡ front_told_all v es
@@ -45,34 +46,34 @@ pub record Isolated (t : List ℕ) (v : Watch) (p : PrivateCluster) (w : World) 
   pub stands : Stands t w' (after_all p (view t v es))
 
 -- whatever the other tenants do, each tenant is as if alone
-abbrev pub Headline : World → List Event → World → Type 0
+abbrev pub Headline : State → List Event → State → Type 0
 Headline w es w' = fault_count w' ≡ 0 → (t : List ℕ) (v : Watch) (p : PrivateCluster) →
     RunPremises t v p w es w' → Isolated t v p w es w'
 
 -- a run that met a fault: what was put out before its first is each tenant's as if alone, and stays
-pub record Broken (w : World) (es : List Event) (w' : World) : Type 0 where
+pub record Broken (w : State) (es : List Event) (w' : State) : Type 0 where
   pub before : List Event
   pub event : Event
   pub after : List Event
   pub events : es ≡ before ++ event ∷ after
-  pub mid : World
+  pub mid : State
   pub unbroken : fault_count mid ≡ fault_count w
   pub run : Run w before mid
   pub alone : Headline w before mid
-  pub stopped : World
+  pub stopped : State
   pub fault : Faulted mid event stopped
   pub rest : Run stopped after w'
   pub outs : List Output
   pub appended : put_out w' ≡ put_out mid ++ outs
 
 -- a run met no fault, or is told up to its first
-abbrev pub Prefixes : World → List Event → World → Type 0
+abbrev pub Prefixes : State → List Event → State → Type 0
 Prefixes w es w' = (fault_count w' ≡ fault_count w) ⊎ Broken w es w'
 
 -- ---- where what a world put out is taken away event by event
 
 -- the same world, but what it had put out is forgotten
-pub record Forgets (w w' : World) : Type 0 where
+pub record Forgets (w w' : State) : Type 0 where
   pub outputs : put_out w' ≡ []
   pub clock : w'.clock ≡ w.clock
   pub instances : w'.instances ≡ w.instances
@@ -80,12 +81,12 @@ pub record Forgets (w w' : World) : Type 0 where
   pub service_key : w'.service_key ≡ w.service_key
   pub faults : fault_count w' ≡ fault_count w
 
--- of all that was put out since the opening, each tenant's outputs are those of its private cluster, which sees what the
--- events are to the tenant, unless a pattern of the tenant's is among those that were refused a build; the others are the
+-- of all that was put out since the opening, each tenant's outputs are those of its private cluster, which begins with the
+-- tenant's rows and sees what the events are to the tenant, unless a pattern of the tenant's is among those that were refused a build; the others are the
 -- front's, and what it says to bytes alone
-pub record Alone (origin : Origin) (es : List Event) (refused : ℕ → List (List ℕ)) (outs : List Output) : Type 0 where
+pub record Alone (origin : Origin) (rows : List ℕ → ℕ → List Item) (es : List Event) (refused : ℕ → List (List ℕ)) (outs : List Output) : Type 0 where
   pub tenants : (t : List ℕ) → AreBuilt refused (patterns_in (view t (first_watch origin) es)) →
       outputs_of t (watch_all (first_watch origin) es) outs ≡
-      told_all (opened origin t) (view t (first_watch origin) es)
+      told_all (opened origin (rows t) t) (view t (first_watch origin) es)
   pub front : front_outputs (watch_all (first_watch origin) es) outs ≡ front_told_all (first_watch origin) es
   pub owned : are_owned (watch_all (first_watch origin) es) outs ≡ true

@@ -4,7 +4,7 @@ use Rattle.am_world.specs.declared.event.Event.{Event}
 use Rattle.am_world.specs.declared.event.Event.TheVariants as event
 use Rattle.am_world.specs.declared.event.Output.{Output}
 use Rattle.am_world.specs.declared.event.Output.TheVariants.{Reply}
-use Rattle.am_world.specs.declared.world.World.{World}
+use Rattle.am_world.specs.declared.state.State.{State}
 use Rattle.am_api.specs.Replied.{Decision}
 use Rattle.am_http.specs.Replies.{reply}
 use Rattle.am_http.specs.Verdict.{verdict}
@@ -12,6 +12,7 @@ use Rattle.am_http.specs.declared.request.Fed.TheVariants as fed
 use Rattle.am_http.specs.declared.request.Request.{Request}
 use Rattle.am_item.specs.declared.fault.Fault.{Fault}
 use Rattle.am_item.specs.declared.fault.Fault.TheVariants.{OutOfMemory}
+use Rattle.am_item.specs.declared.item.Item.{Item}
 use Rattle.am_limit.specs.Books.{limits_of}
 use Rattle.am_limit.specs.declared.limits.Limits.{Limits}
 use Rattle.am_muting.specs.Failing.{AddsAmong}
@@ -30,14 +31,14 @@ use Rattle.am_setup.specs.Setup.{Origin, numbers}
 use Rattle.am_world.specs.View.{Seen, Reading, AskedAs, FrontAnswered, Shut, Watch, first_watch, look, watch, adds}
 
 -- what a world has put out so far, and how many faults came
-abbrev pub put_out : World → List Output
+abbrev pub put_out : State → List Output
 put_out w = w.outputs.items
 
-abbrev pub fault_count : World → ℕ
+abbrev pub fault_count : State → ℕ
 fault_count w = w.faults
 
 -- the patterns that the instances of a world were refused the build of
-abbrev pub refused_by : World → ℕ → List (List ℕ)
+abbrev pub refused_by : State → ℕ → List (List ℕ)
 refused_by w i = refused_at i w.instances
 
 -- ---- the world and what it stands for
@@ -51,12 +52,12 @@ bytes_read i (Some FrontAnswered) = None
 bytes_read i (Some Shut) = None
 
 -- what is known from the events is so in the world
-pub record Follows (v : Watch) (w : World) : Type 0 where
+pub record Follows (v : Watch) (w : State) : Type 0 where
   pub reading : (c i : ℕ) → bytes_at c i w.instances ≡ bytes_read i (look c v.table)
   pub roster : IsSameRoster (roster_of w.instances) v.roster
 
 -- of the tenant, the world has what the private cluster has
-pub record Stands (t : List ℕ) (w : World) (p : PrivateCluster) : Type 0 where
+pub record Stands (t : List ℕ) (w : State) (p : PrivateCluster) : Type 0 where
   pub tenant : p.tenant ≡ t
   pub clock : w.clock ≡ p.clock
   pub limits : limits_of t w.limits ≡ p.limits
@@ -64,10 +65,10 @@ pub record Stands (t : List ℕ) (w : World) (p : PrivateCluster) : Type 0 where
   pub roster : IsSameRoster (roster_of w.instances) p.roster
   pub local : (i : ℕ) → local_at t i w.instances ≡ p.at i
 
--- a world as it is opened
-pub record Opens (origin : Origin) (w : World) : Type 0 where
+-- a world as it is opened, where stores have these rows of each tenant, by the number of the instance
+pub record Opens (origin : Origin) (rows : List ℕ → ℕ → List Item) (w : State) : Type 0 where
   pub follows : Follows (first_watch origin) w
-  pub stands : (t : List ℕ) → Stands t w (opened origin t)
+  pub stands : (t : List ℕ) → Stands t w (opened origin (rows t) t)
   pub outputs : put_out w ≡ []
   pub faults : fault_count w ≡ 0
   pub refused : (i : ℕ) → refused_by w i ≡ []
@@ -75,7 +76,7 @@ pub record Opens (origin : Origin) (w : World) : Type 0 where
 -- ---- one event
 
 -- what an event needs, of a tenant: what is known is so, and the cluster has what the world has
-pub record Premises (t : List ℕ) (v : Watch) (p : PrivateCluster) (w : World) : Type 0 where
+pub record Premises (t : List ℕ) (v : Watch) (p : PrivateCluster) (w : State) : Type 0 where
   pub follows : Follows v w
   pub stands : Stands t w p
 
@@ -86,7 +87,7 @@ pub record Later (v u : Watch) : Type 0 where
 
 -- the tenant gets of an event what its private cluster makes of it: of these outputs its own are the cluster's, the world
 -- has of it what the cluster has, no count passed the greatest, and what was accepted has only patterns that were built
-pub record IsAsAlone (t : List ℕ) (v : Watch) (p : PrivateCluster) (e : Event) (outs : List Output) (w' : World) :
+pub record IsAsAlone (t : List ℕ) (v : Watch) (p : PrivateCluster) (e : Event) (outs : List Output) (w' : State) :
     Type 0 where
   pub stands : Stands t w' (after_all p (adds t v e))
   pub told : (u : Watch) → Later (watch v e) u → outputs_of t u outs ≡ told_all p (adds t v e)
@@ -95,8 +96,8 @@ pub record IsAsAlone (t : List ℕ) (v : Watch) (p : PrivateCluster) (e : Event)
 
 -- A request of the tenant was refused, since a pattern of its own was refused its build: the tenant is told this alone, and has
 -- what its cluster has that answers so.
-pub record IsRefusedAlone (t : List ℕ) (v : Watch) (p : PrivateCluster) (w : World) (e : Event) (outs : List Output)
-    (w' : World) : Type 0 where
+pub record IsRefusedAlone (t : List ℕ) (v : Watch) (p : PrivateCluster) (w : State) (e : Event) (outs : List Output)
+    (w' : State) : Type 0 where
   pub connection : ℕ
   pub instance : ℕ
   pub moment : ℕ
@@ -111,7 +112,7 @@ pub record IsRefusedAlone (t : List ℕ) (v : Watch) (p : PrivateCluster) (w : W
 
 -- A piece made a request whole, of which a pattern was refused its build: the request is refused for it, and that alone is put
 -- out. The instance of this number was refused no texts but those that the request asks.
-pub record RefusesBuild (w : World) (c moment : ℕ) (piece : List ℕ) (i : ℕ) (outs : List Output) (w' : World) : Type 0 where
+pub record RefusesBuild (w : State) (c moment : ℕ) (piece : List ℕ) (i : ℕ) (outs : List Output) (w' : State) : Type 0 where
   pub before : List ℕ
   pub read : bytes_at c i w.instances ≡ Some before
   pub request : Request
@@ -123,7 +124,7 @@ pub record RefusesBuild (w : World) (c moment : ℕ) (piece : List ℕ) (i : ℕ
       (refused_by w i) (refused_by w' i)
 
 -- an event refuses no build, but where its piece is such a request
-abbrev pub KeepsBuilds : World → Event → ℕ → List Output → World → Type 0
+abbrev pub KeepsBuilds : State → Event → ℕ → List Output → State → Type 0
 KeepsBuilds w (event.Open c i) j outs w' = refused_by w' j ≡ refused_by w j
 KeepsBuilds w (event.Bytes c moment piece) j outs w' = (refused_by w' j ≡ refused_by w j) ⊎ RefusesBuild w c moment piece j outs w'
 KeepsBuilds w (event.Close c) j outs w' = refused_by w' j ≡ refused_by w j
@@ -143,7 +144,7 @@ limits_after (event.Outcome attempt tries moment status) t limits = limits
 -- an event that was handled, or refused: for every tenant at once. What is put out is each tenant's, as its cluster says,
 -- or the front's, as the bytes of the connections say, and nobody else's. No build is refused but where the event's request is
 -- refused for it
-pub record Kept (w : World) (e : Event) (w' : World) : Type 0 where
+pub record Kept (w : State) (e : Event) (w' : State) : Type 0 where
   pub follows : (v : Watch) → Follows v w → Follows (watch v e) w'
   pub outs : List Output
   pub appended : put_out w' ≡ put_out w ++ outs
@@ -159,7 +160,7 @@ pub record Kept (w : World) (e : Event) (w' : World) : Type 0 where
   pub faults : fault_count w' ≡ fault_count w
 
 -- the instances of which an event asks work
-abbrev pub works : World → Event → ℕ → Bool
+abbrev pub works : State → Event → ℕ → Bool
 works w (event.Open c i) j = j == i
 works w (event.Bytes c moment piece) j = is_some (bytes_at c j w.instances)
 works w (event.Close c) j = is_some (bytes_at c j w.instances)
@@ -178,7 +179,7 @@ asks_none (event.Outcome attempt tries moment status) = false
 
 -- why an event stops an instance of which it asks work: by what the instance had, and by the patterns that it had been refused
 -- the build of then; memory may run out anywhere
-abbrev pub StopsBy : World → Event → ℕ → Fault → List (List ℕ) → Type 0
+abbrev pub StopsBy : State → Event → ℕ → Fault → List (List ℕ) → Type 0
 StopsBy w (event.Open c i) j fault refused = fault ≡ OutOfMemory
 StopsBy w (event.Bytes c moment piece) j fault refused =
     (before : List ℕ) → bytes_at c j w.instances ≡ Some before → IsCause fault (verdict (before ++ piece))
@@ -193,7 +194,7 @@ StopsBy w (event.Outcome attempt tries moment status) j fault refused = StopsRea
     attempt.number tries status (local_at attempt.tenant j w.instances)) fault
 
 -- the cause for which an instance is down after an event
-pub record StoppedBy (w : World) (e : Event) (i : ℕ) (w' : World) : Type 0 where
+pub record StoppedBy (w : State) (e : Event) (i : ℕ) (w' : State) : Type 0 where
   pub fault : Fault
   pub told : cause_at i w'.instances ≡ Some fault
   pub cause : StopsBy w e i fault (refused_by w' i)
@@ -204,7 +205,7 @@ faults_of stopped = max 1 (length (filter stopped numbers))
 
 -- an event that met a fault: it wasn't refused, and instances of which it asked work stopped, one at least where it asks work of
 -- any. They are down, each for its cause, and have put nothing out; every instance that had no work is as it was
-pub record Faulted (w : World) (e : Event) (w' : World) : Type 0 where
+pub record Faulted (w : State) (e : Event) (w' : State) : Type 0 where
   pub taken : refusal w e ≡ None
   pub stopped : ℕ → Bool
   pub worked : (i : ℕ) → stopped i ≡ true → works w e i ≡ true
@@ -224,5 +225,5 @@ pub record Faulted (w : World) (e : Event) (w' : World) : Type 0 where
   pub clock : w'.clock ≡ clock_after e w.clock
 
 -- an event either met no fault, or is one
-abbrev pub Step : World → Event → World → Type 0
+abbrev pub Step : State → Event → State → Type 0
 Step w e w' = Kept w e w' ⊎ Faulted w e w'

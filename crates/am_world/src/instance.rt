@@ -18,7 +18,8 @@ use am_item::Fault;
 use am_limit::{LimitBook, Limits};
 use am_pattern::PatternCache;
 use am_replica::{Dispatch, Here, Replica};
-use am_text::{Moment, Octets};
+use am_rows::{Rows, StoreRefusal};
+use am_text::{Failure, Moment, Octets};
 use am_words::Words;
 use std::alloc::{AllocError, Global};
 
@@ -39,28 +40,30 @@ impl Instance {
     ghost use Rattle.am_alert.specs.Made.{counts_fit, greatest_count};
     ghost use Rattle.am_api.specs.Deciding.{decision_of};
     ghost use Rattle.am_muting.specs.Failing.{AddsAmong};
+    ghost use Rattle.am_replica.specs.Accepting.{accepted};
     ghost use Rattle.am_replica.specs.Delivery.{is_awaited, outcome};
+    ghost use Rattle.am_rows.specs.Rows.{rows_of, stored_in};
     ghost use Rattle.am_replica.specs.Held.{StopsFor as StopsReacting};
     ghost use Rattle.am_replica.specs.Local.{Local, Reaction, blank};
     ghost use Rattle.am_replica.specs.Ticks.{IsDone, StopsTicking, TicksAll, here_for, said_of};
+    ghost use Rattle.am_world.specs.Shelves.{IsBacked, shelf_of};
     ghost use Rattle.am_world.specs.Places.{HasMore, here_of, local_in};
     ghost use Rattle.am_world.specs.Reaction.{AcceptsBuilt, IsCause, MayDecide, StopsFor, Terms, asked_for, decision_at, in_replica, terms_of, terms_with};
     ghost use Rattle.am_world.specs.Taking.{Brings};
     ghost use Rattle.am_world.specs.Ticks.{Either, Stops, Ticks};
 
-    /// The instance of a number, in this incarnation, up or down. It has nothing, and keeps at most `capacity` patterns
-    /// built, by hashes of which `hash_key` is the secret.
+    /// The instance of a number, in this incarnation. It is down, has nothing, and keeps at most `capacity` patterns built, by
+    /// hashes of which `hash_key` is the secret.
     pub fn new(
         alloc: Global,
         number: u8,
-        up: bool,
         incarnation: u32,
         capacity: usize,
         hash_key: [u8; 16],
     ) -> Result<Instance, AllocError>
         requires { 0 < capacity }
         ensures number { IfOk result (λ x. x.number ≡ number) }
-        ensures up { IfOk result (λ x. x.up ≡ up) }
+        ensures down { IfOk result (λ x. x.up ≡ false) }
         ensures incarnation { IfOk result (λ x. x.incarnation ≡ incarnation) }
         ensures unread { IfOk result (λ x. (c : ℕ) → bytes_of c x.front ≡ None) }
         ensures local { IfOk result (λ x. (t : List ℕ) → local_in t x ≡ blank) }
@@ -68,13 +71,41 @@ impl Instance {
     {
         Ok(Instance {
             number,
-            up,
+            up: false,
             cause: None,
             incarnation,
             front: Front::new(alloc)?,
             replica: Replica::new(alloc)?,
             cache: PatternCache::new(alloc, capacity, hash_key)?,
         })
+    }
+
+    /// Starts the instance at a moment, where it has nothing: it opens its store, accepts what that has of all tenants, and is up.
+    ///
+    /// # Errors
+    /// `F2` or `F3` of the store, or out of memory: it stays down, has nothing, and no row is lost.
+    #[tactic(auto, unfolding(crate::specs::Places::local_in))]
+    pub fn start<R: Rows>(
+        &mut self,
+        alloc: Global,
+        moment: Moment,
+        store: &mut R,
+    ) -> Result<(), Failure<StoreRefusal>>
+        requires { (t : List ℕ) → local_in t self.old ≡ blank }
+        ensures up { OnOk result (self.new.up ≡ true) }
+        ensures held { R.is_clean store.new ≡ true → OnOk result ((t : List ℕ) →
+            local_in t self.new ≡ accepted moment (rows_of t (R.pairs store.old)) blank) }
+        ensures front { self.new.front ≡ self.old.front }
+        ensures incarnation { self.new.incarnation ≡ self.old.incarnation }
+        ensures number { self.new.number ≡ self.old.number }
+        ensures refused { OnOk result (self.new.cache.refused ≡ self.old.cache.refused) }
+        ensures clean { R.is_clean store.new ≡ true → R.is_clean store.old ≡ true }
+        ensures backed { OnOk result (IsBacked self.new (shelf_of (R.pairs store.new) (R.is_clean store.new) (R.is_open store.new))) }
+    {
+        self.replica.hold(alloc, moment, &mut self.cache, store)?;
+        self.cause = None;
+        self.up = true;
+        Ok(())
     }
 
     /// Stops the instance for a fault, as a crash does: it is down, and all that it had is lost but its patterns. It takes
@@ -131,23 +162,27 @@ impl Instance {
     /// Ticks at a moment, where it is up and tenants have these limits: what is retired goes, what is due is done once, and the
     /// tries that go out are put out. `false` where a fault stopped it; it has put nothing out then. A tick costs what is due
     /// and what goes.
-    pub fn tick(
+    pub fn tick<R: Rows>(
         &mut self,
         alloc: Global,
         moment: Moment,
         limits: &LimitBook,
         outputs: &mut Vec<Output>,
+        store: &mut R,
     ) -> bool
+        requires { IsBacked self.old (shelf_of (R.pairs store.old) (R.is_clean store.old) (R.is_open store.old)) }
         ensures ends { Either result (Ticks moment limits.now self.old self.new outputs.old.items outputs.new.items)
             (Stops moment limits.now self.old self.new outputs.old.items outputs.new.items) }
         ensures incarnation { self.new.incarnation ≡ self.old.incarnation }
         ensures number { self.new.number ≡ self.old.number }
+        ensures clean { R.is_clean store.new ≡ true → R.is_clean store.old ≡ true }
+        ensures backed { IsBacked self.new (shelf_of (R.pairs store.new) (R.is_clean store.new) (R.is_open store.new)) }
         ensures refused { HasMore self.old.cache.refused self.new.cache.refused }
     {
         if !self.up {
             return true;
         }
-        match self.tell(alloc, moment, limits, outputs) {
+        match self.tell(alloc, moment, limits, outputs, store) {
             Ok(()) => true,
             Err(fault) => {
                 self.stop(alloc, fault);
@@ -157,13 +192,16 @@ impl Instance {
     }
 
     /// Does what is due, and puts out the tries that go out. An error puts nothing out.
-    fn tell(
+    fn tell<R: Rows>(
         &mut self,
         alloc: Global,
         moment: Moment,
         limits: &LimitBook,
         outputs: &mut Vec<Output>,
+        store: &mut R,
     ) -> Result<(), Fault>
+        requires up { self.old.up ≡ true }
+        requires backed { IsBacked self.old (shelf_of (R.pairs store.old) (R.is_clean store.old) (R.is_open store.old)) }
         ensures told { OnOk result ((all : List Dispatch)
             × (outputs.new.items ≡ outputs.old.items ++ map (notice_from self.old.number self.old.incarnation) all)
             × TicksAll (here_for self.old.number self.old.incarnation moment limits.now)
@@ -176,13 +214,15 @@ impl Instance {
         ensures incarnation { self.new.incarnation ≡ self.old.incarnation }
         ensures number { self.new.number ≡ self.old.number }
         ensures stays { OnOk result (self.new.cache.refused ≡ self.old.cache.refused) }
+        ensures clean { R.is_clean store.new ≡ true → R.is_clean store.old ≡ true }
+        ensures backed { OnOk result (IsBacked self.new (shelf_of (R.pairs store.new) (R.is_clean store.new) (R.is_open store.new))) }
         ensures refused { HasMore self.old.cache.refused self.new.cache.refused }
     {
         let (number, incarnation) = (self.number, self.incarnation);
         let cache = &mut self.cache;
         let all = self
             .replica
-            .tick(alloc, number, incarnation, moment, limits, cache)?;
+            .tick(alloc, number, incarnation, moment, limits, cache, store)?;
         let mut notices = notices(alloc, number, incarnation, all)?;
         outputs.append(&mut notices)?;
         Ok(())
@@ -222,6 +262,7 @@ impl Instance {
         ensures cause { IfErr result (λ fault. (terms : Terms) → terms.limits ≡ limits →
             StopsReacting (outcome (in_replica (here_of self.old moment terms)) attempt.now.number tries status
             (local_in attempt.now.tenant self.old)) fault) }
+        ensures stored { OnOk result ((t : List ℕ) → stored_in (local_in t self.new).held ≡ stored_in (local_in t self.old).held) }
         ensures front { self.new.front ≡ self.old.front }
         ensures up { self.new.up ≡ self.old.up }
         ensures incarnation { self.new.incarnation ≡ self.old.incarnation }
@@ -243,7 +284,7 @@ impl Instance {
     /// Takes a piece of a connection that the instance reads, at a moment and where tenants have these limits and words of
     /// this key, and puts out what it brings: nothing, the front's answer, or what the tenant is told. An error puts nothing
     /// out.
-    pub fn feed(
+    pub fn feed<R: Rows>(
         &mut self,
         alloc: Global,
         connection: ConnectionId,
@@ -252,8 +293,11 @@ impl Instance {
         service_key: &[u8; 32],
         limits: &LimitBook,
         outputs: &mut Vec<Output>,
+        store: &mut R,
     ) -> Result<(), Fault>
-        requires { IsSome (bytes_of connection self.old.front) }
+        requires up { self.old.up ≡ true }
+        requires backed { IsBacked self.old (shelf_of (R.pairs store.old) (R.is_clean store.old) (R.is_open store.old)) }
+        requires reads { IsSome (bytes_of connection self.old.front) }
         ensures brings { OnOk result ((before : List ℕ) → bytes_of connection self.old.front ≡ Some before →
             Brings (verdict (before ++ piece.now)) connection moment (λ t. terms_of service_key.now limits.now t)
             self.old self.new outputs.old.items outputs.new.items) }
@@ -269,6 +313,8 @@ impl Instance {
         ensures up { self.new.up ≡ self.old.up }
         ensures incarnation { self.new.incarnation ≡ self.old.incarnation }
         ensures number { self.new.number ≡ self.old.number }
+        ensures clean { R.is_clean store.new ≡ true → R.is_clean store.old ≡ true }
+        ensures backed { OnOk result (IsBacked self.new (shelf_of (R.pairs store.new) (R.is_clean store.new) (R.is_open store.new))) }
         ensures refused { HasMore self.old.cache.refused self.new.cache.refused }
     {
         match self.front.feed(alloc, connection, piece)? {
@@ -293,13 +339,14 @@ impl Instance {
                     limits,
                     moment,
                     outputs,
+                    store,
                 )
             }
         }
     }
 
     /// Decides a whole request at this moment, keeps what it brings, and puts the reply out.
-    fn answer(
+    fn answer<R: Rows>(
         &mut self,
         alloc: Global,
         connection: ConnectionId,
@@ -308,7 +355,10 @@ impl Instance {
         limits: Limits,
         moment: Moment,
         outputs: &mut Vec<Output>,
+        store: &mut R,
     ) -> Result<(), Fault>
+        requires up { self.old.up ≡ true }
+        requires backed { IsBacked self.old (shelf_of (R.pairs store.old) (R.is_clean store.old) (R.is_open store.old)) }
         ensures brings { OnOk result ((terms : List ℕ → Terms) →
             terms request.now.tenant ≡ terms_with service_key.now limits request.now.tenant →
             Brings (Fed.Request request.now) connection moment terms self.old self.new
@@ -321,13 +371,15 @@ impl Instance {
         ensures up { self.new.up ≡ self.old.up }
         ensures incarnation { self.new.incarnation ≡ self.old.incarnation }
         ensures number { self.new.number ≡ self.old.number }
+        ensures clean { R.is_clean store.new ≡ true → R.is_clean store.old ≡ true }
+        ensures backed { OnOk result (IsBacked self.new (shelf_of (R.pairs store.new) (R.is_clean store.new) (R.is_open store.new))) }
         ensures refused { HasMore self.old.cache.refused self.new.cache.refused }
     {
         let decided = self.decide(alloc, request, service_key, limits, moment)?;
         let bytes = reply_bytes(alloc, decided.status, decided.body.as_slice())?;
         let (items, drawn, cache) = (decided.items, decided.drawn, &mut self.cache);
         self.replica
-            .accept(alloc, &request.tenant, moment, items, drawn, cache)?;
+            .accept(alloc, &request.tenant, moment, items, drawn, cache, store)?;
         outputs.push(Output::Reply { connection, bytes })?;
         Ok(())
     }

@@ -1,12 +1,13 @@
 //! The eight instances, by number.
 
-ghost use Rattle.std.specs.Prelude.{◌≡◌, ◌==◌, ◌+◌, ◌<◌, true, ℕ, List, [], ◌++◌, Option, None, Some, IfOk, IfErr, OnOk, OnErr, IfSome, IfNone, IsSome, IsTrue, find, is_some, option_copied, if◌then◌else◌};
+ghost use Rattle.std.specs.Prelude.{◌≡◌, ◌==◌, ◌+◌, ◌<◌, true, ℕ, List, [], ◌++◌, Option, None, Some, IfOk, IfErr, OnOk, OnErr, IfSome, IfNone, IsSome, IsTrue, find, map, is_some, option_copied, if◌then◌else◌};
 ghost use Rattle.am_http.specs.Verdict.{verdict};
 ghost use Rattle.am_replica.specs.Delivery.{outcome};
 ghost use Rattle.am_replica.specs.Held.{StopsFor as StopsReacting};
 ghost use Rattle.am_tenant.specs.Names.{same};
-ghost use Rattle.am_world.specs.Roster.{IsSameRoster, opened_roster};
-ghost use Rattle.am_setup.specs.Setup.{Origin, is_instance, numbers};
+ghost use Rattle.am_world.specs.Roster.{IsSameRoster};
+ghost use Rattle.am_setup.specs.Setup.{is_instance, numbers};
+ghost use Rattle.am_rows.specs.Rows.{stored_in};
 ghost use Rattle.am_world.specs.Taking.{Takes};
 ghost use Rattle.am_world.specs.Ticks.{TakeTurns, TakesTurn};
 
@@ -15,15 +16,13 @@ use crate::instance::Instance;
 use am_http::ConnectionId;
 use am_item::Fault;
 use am_limit::{LimitBook, Limits};
-use am_text::Moment;
+use am_rows::{Rows, StoreRefusal};
+use am_text::{Failure, Moment};
 use std::alloc::{AllocError, Global};
 use std::marker::Model;
 
 /// The numbers of all instances.
 const NUMBERS: [u8; 8] = [1, 2, 3, 4, 5, 6, 7, 8];
-
-/// The instance that serves from the opening on.
-const SERVING: u8 = 1;
 
 /// All instances, in order of number.
 #[derive(Drop)]
@@ -44,31 +43,73 @@ impl Model for Instances {
 }
 
 impl Instances {
+    ghost use Rattle.am_world.specs.Shelves.{AreBacked, AreQuiet, IsBackedAt, IsStartedAt, NeverCleaner, shelf_at, shelf_of, shelves_of};
     ghost use Rattle.am_world.specs.Places.{IsDownAt, IsReadOnce, KeepRefused, SameElsewhere, awaits_at, bytes_at, cause_at, here_in, incarnation_at, instance_at, local_at, reader_of, reads, refused_at, roster_of, up_at};
     ghost use Rattle.am_replica.specs.Local.{blank};
     ghost use Rattle.am_world.specs.Reaction.{IsCause, Terms, in_replica, terms_of};
 
-    /// All instances in their first incarnation. None reads or has anything, and those that serve are up. Each keeps at
-    /// most `capacity` patterns built, by hashes of which `hash_key` is the secret.
-    pub fn open(
+    /// All instances in their first incarnation. All are down and have nothing. Each keeps at most `capacity` patterns built, by
+    /// hashes of which `hash_key` is the secret.
+    pub fn new(
         alloc: Global,
         first: u32,
         capacity: usize,
         hash_key: [u8; 16],
     ) -> Result<Instances, AllocError>
         requires { 0 < capacity }
-        ensures roster { IfOk result (λ instances. (origin : Origin) → origin.first ≡ first →
-            IsSameRoster (roster_of instances) (opened_roster origin)) }
-        ensures unread { IfOk result (λ instances. (c i : ℕ) → bytes_at c i instances ≡ None) }
-        ensures local { IfOk result (λ instances. (t : List ℕ) (i : ℕ) → local_at t i instances ≡ blank) }
+        ensures down { IfOk result (λ instances. (i : ℕ) → IsDownAt i instances) }
+        ensures incarnation { IfOk result (λ instances. (i : ℕ) → incarnation_at i instances ≡ (if is_instance i then first else 0)) }
         ensures refused { IfOk result (λ instances. (i : ℕ) → refused_at i instances ≡ []) }
     {
         let mut list = Vec::with_capacity(alloc, NUMBERS.len())?;
         for number in NUMBERS {
-            let serves = number == SERVING;
-            list.push(Instance::new(alloc, number, serves, first, capacity, hash_key)?)?;
+            list.push(Instance::new(alloc, number, first, capacity, hash_key)?)?;
         }
         Ok(Instances { list })
+    }
+
+    /// Starts an instance that is down at a moment: it opens its store and accepts what that has of all tenants.
+    ///
+    /// # Errors
+    /// `F2` or `F3` of the store, or out of memory.
+    pub fn start<R: Rows>(
+        &mut self,
+        alloc: Global,
+        number: u8,
+        moment: Moment,
+        stores: &mut [R],
+    ) -> Result<(), Failure<StoreRefusal>>
+        requires exists { IsTrue (is_instance number) }
+        requires down { IsDownAt number self.old }
+        requires backed { AreBacked self.old (shelves_of R.pairs R.is_clean R.is_open stores.old) }
+        ensures starts { OnOk result (IsStartedAt number moment self.old self.new
+            (shelf_at number (shelves_of R.pairs R.is_clean R.is_open stores.old))
+            (shelf_at number (shelves_of R.pairs R.is_clean R.is_open stores.new))) }
+        ensures others { SameElsewhere number self.old self.new }
+        ensures clean { NeverCleaner (shelves_of R.pairs R.is_clean R.is_open stores.old) (shelves_of R.pairs R.is_clean R.is_open stores.new) }
+        ensures backed { OnOk result (AreBacked self.new (shelves_of R.pairs R.is_clean R.is_open stores.new)) }
+    {
+        self.start_at(alloc, number, moment, &mut stores[place(number)])
+    }
+
+    // The same, with its store.
+    fn start_at<R: Rows>(
+        &mut self,
+        alloc: Global,
+        number: u8,
+        moment: Moment,
+        store: &mut R,
+    ) -> Result<(), Failure<StoreRefusal>>
+        requires exists { IsTrue (is_instance number) }
+        requires down { IsDownAt number self.old }
+        ensures starts { OnOk result (IsStartedAt number moment self.old self.new
+            (shelf_of (R.pairs store.old) (R.is_clean store.old) (R.is_open store.old))
+            (shelf_of (R.pairs store.new) (R.is_clean store.new) (R.is_open store.new))) }
+        ensures others { SameElsewhere number self.old self.new }
+        ensures clean { R.is_clean store.new ≡ true → R.is_clean store.old ≡ true }
+        ensures backed { OnOk result (IsBackedAt number self.new (shelf_of (R.pairs store.new) (R.is_clean store.new) (R.is_open store.new))) }
+    {
+        self.list[place(number)].start(alloc, moment, store)
     }
 
     /// Whether an instance is up.
@@ -149,6 +190,7 @@ impl Instances {
         ensures others { OnErr result (SameElsewhere number self.old self.new) }
         ensures roster { IsSameRoster (roster_of self.new) (roster_of self.old) }
         ensures refused { (i : ℕ) → refused_at i self.new ≡ refused_at i self.old }
+        ensures quiet { AreQuiet self.old → OnOk result (AreQuiet self.new) }
     {
         let reader = self.reader_of(connection);
         self.open_at(alloc, number, connection)?;
@@ -191,21 +233,26 @@ impl Instances {
 
     /// Lets each instance that is up tick at the moment, in order of number, where tenants have these limits, and puts out the
     /// tries that go out. Gives how many a fault stopped; these have put nothing out.
-    pub fn tick(
+    pub fn tick<R: Rows>(
         &mut self,
         alloc: Global,
         moment: Moment,
         limits: &LimitBook,
         outputs: &mut Vec<Output>,
+        stores: &mut [R],
     ) -> u64
+        requires { AreBacked self.old (shelves_of R.pairs R.is_clean R.is_open stores.old) }
         ensures turns { TakeTurns moment limits.now numbers self.old self.new outputs.old.items outputs.new.items result }
+        ensures backed { AreBacked self.new (shelves_of R.pairs R.is_clean R.is_open stores.new) }
+        ensures clean { NeverCleaner (shelves_of R.pairs R.is_clean R.is_open stores.old) (shelves_of R.pairs R.is_clean R.is_open stores.new) }
         // No other numbers are those of instances that are up.
         ensures exist { (i : ℕ) → IsTrue (up_at i self.old) → IsTrue (is_instance i) }
     {
         let _ = &self.list;
         let mut faults = 0u64;
         for number in NUMBERS {
-            if !self.tick_at(alloc, number, moment, limits, outputs) {
+            let store = &mut stores[place(number)];
+            if !self.tick_at(alloc, number, moment, limits, outputs, store) {
                 faults += 1;
             }
         }
@@ -213,18 +260,22 @@ impl Instances {
     }
 
     // The turn of one of them: `false` where a fault stopped it.
-    fn tick_at(
+    fn tick_at<R: Rows>(
         &mut self,
         alloc: Global,
         number: u8,
         moment: Moment,
         limits: &LimitBook,
         outputs: &mut Vec<Output>,
+        store: &mut R,
     ) -> bool
-        requires { IsTrue (is_instance number) }
-        ensures { TakesTurn number moment limits.now result self.old self.new outputs.old.items outputs.new.items }
+        requires exists { IsTrue (is_instance number) }
+        requires backed { IsBackedAt number self.old (shelf_of (R.pairs store.old) (R.is_clean store.old) (R.is_open store.old)) }
+        ensures turn { TakesTurn number moment limits.now result self.old self.new outputs.old.items outputs.new.items }
+        ensures clean { R.is_clean store.new ≡ true → R.is_clean store.old ≡ true }
+        ensures backed { IsBackedAt number self.new (shelf_of (R.pairs store.new) (R.is_clean store.new) (R.is_open store.new)) }
     {
-        self.list[place(number)].tick(alloc, moment, limits, outputs)
+        self.list[place(number)].tick(alloc, moment, limits, outputs, store)
     }
 
     /// Whether the outcome of this try of an attempt is awaited.
@@ -262,6 +313,7 @@ impl Instances {
         ensures cause { IfErr result (λ fault. (terms : Terms) → terms.limits ≡ limits → StopsReacting (outcome
             (in_replica (here_in moment terms attempt.now.instance self.old)) attempt.now.number tries status
             (local_at attempt.now.tenant attempt.now.instance self.old)) fault) }
+        ensures stored { OnOk result ((t : List ℕ) (i : ℕ) → stored_in (local_at t i self.new).held ≡ stored_in (local_at t i self.old).held) }
         ensures others { SameElsewhere attempt.now.instance self.old self.new }
         ensures reading { (c i : ℕ) → bytes_at c i self.new ≡ bytes_at c i self.old }
         ensures roster { IsSameRoster (roster_of self.new) (roster_of self.old) }
@@ -273,7 +325,7 @@ impl Instances {
     }
 
     /// Gives a piece to the instance that reads its connection, where tenants have these limits and words of this key.
-    pub fn feed(
+    pub fn feed<R: Rows>(
         &mut self,
         alloc: Global,
         number: u8,
@@ -283,8 +335,11 @@ impl Instances {
         service_key: &[u8; 32],
         limits: &LimitBook,
         outputs: &mut Vec<Output>,
+        store: &mut R,
     ) -> Result<(), Fault>
-        requires { IsSome (bytes_at connection number self.old) }
+        requires up { IsTrue (up_at number self.old) }
+        requires backed { IsBackedAt number self.old (shelf_of (R.pairs store.old) (R.is_clean store.old) (R.is_open store.old)) }
+        requires reads { IsSome (bytes_at connection number self.old) }
         ensures takes { OnOk result ((before : List ℕ) → bytes_at connection number self.old ≡ Some before →
             Takes number connection (before ++ piece.now) moment (λ t. terms_of service_key.now limits.now t)
             self.old self.new outputs.old.items outputs.new.items) }
@@ -295,6 +350,8 @@ impl Instances {
             (λ t. local_at t number self.old) (refused_at number self.new)) }
         ensures others { SameElsewhere number self.old self.new }
         ensures incarnation { incarnation_at number self.new ≡ incarnation_at number self.old }
+        ensures clean { R.is_clean store.new ≡ true → R.is_clean store.old ≡ true }
+        ensures backed { OnOk result (IsBackedAt number self.new (shelf_of (R.pairs store.new) (R.is_clean store.new) (R.is_open store.new))) }
         ensures refused { KeepRefused self.old self.new }
     {
         self.list[place(number)].feed(
@@ -305,6 +362,7 @@ impl Instances {
             service_key,
             limits,
             outputs,
+            store,
         )
     }
 
@@ -322,7 +380,7 @@ impl Instances {
 }
 
 /// Where the instance of a number stands in the list.
-fn place(number: u8) -> usize
+pub(crate) fn place(number: u8) -> usize
     requires { IsTrue (is_instance number) }
     ensures { result + 1 ≡ number }
 {

@@ -4,9 +4,12 @@
 pub mod event;
 mod instance;
 mod instances;
+mod opening;
+mod state;
 pub mod theorem;
 pub mod world;
 
 pub use am_item::Fault;
 pub use event::{AttemptName, Event, LAST_MOMENT, Output, Refused};
+pub use opening::OpenRefusal;
 pub use world::World;

@@ -1,318 +1,140 @@
 //! The world: one way in, one way out.
 
-ghost use Rattle.std.specs.Prelude.{◌≡◌, ◌+◌, ◌-◌, ◌^◌, ◌≤◌, ℕ, Some, min, IfOk, OnErr, IsOk, IsTrue, MatchOption};
+ghost use Rattle.std.specs.Prelude.{◌≡◌, IfErr, IfOk, IsOk, MatchOption, OnErr, length};
 
-use crate::event::{AttemptName, Event, LAST_MOMENT, Output, Refused};
-use crate::instances::Instances;
-use am_http::ConnectionId;
+use crate::event::{Event, Output, Refused};
+use crate::opening::OpenRefusal;
+use crate::state::State;
 use am_item::Fault;
-use am_limit::{LimitBook, Limits};
+use am_rows::Rows;
 use am_setup::Setup;
-use am_tenant::TenantName;
-use am_text::{Moment, Octets};
-use std::alloc::{AllocError, Global};
-use std::mem;
+use std::alloc::Global;
+use std::marker::Model;
 
-/// All instances, the clock, and what was put out so far.
-pub struct World {
-    pub(crate) clock: Moment,
-    pub(crate) instances: Instances,
-    pub(crate) limits: LimitBook,
-    pub(crate) service_key: [u8; 32],
-    pub(crate) outputs: Vec<Output>,
-    pub(crate) faults: u64,
+/// The eight instances with their stores, the clock, and what was put out so far.
+pub struct World<R: Rows> {
+    state: State,
+    // In order of the instances' numbers.
+    stores: Vec<R>,
+}
+
+impl<R: Rows> Model for World<R> {
+    ghost use Rattle.am_world.specs.Shelves.{AreBacked, shelves_of};
+    ghost use Rattle.am_world.specs.Whole.{Whole};
+
+    ghost Value = { Whole };
+
+    ghost view = { λ w. record { state = w.state; shelves = shelves_of R.pairs R.is_clean R.is_open w.stores.items } };
+
+    ghost invariant = { λ w. AreBacked w.state.instances (shelves_of R.pairs R.is_clean R.is_open w.stores.items) };
 }
 
 // Written out, so that a crate which owns a world has no need to prove anew how each of its parts is dropped.
-impl Drop for World {
+impl<R: Rows + Drop> Drop for World<R> {
     fn drop(self) {
-        let World {
-            clock: _clock,
-            instances,
-            limits,
-            service_key: _service_key,
-            outputs,
-            faults: _faults,
-        } = self;
-        drop(instances);
-        drop(limits);
-        drop(outputs);
+        let World { state, stores } = self;
+        drop(state);
+        drop(stores);
     }
 }
 
-impl World {
-    ghost use Rattle.am_world.specs.Moments.{last_moment, effective};
-    ghost use Rattle.am_world.specs.Places.{IsDownAt, SameElsewhere, cause_at, incarnation_at, refused_at};
-    ghost use Rattle.am_world.specs.Refusal.{refusal};
-    ghost use Rattle.am_world.specs.Runs.{Run, Headline, Prefixes, Forgets};
-    ghost use Rattle.am_setup.specs.Setup.{is_instance};
-    ghost use Rattle.am_world.specs.Simulation.{Opens, Step, fault_count, put_out};
+impl<R: Rows + Drop> World<R> {
+    ghost use Rattle.am_world.specs.Opening.{IsOfServing};
+    ghost use Rattle.am_world.specs.Shelves.{AreClean, NeverCleaner, rows_in, shelves_of};
+    ghost use Rattle.am_world.specs.Simulation.{Opens};
 
-    /// A world at moment 0, in which no connection is open and nothing is held. Fails only where memory is refused.
-    pub fn open(alloc: Global, setup: Setup) -> Result<World, AllocError>
-        ensures { IfOk result (Opens setup.origin) }
+    /// A world at moment 0 over the stores of the eight instances, in order of number. No connection is open. The instance that
+    /// serves opens its store, and holds what that has of all tenants.
+    ///
+    /// # Errors
+    /// The store of an instance was refused: with `F2`, where a call of the database was, and with `F3`, where it is no store; or
+    /// out of memory. All stores are dropped, each as its last commit left it.
+    pub fn open(alloc: Global, setup: Setup, mut stores: Vec<R>) -> Result<World<R>, OpenRefusal>
+        requires { length stores.items ≡ 8 }
+        ensures opens { IfOk result (λ world. AreClean world.shelves →
+            Opens setup.origin (rows_in (shelves_of R.pairs R.is_clean R.is_open stores.items)) world.state) }
+        ensures clean { IfOk result (λ world. NeverCleaner (shelves_of R.pairs R.is_clean R.is_open stores.items) world.shelves) }
+        ensures refused { IfErr result IsOfServing }
     {
-        let first = setup.start();
-        let instances = Instances::open(alloc, first, setup.capacity(), setup.hash_key())?;
-        Ok(World {
-            clock: Moment::from_milliseconds(0).unwrap(),
-            instances,
-            limits: LimitBook::new(alloc),
-            service_key: setup.service_key(),
-            outputs: Vec::new(alloc),
-            faults: 0,
-        })
+        let state = State::open(alloc, setup, &mut stores)?;
+        Ok(World { state, stores })
+    }
+}
+
+impl<R: Rows> World<R> {
+    ghost use Rattle.am_world.specs.Places.{cause_at};
+    ghost use Rattle.am_world.specs.Refusal.{refusal};
+    ghost use Rattle.am_world.specs.Runs.{Forgets, Headline, Prefixes, Run};
+    ghost use Rattle.am_world.specs.Shelves.{NeverCleaner, shelves_of};
+    ghost use Rattle.am_world.specs.Simulation.{Step, fault_count, put_out};
+
+    /// The stores, in order of the instances' numbers, each at its last commit.
+    pub fn into_stores(self) -> Vec<R>
+        ensures { shelves_of R.pairs R.is_clean R.is_open result.items ≡ self.shelves }
+    {
+        let World { state, stores } = self;
+        drop(state);
+        stores
     }
 
     /// What was put out so far, in order.
     pub fn outputs(&self) -> &[Output]
-        ensures { result.now ≡ put_out self.now }
+        ensures { result.now ≡ put_out self.now.state }
     {
-        self.outputs.as_slice()
+        self.state.outputs()
     }
 
     /// Forgets what was put out so far.
     pub fn clear_outputs(&mut self)
-        ensures { Forgets self.old self.new }
+        ensures forgets { Forgets self.old.state self.new.state }
+        ensures shelves { self.new.shelves ≡ self.old.shelves }
     {
-        self.outputs.clear();
+        self.state.clear_outputs();
     }
 
     /// Hands over what was put out so far, in order, and forgets it.
     pub fn take_outputs(&mut self, alloc: Global) -> Vec<Output>
-        ensures taken { result.items ≡ put_out self.old }
-        ensures forgets { Forgets self.old self.new }
+        ensures taken { result.items ≡ put_out self.old.state }
+        ensures forgets { Forgets self.old.state self.new.state }
+        ensures shelves { self.new.shelves ≡ self.old.shelves }
     {
-        mem::replace(&mut self.outputs, Vec::new(alloc))
+        self.state.take_outputs(alloc)
     }
 
     /// How many faults came so far, at most 2^64 - 1.
     pub fn faults(&self) -> u64
-        ensures { result ≡ fault_count self.now }
+        ensures { result ≡ fault_count self.now.state }
     {
-        self.faults
+        self.state.faults()
     }
 
     /// The fault that stopped an instance, where one did.
     pub fn cause(&self, instance: u8) -> Option<Fault>
-        ensures { result ≡ cause_at instance self.now.instances }
+        ensures { result ≡ cause_at instance self.now.state.instances }
     {
-        self.instances.cause(instance)
+        self.state.cause(instance)
     }
 
-    /// Handles one event. A refused one changes nothing. Where the system refuses memory, a count passes its greatest number, or
-    /// a pattern that is in use gives no answer, the instance that was handling it stops, puts nothing out, and one fault more
-    /// is counted.
+    /// Handles one event. A refused one changes nothing. Where the system refuses memory, a store refuses a call, a count passes
+    /// its greatest number, or a pattern that is in use gives no answer, the instance that was handling it stops, puts nothing
+    /// out, and one fault more is counted; its store stays at its last commit.
     pub fn step(&mut self, alloc: Global, event: &Event) -> Result<(), Refused>
-        ensures step { Step self.old event.now self.new }
-        ensures refused { MatchOption (refusal self.old event.now) (IsOk result) (λ r. result ≡ Err r) }
+        ensures step { Step self.old.state event.now self.new.state }
+        ensures refused { MatchOption (refusal self.old.state event.now) (IsOk result) (λ r. result ≡ Err r) }
         ensures err { OnErr result (self.new ≡ self.old) }
+        ensures clean { NeverCleaner self.old.shelves self.new.shelves }
     {
-        match event {
-            Event::Open {
-                connection,
-                instance,
-            } => self.on_open(alloc, *connection, *instance),
-            Event::Bytes {
-                connection,
-                moment,
-                piece,
-            } => self.on_bytes(alloc, *connection, *moment, piece),
-            Event::Close { connection } => self.on_close(*connection),
-            Event::Limits { tenant, limits } => {
-                self.on_limits(alloc, tenant, *limits);
-                Ok(())
-            }
-            Event::Tick { moment } => self.on_tick(alloc, *moment),
-            Event::Outcome {
-                attempt,
-                tries,
-                moment,
-                status,
-            } => self.on_outcome(alloc, attempt, *tries, *moment, *status),
-        }
+        self.state.step(alloc, event, &mut self.stores)
     }
 
     /// Handles events one after the other, and goes on after a refused one. Each tenant's outputs are those of its
     /// private cluster, also on a further run, and what was put out before a first fault is so too.
     pub fn run(&mut self, alloc: Global, events: &[Event])
-        ensures steps { Run self.old events.now self.new }
-        ensures headline { Headline self.old events.now self.new }
-        ensures prefixes { Prefixes self.old events.now self.new }
+        ensures steps { Run self.old.state events.now self.new.state }
+        ensures headline { Headline self.old.state events.now self.new.state }
+        ensures prefixes { Prefixes self.old.state events.now self.new.state }
+        ensures clean { NeverCleaner self.old.shelves self.new.shelves }
     {
-        for event in events {
-            let _ = self.step(alloc, event);
-        }
-    }
-
-    fn on_open(
-        &mut self,
-        alloc: Global,
-        connection: ConnectionId,
-        instance: u8,
-    ) -> Result<(), Refused>
-        ensures step { Step self.old (Event.Open connection instance) self.new }
-        ensures refused { MatchOption (refusal self.old (Event.Open connection instance)) (IsOk result) (λ r. result ≡ Err r) }
-        ensures err { OnErr result (self.new ≡ self.old) }
-    {
-        if !self.instances.is_up(instance) {
-            return Err(Refused::InstanceNotUp);
-        }
-        match self.instances.begin(alloc, instance, connection) {
-            Ok(()) => Ok(()),
-            Err(_) => {
-                self.stop(alloc, instance, Fault::OutOfMemory);
-                Ok(())
-            }
-        }
-    }
-
-    fn on_bytes(
-        &mut self,
-        alloc: Global,
-        connection: ConnectionId,
-        moment: u64,
-        piece: &Octets,
-    ) -> Result<(), Refused>
-        ensures step { Step self.old (Event.Bytes connection moment piece.now) self.new }
-        ensures refused { MatchOption (refusal self.old (Event.Bytes connection moment piece.now))
-            (IsOk result) (λ r. result ≡ Err r) }
-        ensures err { OnErr result (self.new ≡ self.old) }
-    {
-        if moment > LAST_MOMENT {
-            return Err(Refused::MomentRefused);
-        }
-        let Some(reader) = self.instances.reader_of(connection) else {
-            return Err(Refused::NotReading);
-        };
-        let at = self.effective(moment);
-        let (service_key, limits, outputs) = (&self.service_key, &self.limits, &mut self.outputs);
-        match self.instances.feed(
-            alloc,
-            reader,
-            connection,
-            piece.as_slice(),
-            at,
-            service_key,
-            limits,
-            outputs,
-        ) {
-            Ok(()) => Ok(()),
-            Err(fault) => {
-                self.stop(alloc, reader, fault);
-                Ok(())
-            }
-        }
-    }
-
-    fn on_tick(&mut self, alloc: Global, moment: u64) -> Result<(), Refused>
-        ensures step { Step self.old (Event.Tick moment) self.new }
-        ensures refused { MatchOption (refusal self.old (Event.Tick moment)) (IsOk result) (λ r. result ≡ Err r) }
-        ensures err { OnErr result (self.new ≡ self.old) }
-    {
-        if moment > LAST_MOMENT || moment < self.clock.milliseconds() {
-            return Err(Refused::MomentRefused);
-        }
-        self.clock = self.effective(moment);
-        let (clock, limits, outputs) = (self.clock, &self.limits, &mut self.outputs);
-        let stopped = self.instances.tick(alloc, clock, limits, outputs);
-        self.count_faults(stopped);
-        Ok(())
-    }
-
-    fn on_outcome(
-        &mut self,
-        alloc: Global,
-        attempt: &AttemptName,
-        tries: u8,
-        moment: u64,
-        status: Option<u16>,
-    ) -> Result<(), Refused>
-        ensures step { Step self.old (Event.Outcome attempt.now tries moment status) self.new }
-        ensures refused { MatchOption (refusal self.old (Event.Outcome attempt.now tries moment status))
-            (IsOk result) (λ r. result ≡ Err r) }
-        ensures err { OnErr result (self.new ≡ self.old) }
-    {
-        if moment > LAST_MOMENT {
-            return Err(Refused::MomentRefused);
-        }
-        if !self.instances.is_awaiting(attempt, tries) {
-            return Err(Refused::NotAwaited);
-        }
-        let at = self.effective(moment);
-        let limits = self.limits.of(&attempt.tenant);
-        match self
-            .instances
-            .take_outcome(alloc, attempt, tries, at, limits, status)
-        {
-            Ok(()) => Ok(()),
-            Err(fault) => {
-                self.stop(alloc, attempt.instance, fault);
-                Ok(())
-            }
-        }
-    }
-
-    fn on_close(&mut self, connection: ConnectionId) -> Result<(), Refused>
-        ensures step { Step self.old (Event.Close connection) self.new }
-        ensures refused { MatchOption (refusal self.old (Event.Close connection)) (IsOk result) (λ r. result ≡ Err r) }
-        ensures err { OnErr result (self.new ≡ self.old) }
-    {
-        let Some(reader) = self.instances.reader_of(connection) else {
-            return Err(Refused::NotReading);
-        };
-        self.instances.close(reader, connection);
-        Ok(())
-    }
-
-    // No instance has work of it: where memory is refused, nothing has changed, and a fault is counted.
-    fn on_limits(&mut self, alloc: Global, tenant: &TenantName, limits: Limits)
-        ensures { Step self.old (Event.Limits tenant.now limits) self.new }
-    {
-        match self.limits.set(alloc, tenant, limits) {
-            Ok(()) => {}
-            Err(_) => self.count_faults(1),
-        }
-    }
-
-    /// The moment at which an event of this own moment happens.
-    fn effective(&self, moment: u64) -> Moment
-        requires { moment ≤ last_moment }
-        ensures { result ≡ effective moment self.now.clock }
-    {
-        match Moment::from_milliseconds(moment) {
-            Some(own) if moment > self.clock.milliseconds() => own,
-            _ => self.clock,
-        }
-    }
-
-    /// Stops an instance as a crash does, and counts a fault.
-    fn stop(&mut self, alloc: Global, instance: u8, fault: Fault)
-        requires { IsTrue (is_instance instance) }
-        ensures down { IsDownAt instance self.new.instances }
-        ensures cause { cause_at instance self.new.instances ≡ Some fault }
-        ensures others { SameElsewhere instance self.old.instances self.new.instances }
-        ensures incarnation { incarnation_at instance self.new.instances ≡ incarnation_at instance self.old.instances }
-        ensures counted { self.new.faults ≡ min (self.old.faults + 1) (2 ^ 64 - 1) }
-        ensures outputs { self.new.outputs.items ≡ self.old.outputs.items }
-        ensures clock { self.new.clock ≡ self.old.clock }
-        ensures limits { self.new.limits ≡ self.old.limits }
-        ensures service_key { self.new.service_key ≡ self.old.service_key }
-        ensures refused { (i : ℕ) → refused_at i self.new.instances ≡ refused_at i self.old.instances }
-    {
-        self.instances.stop(alloc, instance, fault);
-        self.count_faults(1);
-    }
-
-    fn count_faults(&mut self, more: u64)
-        ensures counted { self.new.faults ≡ min (self.old.faults + more) (2 ^ 64 - 1) }
-        ensures none { more ≡ 0 → self.new.faults ≡ self.old.faults }
-        ensures instances { self.new.instances ≡ self.old.instances }
-        ensures outputs { self.new.outputs.items ≡ self.old.outputs.items }
-        ensures clock { self.new.clock ≡ self.old.clock }
-        ensures limits { self.new.limits ≡ self.old.limits }
-        ensures service_key { self.new.service_key ≡ self.old.service_key }
-    {
-        self.faults = self.faults.saturating_add(more);
+        self.state.run(alloc, events, &mut self.stores);
     }
 }

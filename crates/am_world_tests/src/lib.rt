@@ -13,10 +13,24 @@ mod views;
 #[cfg(test)]
 use am_setup::Setup;
 #[cfg(test)]
+use am_test_store::TestStore;
+#[cfg(test)]
+use std::alloc::Global;
+#[cfg(test)]
 use std::test::Fail;
 
 /// The settings of a command line without options.
 #[cfg(test)]
 fn setup() -> Result<Setup, Fail> {
     Ok(Setup::new([0; 32], &[1, 2, 3], 512, 1).ok_or("no settings")?)
+}
+
+/// The stores of the eight instances, without rows.
+#[cfg(test)]
+fn stores(alloc: Global) -> Result<Vec<TestStore>, Fail> {
+    let mut stores = Vec::with_capacity(alloc, 8)?;
+    for _ in 0..8u8 {
+        stores.push(TestStore::new(alloc))?;
+    }
+    Ok(stores)
 }

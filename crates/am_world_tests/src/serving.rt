@@ -1,9 +1,10 @@
 //! A world that is served on a port of this machine, turn by turn.
 
-use crate::setup;
+use crate::{setup, stores};
 use am_expect::{equal, holds};
 use am_gateway::Gateway;
 use am_server::{Server, listen};
+use am_test_store::TestStore;
 use am_world::World;
 use std::alloc::Global;
 use std::io;
@@ -23,7 +24,7 @@ const SECOND_PIECE: &[u8] = b"gth: 22\r\n\r\n[{\"labels\":{\"b\":\"c\"}}]";
 struct Stand<'r, 's, 'w> {
     rt: &'r HostRuntime,
     address: SocketAddr,
-    server: Server<'s, Gateway<'w>>,
+    server: Server<'s, Gateway<'w, TestStore>>,
 }
 
 impl Stand<'_, '_, '_> {
@@ -90,7 +91,7 @@ fn takes_notice(hook: &TcpListener) -> io::Result<[u8; 20]> {
 }
 
 /// Serves three requests beside a client that stays silent, and tells a webhook.
-fn serves(rt: &HostRuntime, world: &mut World) -> Result<(), Fail> {
+fn serves(rt: &HostRuntime, world: &mut World<TestStore>) -> Result<(), Fail> {
     let any = SocketAddr::from((Ipv4Addr::LOCALHOST, 0));
     let hook = TcpListener::bind(rt, any)?;
     let listener = listen(rt, any)?;
@@ -113,7 +114,11 @@ fn serves(rt: &HostRuntime, world: &mut World) -> Result<(), Fail> {
 
 #[test]
 fn serves_requests_and_tells_a_webhook(rt: HostRuntime) -> Result<(), Fail> {
-    let mut world = World::open(rt.alloc(), setup()?)?;
+    let stores = stores(rt.alloc())?;
+    if stores.len() != 8 {
+        return Err("not eight stores".into());
+    }
+    let mut world = World::open(rt.alloc(), setup()?, stores)?;
     serves(&rt, &mut world)?;
     equal(world.faults(), 0, "faults")
 }

@@ -1,9 +1,10 @@
 //! Two worlds in which a tenant's requests are the same.
 
-use crate::setup;
+use crate::{setup, stores};
 use am_expect::{equal, holds};
 use am_http::ConnectionId;
 use am_setup::Setup;
+use am_test_store::TestStore;
 use am_text::Octets;
 use am_world::event::{Event, Output};
 use am_world::theorem::run_both;
@@ -45,7 +46,7 @@ fn asked(
 }
 
 /// The reply on a connection.
-fn reply_on(world: &World, connection: u64) -> Option<&[u8]> {
+fn reply_on(world: &World<TestStore>, connection: u64) -> Option<&[u8]> {
     world.outputs().iter().find_map(|output| match output {
         Output::Reply {
             connection: answered,
@@ -74,7 +75,7 @@ fn among(alloc: Global) -> Result<Vec<Event>, Fail> {
 }
 
 /// The reply on a connection is the same in both worlds.
-fn is_same(one: &World, other: &World, connection: u64) -> Result<(), Fail> {
+fn is_same(one: &World<TestStore>, other: &World<TestStore>, connection: u64) -> Result<(), Fail> {
     let reply = reply_on(one, connection).ok_or("no reply")?;
     let among = reply_on(other, connection).ok_or("no reply")?;
     equal(reply, among, connection)
@@ -85,7 +86,20 @@ fn equal_views_give_equal_outputs(rt: HostRuntime) -> Result<(), Fail> {
     let events = alone(rt.alloc())?;
     let others = among(rt.alloc())?;
     let small = Setup::new([0; 32], &[1, 2, 3], 1, 1).ok_or("no settings")?;
-    let (world, other) = run_both(rt.alloc(), setup()?, &events, small, &others)?;
+    let stores_of_one = stores(rt.alloc())?;
+    let stores_of_other = stores(rt.alloc())?;
+    if stores_of_one.len() != 8 || stores_of_other.len() != 8 {
+        return Err("not eight stores".into());
+    }
+    let (world, other) = run_both(
+        rt.alloc(),
+        setup()?,
+        stores_of_one,
+        &events,
+        small,
+        stores_of_other,
+        &others,
+    )?;
     equal(world.outputs().len(), 2, "alone")?;
     equal(other.outputs().len(), 4, "among others")?;
     let refused = reply_on(&other, 3).ok_or("no reply")?;

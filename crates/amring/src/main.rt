@@ -2,14 +2,19 @@
 #![tactic(auto)]
 
 mod serve;
+mod stores;
 
-use am_options::{CommandLine, options};
+ghost use Rattle.std.specs.Prelude.{◌≡◌, length};
+
+use am_options::{CommandLine, Running, options};
 use am_play::lines::LineReader;
 use am_play::loopback::Loopback;
 use am_play::streams::Sink;
 use am_play::writing::WholeWriter;
 use am_play::{ending, play};
+use am_rows::Rows;
 use am_setup::Setup;
+use am_world::World;
 use std::io::{BufReader, BufWriter, Write};
 use std::net::Net;
 use std::process::ExitCode;
@@ -44,7 +49,7 @@ fn start<E: Sink>(rt: &HostRuntime, errors: &mut E) -> io::Result<ExitCode> {
         Err(error) => return Err(error),
     };
     match options(rt.alloc(), words.as_slice())? {
-        CommandLine::Run(setup) => run(rt, setup, errors),
+        CommandLine::Run(running) => run(rt, running, errors),
         CommandLine::Serve(serving) => serve::serve(rt, serving, errors),
         CommandLine::Help(text) => {
             print!(rt; "{text}")?;
@@ -54,15 +59,34 @@ fn start<E: Sink>(rt: &HostRuntime, errors: &mut E) -> io::Result<ExitCode> {
     }
 }
 
-/// Plays the scenario on standard input over loopback sockets.
-fn run<R: Input + Print + AllocGlobal + Net, E: Sink>(
+/// Plays the scenario on standard input over the stores that the command line says.
+fn run<E: Sink>(rt: &HostRuntime, running: Running, errors: &mut E) -> io::Result<ExitCode> {
+    let Running { setup, store } = running;
+    match store {
+        None => run_over(rt, setup, stores::in_memory(rt.alloc())?, errors),
+        Some(folder) => match stores::in_folder(rt, folder.as_str()) {
+            Ok(stores) => run_over(rt, setup, stores, errors),
+            Err(refusal) => stores::refuse(rt.alloc(), errors, refusal),
+        },
+    }
+}
+
+/// Plays the scenario on standard input over loopback sockets, against a world over these stores.
+fn run_over<S: Rows + Drop, R: Input + Print + AllocGlobal + Net, E: Sink>(
     rt: &R,
     setup: Setup,
+    stores: Vec<S>,
     errors: &mut E,
-) -> io::Result<ExitCode> {
+) -> io::Result<ExitCode>
+    requires { length stores.items ≡ 8 }
+{
+    let world = match World::open(rt.alloc(), setup, stores) {
+        Ok(world) => world,
+        Err(refusal) => return stores::refuse(rt.alloc(), errors, refusal),
+    };
     let mut link = Loopback::open(rt)?;
     let source = LineReader::new(rt.alloc(), BufReader::new(rt.alloc(), rt.reader())?);
     let mut writer = WholeWriter(BufWriter::new(rt.alloc(), io::writer(rt))?);
-    let played = play::play(rt.alloc(), setup, &mut link, source, &mut writer, errors)?;
+    let (played, _stores) = play::play(rt.alloc(), world, &mut link, source, &mut writer, errors)?;
     ending::tell(errors, played)
 }

@@ -1,10 +1,16 @@
 //! `serve`: a world behind a port.
 
+ghost use Rattle.std.specs.Prelude.{◌≡◌, length};
+
+use crate::stores;
 use am_gateway::Gateway;
 use am_options::Serving;
+use am_play::ending;
 use am_play::stops::Stops;
 use am_play::streams::Sink;
+use am_rows::Rows;
 use am_server::{Server, listen};
+use am_setup::Setup;
 use am_world::World;
 use mio::net::TcpListener;
 use std::net::{Ipv4Addr, Net, SocketAddr};
@@ -18,17 +24,28 @@ const SERVING: u8 = 1;
 /// The exit status where the port can't be had.
 const NO_PORT: u8 = 2;
 
+/// Where the program serves, and how many connections.
+#[derive(Drop)]
+struct Site {
+    listener: TcpListener,
+    address: SocketAddr,
+    count: Option<u64>,
+}
+
 /// Serves connections until as many were answered as were asked for, and prints `faults N` then; or until the instance stops,
 /// which is told on standard error and ends the program with a failure.
 ///
 /// # Errors
 /// Those of the system's poll and clocks, and of printing; out of memory.
-pub fn serve<R: Net + Clock + Print + AllocGlobal, E: Sink>(
-    rt: &R,
-    serving: Serving,
-    errors: &mut E,
-) -> io::Result<ExitCode> {
-    let address = SocketAddr::from((Ipv4Addr::LOCALHOST, serving.port));
+pub fn serve<E: Sink>(rt: &HostRuntime, serving: Serving, errors: &mut E) -> io::Result<ExitCode> {
+    let Serving {
+        setup,
+        has_start,
+        store,
+        port,
+        count,
+    } = serving;
+    let address = SocketAddr::from((Ipv4Addr::LOCALHOST, port));
     let listener = match listen(rt, address) {
         Ok(listener) => listener,
         Err(error) if error.kind() == io::ErrorKind::OutOfMemory => return Err(error),
@@ -37,12 +54,62 @@ pub fn serve<R: Net + Clock + Print + AllocGlobal, E: Sink>(
             return Ok(ExitCode::from(NO_PORT));
         }
     };
-    let mut world = World::open(rt.alloc(), serving.setup)?;
+    let site = Site {
+        listener,
+        address,
+        count,
+    };
+    match store {
+        None => serve_over(rt, setup, stores::in_memory(rt.alloc())?, site, errors),
+        Some(folder) => match stores::in_folder(rt, folder.as_str()) {
+            Ok(stores) if has_start => serve_over(rt, setup, stores, site, errors),
+            Ok(stores) => restart(rt, setup, stores, site, errors),
+            Err(refusal) => stores::refuse(rt.alloc(), errors, refusal),
+        },
+    }
+}
+
+/// Serves connections over stores that were in use before, in an incarnation after all of their rows.
+fn restart<S: Rows + Drop, R: Net + Clock + Print + AllocGlobal, E: Sink>(
+    rt: &R,
+    setup: Setup,
+    mut stores: Vec<S>,
+    site: Site,
+    errors: &mut E,
+) -> io::Result<ExitCode>
+    requires { length stores.items ≡ 8 }
+{
+    match stores::next_incarnation(rt.alloc(), &mut stores) {
+        Ok(Some(start)) => serve_over(rt, setup.with_start(start), stores, site, errors),
+        Ok(None) => ending::refuse(errors, "no incarnation is left"),
+        Err(refusal) => stores::refuse(rt.alloc(), errors, refusal),
+    }
+}
+
+/// Serves connections over these stores.
+fn serve_over<S: Rows + Drop, R: Net + Clock + Print + AllocGlobal, E: Sink>(
+    rt: &R,
+    setup: Setup,
+    stores: Vec<S>,
+    site: Site,
+    errors: &mut E,
+) -> io::Result<ExitCode>
+    requires { length stores.items ≡ 8 }
+{
+    let mut world = match World::open(rt.alloc(), setup, stores) {
+        Ok(world) => world,
+        Err(refusal) => return stores::refuse(rt.alloc(), errors, refusal),
+    };
+    let Site {
+        listener,
+        address,
+        count,
+    } = site;
     let ready = format!(in rt.alloc();
         "amring: serves http://{address}; GET /ready tells it the time, once a second or so\n"
     )?;
     errors.write_whole(ready.as_bytes())?;
-    attend(rt, listener, &mut world, serving.count)?;
+    attend(rt, listener, &mut world, count)?;
     Stops::none().tell(rt.alloc(), &world, errors)?;
     let faults = world.faults();
     print!(rt; "faults {faults}\n")?;
@@ -50,16 +117,16 @@ pub fn serve<R: Net + Clock + Print + AllocGlobal, E: Sink>(
         None => ExitCode::SUCCESS,
         Some(_) => ExitCode::FAILURE,
     };
-    // The process ends: what the world holds need not be given back piece by piece.
+    // The process ends: what the world holds need not be given back piece by piece, and each store is at its last commit.
     mem::forget(world);
     Ok(status)
 }
 
 /// Serves the clients of a listener until all is done, or the instance stopped.
-fn attend<R: Net + Clock + AllocGlobal>(
+fn attend<S: Rows + Drop, R: Net + Clock + AllocGlobal>(
     rt: &R,
     listener: TcpListener,
-    world: &mut World,
+    world: &mut World<S>,
     count: Option<u64>,
 ) -> io::Result<()> {
     let mut gateway = Gateway::new(rt.alloc(), world, SERVING)?;

@@ -5,13 +5,14 @@ ghost use Rattle.std.specs.IoError.{error_kind};
 ghost use Rattle.am_play.specs.Streams.{IsFailureOf};
 
 use super::links::Direct;
-use super::{POSTED_TWICE, play_on, setup};
+use super::{POSTED_TWICE, play_on, world};
 use am_expect::equal;
 use am_play::lines::LineReader;
 use am_play::play::{Played, play};
 use am_play::streams::{Sink, Source, StreamFailure};
 use am_play::writing::WholeWriter;
-use am_setup::Setup;
+use am_test_store::TestStore;
+use am_world::World;
 use std::alloc::Global;
 use std::io;
 use std::io::{BufReader, ErrorKind, Read, Write};
@@ -49,7 +50,7 @@ fn fills(alloc: Global, room: usize) -> Result<(), Fail> {
     };
     let played = play_on(
         alloc,
-        setup()?,
+        world(alloc)?,
         &mut Direct,
         LineReader::new(alloc, scenario.as_bytes()),
         &mut WholeWriter(&mut writer),
@@ -105,14 +106,14 @@ fn replies_of(alloc: Global, part: &str, replies: &str) -> Result<String, Fail> 
 fn played_part(
     alloc: Global,
     part: &str,
-) -> Result<(Result<Played, StreamFailure>, Vec<u8>), Fail> {
+) -> Result<(Result<(Played, Vec<TestStore>), StreamFailure>, Vec<u8>), Fail> {
     let mut written = Vec::new(alloc);
     let broken = Broken {
         rest: part.as_bytes(),
     };
     let played = play_on(
         alloc,
-        setup()?,
+        world(alloc)?,
         &mut Direct,
         LineReader::new(alloc, BufReader::new(alloc, broken)?),
         &mut WholeWriter(&mut written),
@@ -178,15 +179,18 @@ impl Sink for Void {
 }
 
 /// Plays what can't be read. Where memory doesn't run out, the error is the source's, since no other stream has any.
-fn played_reset(alloc: Global, setup: Setup) -> Result<Played, StreamFailure>
+fn played_reset(
+    alloc: Global,
+    world: World<TestStore>,
+) -> Result<(Played, Vec<TestStore>), StreamFailure>
     ensures { IfErr result (IsFailureOf (λ error. error_kind error ≡ ErrorKind.ConnectionReset)) }
 {
-    play(alloc, setup, &mut Direct, Reset, &mut Void, &mut Void)
+    play(alloc, world, &mut Direct, Reset, &mut Void, &mut Void)
 }
 
 #[test]
 fn a_failure_is_a_streams_own(rt: HostRuntime) -> Result<(), Fail> {
-    match played_reset(rt.alloc(), setup()?) {
+    match played_reset(rt.alloc(), world(rt.alloc())?) {
         Ok(_) => Err("what can't be read was played".into()),
         Err(failure) => {
             let error = io::Error::from(failure);

@@ -6,11 +6,11 @@ use Rattle.clap.specs.Simple.{subcommand_rows_of}
 use Rattle.clap.specs.declared.error.Error.{Error}
 use Rattle.clap.specs.declared.error.kind.ErrorKind.{ErrorKind}
 use Rattle.clap.proofs.OnLiterals.{clap_on_literals}
-use Rattle.am_options.specs.CommandLine.{Asks, Tells, asked_of, command_line, kinds, serving_in, settings_in}
+use Rattle.am_options.specs.CommandLine.{Asks, Tells, asked_of, command_line, kinds, running_in, serving_in}
 use Rattle.am_options.specs.declared.command_line.CommandLine.{CommandLine}
 use Rattle.am_options.specs.declared.command_line.CommandLine.TheVariants.{Run, Serve, Help, Bad}
+use Rattle.am_options.specs.declared.command_line.Running.{Running}
 use Rattle.am_options.specs.declared.command_line.Serving.{Serving}
-use Rattle.am_setup.specs.Setup.{Settings}
 use Rattle.am_options.proofs.command_line.options.Goals as goal
 
 -- clap says which words the command line's form takes, and what it finds in them
@@ -24,7 +24,7 @@ is_read = refl
 
 -- an error that tells this came from a fault of the words
 asks_told : (words : List Text) (e : Error) (line : CommandLine) → HasKind (kinds words) e → Tells (kind_of e) line → Asks words line
-asks_told words e (Run setup) has tells = absurd tells
+asks_told words e (Run running) has tells = absurd tells
 asks_told words e (Serve serving) has tells = absurd tells
 asks_told words e (Help text) has tells = elim tells [
   | inl help ↦ elim has [
@@ -43,31 +43,31 @@ asks_told words e (Bad text) has tells = elim has [
 
 -- a subcommand asks for no text
 abbrev IsWork : CommandLine → Type 0
-IsWork (Run setup) = Unit {0}
+IsWork (Run running) = Unit {0}
 IsWork (Serve serving) = Unit {0}
 IsWork (Help text) = ⊥
 IsWork (Bad text) = ⊥
 
-told_by : (b : Bool) (serving : Option Serving) (setup : Option Settings) (line : CommandLine) →
-    (if b then option_map Serve serving else option_map Run setup) ≡ Some line → IsWork line
-told_by b serving setup (Run _) e = tt
-told_by b serving setup (Serve _) e = tt
-told_by true None setup (Help text) e = cc
-told_by true (Some serving) setup (Help text) e = cc
+told_by : (b : Bool) (serving : Option Serving) (running : Option Running) (line : CommandLine) →
+    (if b then option_map Serve serving else option_map Run running) ≡ Some line → IsWork line
+told_by b serving running (Run _) e = tt
+told_by b serving running (Serve _) e = tt
+told_by true None running (Help text) e = cc
+told_by true (Some serving) running (Help text) e = cc
 told_by false serving None (Help text) e = cc
-told_by false serving (Some setup) (Help text) e = cc
-told_by true None setup (Bad text) e = cc
-told_by true (Some serving) setup (Bad text) e = cc
+told_by false serving (Some running) (Help text) e = cc
+told_by true None running (Bad text) e = cc
+told_by true (Some serving) running (Bad text) e = cc
 told_by false serving None (Bad text) e = cc
-told_by false serving (Some setup) (Bad text) e = cc
+told_by false serving (Some running) (Bad text) e = cc
 
 is_work : (entered : Option (Text × List Row)) (line : CommandLine) → asked_of entered ≡ Some line → IsWork line
 is_work None line e = absurd cc
-is_work (Some sub) line e = told_by (bytes_eq sub.0 (codes "serve")) (serving_in sub.1) (settings_in sub.1) line e
+is_work (Some sub) line e = told_by (bytes_eq sub.0 (codes "serve")) (serving_in sub.1) (running_in sub.1) line e
 
 asks_work : (words : List Text) (line : CommandLine) → kinds words ≡ [] → asked_of (subcommand_of command_line words) ≡ Some line →
     IsWork line → Asks words line
-asks_work words (Run setup) none asked work = (none, asked)
+asks_work words (Run running) none asked work = (none, asked)
 asks_work words (Serve serving) none asked work = (none, asked)
 asks_work words (Help text) none asked work = absurd work
 asks_work words (Bad text) none asked work = absurd work
@@ -75,14 +75,15 @@ asks_work words (Bad text) none asked work = absurd work
 asks_asked : (words : List Text) (line : CommandLine) → kinds words ≡ [] → asked_of (subcommand_of command_line words) ≡ Some line → Asks words line
 asks_asked words line none asked = asks_work words line none asked (is_work (subcommand_of command_line words) line asked)
 
-pub returns-in-Ok-asked : goal.returns-in-Ok-asked
-returns-in-Ok-asked g c =
+pub returns-in-Ok-2 : goal.returns-in-Ok-2
+returns-in-Ok-2 g c =
     let words : List Text = map g.S.AsStr.text c.args.words.now in
     let form_is : app_of c.in_ok-form.field-0 ≡ command_line = c.in_ok-form.ensures in
     let no_fault : kinds words ≡ [] = ap (λ (a : App). fault_of a words) (sym form_is) ∙ c.in-Ok.ensures.kinds (ap is_simple_and_free form_is ∙ is_known) in
     let entered : subcommand_rows_of c.in-Ok.matches ≡ subcommand_of command_line words =
     (c.in-Ok.ensures.matches (ap is_simple form_is ∙ is_read)).1 ∙ ap (λ (a : App). subcommand_of a words) form_is in
-    asks_asked words c.in-Ok-asked.line no_fault (ap asked_of (sym entered) ∙ c.in-Ok-asked.ensures)
+    let found : asked_of (subcommand_rows_of c.in-Ok.matches) ≡ Some c.in-Ok-2.line = rw c.in-Ok-2.is at c.in_ok-line-in-Ok.ensures in
+    asks_asked words c.in-Ok-2.line no_fault (ap asked_of (sym entered) ∙ found)
 
 pub returns-in-Ok : goal.returns-in-Ok
 returns-in-Ok g c =
@@ -91,7 +92,8 @@ returns-in-Ok g c =
     let no_fault : kinds words ≡ [] = ap (λ (a : App). fault_of a words) (sym form_is) ∙ c.in-Ok.ensures.kinds (ap is_simple_and_free form_is ∙ is_known) in
     let entered : subcommand_rows_of c.in-Ok.matches ≡ subcommand_of command_line words =
     (c.in-Ok.ensures.matches (ap is_simple form_is ∙ is_read)).1 ∙ ap (λ (a : App). subcommand_of a words) form_is in
-    inr (no_fault, ap asked_of (sym entered) ∙ c.in-Err-asked.ensures)
+    let found : asked_of (subcommand_rows_of c.in-Ok.matches) ≡ None = rw c.in-Err-2.is at c.in_ok-line-in-Ok.ensures in
+    inr (no_fault, ap asked_of (sym entered) ∙ found)
 
 pub returns : goal.returns
 returns g c =

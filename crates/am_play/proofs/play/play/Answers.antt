@@ -1,7 +1,6 @@
-use Rattle.std.proofs.Common.{refl, inr, Some}
+use Rattle.std.proofs.Common.{refl, Some}
 use Rattle.std.proofs.KnownBytes.{Appends-kept}
-use Rattle.am_play.proofs.BreakLemmas.{scenario_breaks, course_breaks}
-use Rattle.am_play.proofs.TraceLemmas.{course_alone, course_until_fault}
+use Rattle.am_play.proofs.BreakLemmas.{course_breaks, isolates, scenario_breaks}
 use Rattle.am_play.proofs.WritingLemmas.{on_err, whole}
 use Rattle.am_world.specs.Simulation.{fault_count}
 use Rattle.am_play.specs.Playing.{IsStart}
@@ -12,48 +11,30 @@ pub returns-clause-plays : goal.returns-clause-plays
 returns-clause-plays g c =
     let trace = c.in_ok-played.ensures.plays.0 in
     let course = c.in_ok-played.ensures.plays.1 in
-    let start : Player =
-    record { world = c.in_ok-world.world; connections = c.new.result; moment = 0; hook = Some 200 } in
-    let end : Player = c.play_lines.new.self in
-    let is_start : IsStart c.args.setup.origin start =
-    record { opens = c.in_ok-world.ensures; connections = c.new.ensures; moment = refl; hook = refl } in (
+    let start : Player g.row.R.Denot = record { world = c.args.world; connections = c.new.result; moment = 0; hook = Some 200 } in
+    let end = c.play_lines.new.self in
+    let is_start : IsStart c.args.world.state start = record { begins = refl; connections = c.new.ensures; moment = refl; hook = refl } in (
       trace,
-      fault_count end.world,
-      record { start = start; is_start = is_start; end = end; course = course; counted = refl },
+      fault_count end.world.state,
+      record { start = start; is_start = is_start; end = end; course = course; counted = refl; stores = c.into_stores.ensures },
       Appends-kept _ _ _ _ c.in_ok-played.ensures.plays.2 c.flush.ensures.bytes,
-      course_alone g.L.Link.carries g.L.Link.answers c.args.setup.origin start (g.S.Source.lines c.args.source)
-          c.in_ok-played.played trace end is_start
-          course,
-      course_until_fault g.L.Link.carries g.L.Link.answers c.args.setup.origin start
-          (g.S.Source.lines c.args.source) c.in_ok-played.played trace end
-          is_start course,
+      isolates g.L.Link.carries g.L.Link.answers start (g.S.Source.lines c.args.source)
+          c.args.world.state is_start c.in_ok-played.played trace end course,
     )
 
 pub returns-in_err-played-clause-breaks : goal.returns-in_err-played-clause-breaks
 returns-in_err-played-clause-breaks g c =
-    let start : Player =
-    record { world = c.in_ok-world.world; connections = c.new.result; moment = 0; hook = Some 200 } in
-    on_err _ (inr (scenario_breaks g.L.Link.carries g.L.Link.answers start (g.S.Source.lines c.args.source) _ _
-    c.args.setup.origin (record {
-      opens = c.in_ok-world.ensures;
-      connections = c.new.ensures;
-      moment = refl;
-      hook =
-          refl;
-    }) c.in_err-played.ensures.breaks))
+    let start : Player g.row.R.Denot = record { world = c.args.world; connections = c.new.result; moment = 0; hook = Some 200 } in
+    let is_start : IsStart c.args.world.state start = record { begins = refl; connections = c.new.ensures; moment = refl; hook = refl } in
+    on_err _ (scenario_breaks g.L.Link.carries g.L.Link.answers start (g.S.Source.lines c.args.source) _ _
+    c.args.world.state is_start c.in_err-played.ensures.breaks)
 
 pub returns-in_err-flush-clause-breaks : goal.returns-in_err-flush-clause-breaks
 returns-in_err-flush-clause-breaks g c =
-    let start : Player =
-    record { world = c.in_ok-world.world; connections = c.new.result; moment = 0; hook = Some 200 } in
+    let start : Player g.row.R.Denot = record { world = c.args.world; connections = c.new.result; moment = 0; hook = Some 200 } in
+    let is_start : IsStart c.args.world.state start = record { begins = refl; connections = c.new.ensures; moment = refl; hook = refl } in
     let played = c.in_ok-played.ensures.plays in
-    on_err _ (inr (scenario_breaks g.L.Link.carries g.L.Link.answers start (g.S.Source.lines c.args.source) _ _
-    c.args.setup.origin (record {
-      opens = c.in_ok-world.ensures;
-      connections = c.new.ensures;
-      moment = refl;
-      hook =
-          refl;
-    })
+    on_err _ (scenario_breaks g.L.Link.carries g.L.Link.answers start (g.S.Source.lines c.args.source) _ _
+    c.args.world.state is_start
     (course_breaks g.L.Link.carries g.L.Link.answers start (g.S.Source.lines c.args.source) _ _ c.in_ok-played.played
-    played.0 c.play_lines.new.self played.1 (whole _ _ _ (Appends-kept _ _ _ _ played.2 c.flush.ensures.bytes)))))
+    played.0 c.play_lines.new.self played.1 (whole _ _ _ (Appends-kept _ _ _ _ played.2 c.flush.ensures.bytes))))

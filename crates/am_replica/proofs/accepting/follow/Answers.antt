@@ -1,11 +1,13 @@
-use Rattle.std.proofs.Common.{ap, inl, inr, ◌∙◌}
+use Rattle.std.proofs.Common.{◌≡◌, ◌<◌, ◌⊎◌, ℕ, true, List, length, ap, subst, inl, inr, ◌∙◌}
 use Rattle.std.specs.Map.{keys_of}
 use Rattle.std.proofs.lemmas.Result.{err_from_is_err_and, on_ok_weaker}
 use Rattle.am_agenda.specs.Plan.{Plan}
 use Rattle.am_agenda.specs.Planned.{plan_of}
-use Rattle.am_replica.specs.Accepting.{followed}
+use Rattle.am_config.specs.Configuration.{Configuration}
+use Rattle.am_labels.specs.declared.Label.{Label}
+use Rattle.am_replica.specs.Accepting.{followed, met, unknown_of}
 use Rattle.am_replica.specs.Plans.{planned_by, sinces_in}
-use Rattle.am_replica.proofs.Accepted.{all_with_reason, by_either}
+use Rattle.am_replica.proofs.Accepted.{all_by_either, by_either, met_some}
 use Rattle.am_replica.proofs.Followed.{met_anew, met_by}
 use Rattle.am_replica.proofs.Locals.{other, own}
 use Rattle.am_replica.proofs.Changes.{one_changes}
@@ -42,4 +44,17 @@ returns-in_err-meet-clause-failure c =
     rw (p.1, p.2) (by_either _ _ _ _ (λ some. inl some) c.in_err-meet.ensures.failure)
 
 pub returns-then-is_new-clause-failure : goal.returns-then-is_new-clause-failure
-returns-then-is_new-clause-failure c = all_with_reason _ _ c.plan_all.result (inr c.if-is_new.true) c.plan_all.ensures.failure
+returns-then-is_new-clause-failure c =
+    let s = c.args.tenant.now in
+    let m = c.args.moment in
+    let k = c.args.config.now in
+    let sets = keys_of c.args.came.items in
+    let plan = plan_of s c.args.agenda.now in
+    all_by_either _ _ _ c.plan_all.result
+    (λ (some : 0 < length (plan_of s c.meet.new.agenda).grouped.alerts).
+    either k m sets plan (subst (λ (p : Plan). 0 < length p.grouped.alerts) (own s _ _ _ (c.in_ok-meet.ensures.plans s)) some))
+    c.plan_all.ensures.failure
+  where
+    either : (k : Configuration) (m : ℕ) (sets : List (List Label)) (plan : Plan) → 0 < length (met k m sets plan.grouped.alerts) →
+        (0 < length (unknown_of m sets plan.grouped.alerts)) ⊎ ((c.args.is_new ≡ true) × (0 < length plan.grouped.alerts))
+    either k m sets plan some = elim (met_some k m sets plan.grouped.alerts some) [ inl new ↦ inl new | inr old ↦ inr (c.if-is_new.true, old) ]

@@ -1,12 +1,12 @@
-use Rattle.std.proofs.Common.{ℕ, List, ap, ◌∙◌}
+use Rattle.std.proofs.Common.{◌<◌, ℕ, List, length, ap, subst, ◌∙◌}
+use Rattle.std.proofs.lemmas.List.{length-map}
 use Rattle.std.proofs.lemmas.Result.{err_from_is_err_and}
 use Rattle.am_labels.specs.declared.Label.{Label}
-use Rattle.am_muting.proofs.Failures.{unanswered_by}
 use Rattle.am_planning.specs.Planning.{paces_of, planned_alerts}
-use Rattle.am_route.specs.Asked.{route_matchers}
 use Rattle.am_agenda.specs.Plan.{Plan, rebuilt}
 use Rattle.am_agenda.specs.Planned.{plan_of}
 use Rattle.am_replica.specs.Plans.{planned_by, sinces_in}
+use Rattle.am_replica.proofs.Accepted.{by_either}
 use Rattle.am_replica.proofs.ByRoutes.{ordered_planned}
 use Rattle.am_replica.proofs.Coming.{Alerts}
 use Rattle.am_replica.proofs.Locals.{other, own}
@@ -16,7 +16,9 @@ use Rattle.am_replica.proofs.accepting.plan_all.Goals as goal
 pub returns-in_err-planned-clause-failure : goal.returns-in_err-planned-clause-failure
 returns-in_err-planned-clause-failure c =
     let p = err_from_is_err_and c.from_residual-in_err-planned.result c.from_residual-in_err-planned.ensures.1 in
-    rw (p.1, p.2) (unanswered_by (route_matchers c.args.config.now.routes) _ _ _ _ (λ text there. there) c.in_err-planned.ensures.failure)
+    rw (p.1, p.2)
+    (by_either _ _ _ _ (λ (some : 0 < length c.in_ok-sinces.sinces.items). subst (λ n. 0 < n) (ap length c.in_ok-sinces.ensures.sinces ∙ length-map (plan_of c.args.tenant.now c.args.agenda.now).grouped.alerts _) some)
+    c.in_err-planned.ensures.failure)
 
 pub rebuild-requires : goal.rebuild-requires
 rebuild-requires c = rw c.in_ok-planned.ensures.planned (ordered_planned c.args.config.now c.in_ok-sinces.sinces.items c.in_ok-sinces.ensures.rising)

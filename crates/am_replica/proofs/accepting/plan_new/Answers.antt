@@ -1,7 +1,5 @@
-use Rattle.std.proofs.Common.{◌≡◌, ◌==◌, ◌<◌, ◌∷◌, ◌++◌, [], ℕ, Bool, true, false, List, IfSome, length, refl, sym, ap, ◌∙◌, subst, arith}
+use Rattle.std.proofs.Common.{◌≡◌, ◌∷◌, ◌++◌, [], List, IfSome, sym, ap, ◌∙◌, subst}
 use Rattle.std.specs.Map.{lookup}
-use Rattle.std.proofs.lemmas.Bool.Decides.{nat_tests}
-use Rattle.std.proofs.lemmas.List.{nil_from_length}
 use Rattle.std.proofs.lemmas.Iterator.Adapters.{YieldsList-from_vec}
 use Rattle.std.proofs.lemmas.Iterator.Consumers.{YieldsList-turn}
 use Rattle.std.proofs.lemmas.Result.{err_from_is_err_and}
@@ -9,12 +7,8 @@ use Rattle.am_labels.specs.declared.Label.{Label}
 use Rattle.am_members.specs.declared.known.Known.{Known}
 use Rattle.am_members.specs.Grouped.{put_all}
 use Rattle.am_members.specs.Names.{is_set}
-use Rattle.am_muting.proofs.Failures.{unanswered_by}
-use Rattle.am_planning.specs.Planning.{planned_alerts}
-use Rattle.am_route.specs.Asked.{route_matchers}
 use Rattle.am_agenda.specs.Plan.{Plan, with_alert, with_alerts}
 use Rattle.am_agenda.specs.Planned.{plan_of}
-use Rattle.am_replica.proofs.Accepted.{with_reason}
 use Rattle.am_replica.proofs.ByRoutes.{by_more, next_by, next_may, put_more}
 use Rattle.am_replica.proofs.Coming.{Alerts}
 use Rattle.am_replica.proofs.Locals.{other, own}
@@ -56,27 +50,7 @@ loop-labels-preserved c =
           (next_by c.args.config.now c.args.unknown.items plan.grouped.alerts all c.in_ok-planned.ensures.planned c.requires ys p turn.0 turn.1);
     }
 
-some : (xs : List (List Label × ℕ)) (n : ℕ) (b : Bool) → n ≡ length xs → b ≡ (n == 0) → b ≡ false → 0 < length xs
-some xs n b long is filled = grind (arith, nat_tests)
-
 pub returns-in_err-planned-clause-failure : goal.returns-in_err-planned-clause-failure
 returns-in_err-planned-clause-failure c =
     let p = err_from_is_err_and c.from_residual.result c.from_residual.ensures.1 in
-    rw (p.1, p.2) (with_reason _ _ _ (some c.args.unknown.items _ c.is_empty.result c.args.unknown.ok.0 c.is_empty.ensures c.if-is_empty.false)
-    (unanswered_by (route_matchers c.args.config.now.routes) _ _ _ _ (λ text there. there) c.in_err-planned.ensures.failure))
-
-none : (xs : List (List Label × ℕ)) (n : ℕ) (b : Bool) → n ≡ length xs → b ≡ (n == 0) → b ≡ true → xs ≡ []
-none xs n b long is empty =
-    let zero : n ≡ 0 = grind (arith, nat_tests) in
-    nil_from_length xs (sym long ∙ zero)
-
-pub returns-then-is_empty-clause-plans : goal.returns-then-is_empty-clause-plans
-unfolding planned_alerts
-returns-then-is_empty-clause-plans c =
-    let s = c.args.tenant.now in
-    let k = c.args.config.now in
-    let plan = plan_of s c.args.agenda.now in
-    let unknown = c.args.unknown.items in
-    one_changes s (λ (q : Plan). with_alerts (put_all (planned_alerts k unknown) q.grouped.alerts) q) (λ t. plan_of t c.args.agenda.now) (λ t. plan_of t c.args.agenda.now)
-    (ap (λ us. with_alerts (put_all (planned_alerts k us) plan.grouped.alerts) plan) (sym (none unknown _ c.is_empty.result c.args.unknown.ok.0 c.is_empty.ensures c.if-is_empty.true)))
-    (λ t apart. refl)
+    rw (p.1, p.2) c.in_err-planned.ensures.failure

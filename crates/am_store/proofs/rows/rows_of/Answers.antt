@@ -9,6 +9,7 @@ use Rattle.am_store.proofs.Failing.{given_fails}
 use Rattle.am_store.specs.Reading.{GivesValue, KeysRise, config_key, silence_key}
 use Rattle.am_store.specs.Rows.{config_in, silence_in}
 use Rattle.am_store.specs.Stored.{stored_items}
+use Rattle.am_store.proofs.Shelves.{rows_whole}
 use Rattle.am_store.proofs.rows.rows_of.Goals as goal
 
 pub returns-clause-rows : goal.returns-clause-rows
@@ -42,3 +43,11 @@ returns-in_err-push_silences-clause-fails g c clean store =
     let read = c.in_err-push_silences.ensures.given (rw c.deref-2.ensures.value order.are_silences) (rw c.deref-2.ensures.value rise) in
     let given : GivesValue c.from_residual-in_err-push_silences.result = search rules in
     given_fails (state g.S.Store c.args.conn.now) (state g.S.Store c.found.new.conn) c.from_residual-in_err-push_silences.result given
+
+pub returns-clause-stored : goal.returns-clause-stored
+returns-clause-stored g c =
+    let cs = c.in_ok-configs.configs.items in
+    let ss = c.in_ok-configs.silences.items in
+    let one : map key_of c.push_configs.new.items.items ≡ map config_key cs =
+    (rw c.deref.ensures.value at c.in_ok-push_configs.ensures.keys) ∙ ap (λ xs. map key_of xs ++ map config_key cs) c.new-items.ensures.items in
+    rows_whole _ cs ss ((rw c.deref-2.ensures.value at c.in_ok-push_silences.ensures.keys) ∙ ap (λ ks. ks ++ map silence_key ss) one)

@@ -1,4 +1,4 @@
-use Rattle.std.proofs.Common.{rules, subst, sym}
+use Rattle.std.proofs.Common.{rules, subst, sym, ◌∙◌}
 use Rattle.sqlite.specs.Held.{state}
 use Rattle.am_store.specs.Rows.{IsStore}
 use Rattle.am_store.specs.Texts.{select_config_tenants, select_silence_tenants}
@@ -46,6 +46,15 @@ returns-clause-names g c clean store =
     let same_db = one.0.0.now_is in
     let two = silences_named mid new (subst IsStore (sym same_db) store) c.in_ok-silences.silences.items (c.in_ok-silences.ensures.shown clean) in
     both_named old.now mid.now same_db c.in_ok-configs.configs.items c.in_ok-silences.silences.items one.1 two.1
+
+pub returns-clause-same : goal.returns-clause-same
+returns-clause-same g c clean store =
+    let old = state g.S.Store c.args.conn.now in
+    let mid = state g.S.Store c.rows.new.conn in
+    let new = state g.S.Store c.rows-2.new.conn in
+    let one = configs_named old mid store c.in_ok-configs.configs.items (c.in_ok-configs.ensures.shown (c.rows-2.ensures.clean clean)) in
+    let two = silences_named mid new (subst IsStore (sym one.0.0.now_is) store) c.in_ok-silences.silences.items (c.in_ok-silences.ensures.shown clean) in
+    two.0.0.now_is ∙ one.0.0.now_is
 
 pub returns-clause-named : goal.returns-clause-named
 returns-clause-named g c clean store =

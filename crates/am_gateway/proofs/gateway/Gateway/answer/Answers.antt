@@ -1,9 +1,9 @@
-use Rattle.std.proofs.Common.{◌∙◌, ap, inr, sym}
+use Rattle.std.proofs.Common.{◌∙◌, inr, sym}
 use Rattle.am_gateway.proofs.HearingLemmas.{handles, lets_before, replies_still}
 use Rattle.am_gateway.proofs.gateway.Gateway.answer.Goals as goal
 
 pub returns-in-Err-clause-err : goal.returns-in-Err-clause-err
-returns-in-Err-clause-err c = record {
+returns-in-Err-clause-err g c = record {
   reached = inr (_, handles _ _ _ _ c.step.ensures.step c.sort.ensures.forgets, c.in-Err.ensures.err);
   is_tick_due = c.sort.ensures.is_tick_due;
   under_way = c.sort.ensures.under_way;
@@ -15,7 +15,7 @@ returns-in-Err-clause-err c = record {
 }
 
 pub returns-in-Ok-None-clause-verdict : goal.returns-in-Ok-None-clause-verdict
-returns-in-Ok-None-clause-verdict c = (
+returns-in-Ok-None-clause-verdict g c = (
   record {
     outs = _;
     handles = handles _ _ _ _ c.step.ensures.step c.sort.ensures.forgets;
@@ -32,7 +32,7 @@ returns-in-Ok-None-clause-verdict c = (
 )
 
 pub returns-in-Ok-Some-clause-verdict : goal.returns-in-Ok-Some-clause-verdict
-returns-in-Ok-Some-clause-verdict c = rw c.into_vec.ensures (
+returns-in-Ok-Some-clause-verdict g c = rw c.into_vec.ensures (
   replies_still _ _ _ c.args.self.now c.sort.new.self c.note.new.self c.note.ensures.rest (record {
     outs = _;
     handles = handles _ _ _ _ c.step.ensures.step c.sort.ensures.forgets;

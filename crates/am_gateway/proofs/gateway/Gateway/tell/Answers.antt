@@ -3,7 +3,7 @@ use Rattle.am_gateway.proofs.gateway.Gateway.tell.Goals as goal
 use Rattle.am_gateway.proofs.gateway.Gateway.tell.Goals.{in-Ok, in-Err}
 
 pub returns-clause-told : goal.returns-clause-told
-returns-clause-told c = record {
+returns-clause-told g c = record {
   outs = _;
   handles = handles _ _ _ _ c.step.ensures.step c.sort.ensures.forgets;
   queues = elim c.match-sort.branch [ in-Ok w ↦ rw w.result-is w.in-Ok.ensures.queued | in-Err w ↦ rw w.result-is tt ];

@@ -32,7 +32,7 @@ returns-then-not-goes_on g c =
     let happens : Happens p (event.Bytes c.args.connection p.moment piece) c.happen.new.self prints.0 =
     rw (← c.in_ok-read.ensures) prints.2 in
     let ends : goes_on c.args.connection p (event.Bytes c.args.connection p.moment piece) c.happen.new.self ≡ false =
-    ap (λ b. b && not (is_answered c.args.connection (put_out c.happen.new.self.world)))
+    ap (λ b. b && not (is_answered c.args.connection (put_out c.happen.new.self.world.state)))
     (sym c.in_ok-is_taken.ensures.taken) ∙ sym c.if-not-goes_on.ensures in (
       known.done ++ prints.0,
       grows_more _ _ _ known.done prints.0 known.grows prints.1,
@@ -53,7 +53,7 @@ loop-piece-preserved-else-not-goes_on g c =
     let happens : Happens p (event.Bytes c.args.connection p.moment piece) c.happen.new.self prints.0 =
     rw (← c.in_ok-read.ensures) prints.2 in
     let goes : goes_on c.args.connection p (event.Bytes c.args.connection p.moment piece) c.happen.new.self ≡ true =
-    ap (λ b. b && not (is_answered c.args.connection (put_out c.happen.new.self.world)))
+    ap (λ b. b && not (is_answered c.args.connection (put_out c.happen.new.self.world.state)))
     (sym c.in_ok-is_taken.ensures.taken) ∙ sym c.if-not-goes_on.ensures in
     record {
       can_next = omega (arith, size);

@@ -86,4 +86,4 @@ returns-in-Err-clause-fault c =
     let some : room ≡ true = sym c.in_ok-take.ensures.answer ∙ search rules in
     stops_for (notified c.args.here.now c.args.notice (local_of c.args.tenant.now c.args.self.now)) c.in-Err.fault
     (λ counts. ap (λ (x : Reaction). x.fits) (started room c.args.notice _ some) ∙ passes plan.desk.used (c.in-Err.ensures.fault.0 (ap Err counts)))
-    (λ never. c.in-Err.ensures.no_pattern (ap Err never))
+    (λ never. c.in-Err.ensures.no_pattern (ap Err never)) (λ never. c.in-Err.ensures.no_store (ap Err never))

@@ -1,10 +1,21 @@
-use Rattle.std.proofs.Common.{◌≡◌, ℕ, List, length}
+use Rattle.std.proofs.Common.{◌≡◌, ◌<◌, ℕ, Bool, true, List, length}
+use Rattle.std.specs.List.{list_any}
+use Rattle.am_book.specs.Book.{items_of}
+use Rattle.am_item.specs.declared.fault.Fault.TheVariants.{StoreRefused}
+use Rattle.am_item.specs.declared.item.Item.{Item}
+use Rattle.am_rows.specs.Rows.{stored_in, without_silences}
 use Rattle.am_replica.specs.Held.{local_of}
 use Rattle.am_replica.specs.Retiring.{retired}
+use Rattle.am_replica.specs.Ticks.{StopsRetiring}
 use Rattle.am_replica.proofs.parts.Parts.retire.Given as goal
 
 abbrev pub invariant-loop-tenant : goal.invariant-loop-tenant
-invariant-loop-tenant l = (t : List ℕ) → retired l.moment (local_of t l.self) ≡ retired l.moment (local_of t l.fn.self)
+invariant-loop-tenant g l = record {
+  left : (t : List ℕ) → retired l.moment (local_of t l.self) ≡ retired l.moment (local_of t l.fn.self);
+  within : (test : Item → Bool) (t : List ℕ) → list_any test (items_of t l.self.holdings) ≡ true → list_any test (items_of t l.fn.self.holdings) ≡ true;
+  goes : (t : List ℕ) → without_silences l.silences.items t (stored_in (items_of t l.fn.self.holdings)) ≡ stored_in (items_of t l.self.holdings);
+  some : 0 < length l.silences.items → StopsRetiring l.moment (λ t. local_of t l.fn.self) StoreRefused;
+}
 
 abbrev pub decreases-loop-tenant : goal.decreases-loop-tenant
-decreases-loop-tenant l = length l.self.holdings
+decreases-loop-tenant g l = length l.self.holdings

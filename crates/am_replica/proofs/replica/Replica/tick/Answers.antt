@@ -6,9 +6,12 @@ use Rattle.am_replica.proofs.Ticks.{all_keep}
 use Rattle.am_replica.proofs.replica.Replica.tick.Goals as goal
 
 pub invariant_of-self : goal.invariant_of-self
-invariant_of-self c =
+invariant_of-self g c =
     all_keep (here_for c.args.instance c.args.incarnation c.args.moment c.args.limits.now) (λ t. local_of t c.self.inside.parts) (λ t. local_of t c.tick.new.self) c.in-Ok.all.items
     c.in-Ok.ensures.ticks c.self.invariant
 
 pub invariant_of-self-in-Err : goal.invariant_of-self-in-Err
-invariant_of-self-in-Err c = all_blank c.clear.new.self blank_planned c.clear.ensures
+invariant_of-self-in-Err g c = all_blank c.clear.new.self blank_planned c.clear.ensures
+
+pub returns-in-Ok-clause-stores : goal.returns-in-Ok-clause-stores
+returns-in-Ok-clause-stores g c = rw (← c.self.view_is) c.in-Ok.ensures.stores

@@ -8,26 +8,26 @@ use Rattle.am_world.proofs.instance.Instance.feed.Goals as goal
 
 pub returns-in-Waits-clause-brings : goal.returns-in-Waits-clause-brings
 unfolding local_in
-returns-in-Waits-clause-brings c before here =
+returns-in-Waits-clause-brings g c before here =
     rw (← c.in_ok-feed.ensures.verdict before here, c.in-Waits.is) (brings_waits _ _ _ _ _ _ (λ t. refl) refl)
 
 pub returns-in_ok-push-in-Refused-clause-brings : goal.returns-in_ok-push-in-Refused-clause-brings
 unfolding local_in
-returns-in_ok-push-in-Refused-clause-brings c before here =
+returns-in_ok-push-in-Refused-clause-brings g c before here =
     rw (← c.in_ok-feed.ensures.verdict before here, c.in-Refused.is) (brings_refused c.in-Refused.reason _ _ _ _ _ _ _
     (c.in_ok-push-in-Refused.ensures.items ∙ ap (λ bytes. c.args.outputs.now.items ++ Reply c.args.connection bytes ∷ []) c.in_ok-bytes-in-Refused.ensures)
     (λ t. refl) refl)
 
 pub returns-in_ok-push-in-Ready-clause-brings : goal.returns-in_ok-push-in-Ready-clause-brings
 unfolding local_in
-returns-in_ok-push-in-Ready-clause-brings c before here =
+returns-in_ok-push-in-Ready-clause-brings g c before here =
     rw (← c.in_ok-feed.ensures.verdict before here, c.in-Ready.is) (brings_ready _ _ _ _ _ _ _
     (c.in_ok-push-in-Ready.ensures.items ∙ ap (λ bytes. c.args.outputs.now.items ++ Reply c.args.connection bytes ∷ []) c.in_ok-bytes-in-Ready.ensures)
     (λ t. refl) refl)
 
 pub returns-in-Request-clause-brings : goal.returns-in-Request-clause-brings
 unfolding local_in
-returns-in-Request-clause-brings c = on_ok_weaker c.answer.result (λ brings before here.
+returns-in-Request-clause-brings g c = on_ok_weaker c.answer.result (λ brings before here.
     rw (← c.in_ok-feed.ensures.verdict before here, c.in-Request.is)
     (let b = brings (λ t. terms_of c.args.service_key.now c.args.limits.now t)
     (ap (λ limits. terms_with c.args.service_key.now limits c.in-Request.request.tenant) (sym c.of-limits.ensures)) in
@@ -35,5 +35,21 @@ returns-in-Request-clause-brings c = on_ok_weaker c.answer.result (λ brings bef
 
 pub returns-in-Request-clause-cause : goal.returns-in-Request-clause-cause
 unfolding local_in
-returns-in-Request-clause-cause c = IfErr-weaker c.answer.result _ _ (λ fault cause before here.
+returns-in-Request-clause-cause g c = IfErr-weaker c.answer.result _ _ (λ fault cause before here.
     rw (← c.in_ok-feed.ensures.verdict before here, c.in-Request.is, ← c.of-limits.ensures) cause) c.answer.ensures.cause
+
+pub answer-requires-clause-backed : goal.answer-requires-clause-backed
+unfolding local_in
+answer-requires-clause-backed g c = record { opens = c.requires.backed.opens; stores = c.requires.backed.stores }
+
+pub returns-in-Waits-clause-backed : goal.returns-in-Waits-clause-backed
+unfolding local_in
+returns-in-Waits-clause-backed g c = record { opens = c.requires.backed.opens; stores = c.requires.backed.stores }
+
+pub returns-in_ok-push-in-Refused-clause-backed : goal.returns-in_ok-push-in-Refused-clause-backed
+unfolding local_in
+returns-in_ok-push-in-Refused-clause-backed g c = record { opens = c.requires.backed.opens; stores = c.requires.backed.stores }
+
+pub returns-in_ok-push-in-Ready-clause-backed : goal.returns-in_ok-push-in-Ready-clause-backed
+unfolding local_in
+returns-in_ok-push-in-Ready-clause-backed g c = record { opens = c.requires.backed.opens; stores = c.requires.backed.stores }

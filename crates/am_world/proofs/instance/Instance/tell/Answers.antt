@@ -5,7 +5,7 @@ use Rattle.am_world.proofs.instance.Instance.tell.Goals as goal
 
 pub returns-clause-told : goal.returns-clause-told
 unfolding local_in
-returns-clause-told c = (
+returns-clause-told g c = (
   c.in_ok-all.all.items,
   c.in_ok-append.ensures.items ∙ ap (λ os. c.args.outputs.now.items ++ os) c.in_ok-notices.ensures,
   c.in_ok-all.ensures.ticks,
@@ -13,6 +13,16 @@ returns-clause-told c = (
 
 pub returns-in_err-all-clause-cause : goal.returns-in_err-all-clause-cause
 unfolding local_in
-returns-in_err-all-clause-cause c =
+returns-in_err-all-clause-cause g c =
     let p = err_from_is_err_and c.from_residual.result c.from_residual.ensures.1 in
     rw (p.1, p.2) c.in_err-all.ensures.fault
+
+pub tick-requires : goal.tick-requires
+tick-requires g c = c.requires.backed.opens c.requires.up
+
+pub returns-clause-backed : goal.returns-clause-backed
+unfolding local_in
+returns-clause-backed g c = record {
+  opens = λ up. c.in_ok-all.ensures.«open»;
+  stores = λ up clean. c.in_ok-all.ensures.stores clean (c.requires.backed.stores c.requires.up (c.tick.ensures.clean clean));
+}

@@ -1,16 +1,17 @@
+use Rattle.std.proofs.Common.{sym, ◌∙◌}
 use Rattle.am_world.proofs.Ticking.{ticks_idle, ticks_told}
 use Rattle.am_world.proofs.instance.Instance.tick.Goals as goal
 
 pub returns-then-not-self-clause-ends : goal.returns-then-not-self-clause-ends
-returns-then-not-self-clause-ends c = ticks_idle c.args.moment c.args.limits.now c.args.self.now c.args.outputs.now.items c.if-not-self.true
+returns-then-not-self-clause-ends g c = ticks_idle c.args.moment c.args.limits.now c.args.self.now c.args.outputs.now.items c.if-not-self.true
 
 pub returns-in-Ok-clause-ends : goal.returns-in-Ok-clause-ends
-returns-in-Ok-clause-ends c =
+returns-in-Ok-clause-ends g c =
     ticks_told c.args.moment c.args.limits.now c.args.self.now _ c.args.outputs.now.items _ c.if-not-self.false c.in-Ok.ensures.told
     c.tell.ensures.front c.in-Ok.ensures.stays c.tell.ensures.up
 
 pub returns-in-Err-clause-ends : goal.returns-in-Err-clause-ends
-returns-in-Err-clause-ends c = record {
+returns-in-Err-clause-ends g c = record {
   worked = c.if-not-self.false;
   down = c.stop.ensures.up;
   unread = c.stop.ensures.unread;
@@ -19,4 +20,13 @@ returns-in-Err-clause-ends c = record {
   told = c.stop.ensures.cause;
   cause = rw c.stop.ensures.refused c.in-Err.ensures.cause;
   silent = c.in-Err.ensures.silent;
+}
+
+pub tell-requires : goal.tell-requires
+tell-requires g c = record { up = c.if-not-self.false; backed = c.requires }
+
+pub returns-in-Err-clause-backed : goal.returns-in-Err-clause-backed
+returns-in-Err-clause-backed g c = record {
+  opens = λ up. absurd (let clash = sym up ∙ c.stop.ensures.up in cc);
+  stores = λ up clean. absurd (let clash = sym up ∙ c.stop.ensures.up in cc);
 }

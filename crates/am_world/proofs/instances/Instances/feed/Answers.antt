@@ -1,34 +1,54 @@
 use Rattle.std.proofs.Common.{◌≡◌, ◌∙◌, ◌++◌, length, rules, sym, vec_len}
 use Rattle.std.proofs.lemmas.Result.{IfErr-weaker}
+use Rattle.am_world.proofs.Backed.{backed_of, backed_ok}
 use Rattle.am_world.proofs.Working.{bytes_cause_here}
 use Rattle.am_world.specs.Reaction.{terms_of}
-use Rattle.am_world.proofs.InstancesLemmas.{at_number, bytes_exist, both_ok, bytes_here, changed_at, incarnation_here, number_of, refused_grown, takes_here, within}
+use Rattle.am_world.proofs.InstancesLemmas.{at_number, bytes_exist, both_ok, bytes_here, changed_at, incarnation_here, number_of, refused_grown, takes_here, up_here, within}
 use Rattle.am_world.proofs.instances.Instances.feed.Goals as goal
 
 pub place-requires : goal.place-requires
-place-requires c = bytes_exist c.args.connection c.args.number _ c.self.invariant (rw (← c.self.view_is) at c.requires)
+place-requires g c = bytes_exist c.args.connection c.args.number _ c.self.invariant (rw (← c.self.view_is) at c.requires.reads)
 
 pub index_mut-requires : goal.index_mut-requires
-index_mut-requires c =
-    let exists = bytes_exist c.args.connection c.args.number _ c.self.invariant (rw (← c.self.view_is) at c.requires) in
+index_mut-requires g c =
+    let exists = bytes_exist c.args.connection c.args.number _ c.self.invariant (rw (← c.self.view_is) at c.requires.reads) in
     let size : vec_len c.self.inside.list ≡ length c.self.inside.list.items = search rules in
     rw size (within c.self.inside.list.items c.place.result c.args.number c.self.invariant c.place.ensures exists)
 
-pub feed-requires : goal.feed-requires
-feed-requires c =
-    let exists = bytes_exist c.args.connection c.args.number _ c.self.invariant (rw (← c.self.view_is) at c.requires) in
+pub feed-requires-clause-reads : goal.feed-requires-clause-reads
+feed-requires-clause-reads g c =
+    let exists = bytes_exist c.args.connection c.args.number _ c.self.invariant (rw (← c.self.view_is) at c.requires.reads) in
     let here = at_number c.self.inside.list.items c.place.result c.args.number _ c.self.invariant c.place.ensures exists c.index_mut.ensures.value in
-    rw (← bytes_here c.args.connection c.args.number _ _ here) (rw (← c.self.view_is) at c.requires)
+    rw (← bytes_here c.args.connection c.args.number _ _ here) (rw (← c.self.view_is) at c.requires.reads)
+
+pub feed-requires-clause-up : goal.feed-requires-clause-up
+feed-requires-clause-up g c =
+    let exists = bytes_exist c.args.connection c.args.number _ c.self.invariant (rw (← c.self.view_is) at c.requires.reads) in
+    let here = at_number c.self.inside.list.items c.place.result c.args.number _ c.self.invariant c.place.ensures exists c.index_mut.ensures.value in
+    rw (← up_here c.args.number _ _ here) (rw (← c.self.view_is) at c.requires.up)
+
+pub feed-requires-clause-backed : goal.feed-requires-clause-backed
+feed-requires-clause-backed g c =
+    let exists = bytes_exist c.args.connection c.args.number _ c.self.invariant (rw (← c.self.view_is) at c.requires.reads) in
+    let here = at_number c.self.inside.list.items c.place.result c.args.number _ c.self.invariant c.place.ensures exists c.index_mut.ensures.value in
+    backed_of c.args.number _ _ _ here (rw (← c.self.view_is) at c.requires.backed)
+
+pub returns-clause-backed : goal.returns-clause-backed
+returns-clause-backed g c =
+    let exists = bytes_exist c.args.connection c.args.number _ c.self.invariant (rw (← c.self.view_is) at c.requires.reads) in
+    let here = at_number c.self.inside.list.items c.place.result c.args.number _ c.self.invariant c.place.ensures exists c.index_mut.ensures.value in
+    let change = changed_at c.self.inside.list.items c.place.result c.args.number c.feed.new.self c.self.invariant c.place.ensures exists (c.feed.ensures.number ∙ number_of c.args.number _ _ here) in
+    backed_ok c.feed.result c.args.number _ c.feed.new.self _ change.here c.feed.ensures.backed
 
 pub invariant_of-self : goal.invariant_of-self
-invariant_of-self c =
-    let exists = bytes_exist c.args.connection c.args.number _ c.self.invariant (rw (← c.self.view_is) at c.requires) in
+invariant_of-self g c =
+    let exists = bytes_exist c.args.connection c.args.number _ c.self.invariant (rw (← c.self.view_is) at c.requires.reads) in
     let here = at_number c.self.inside.list.items c.place.result c.args.number _ c.self.invariant c.place.ensures exists c.index_mut.ensures.value in
     (changed_at c.self.inside.list.items c.place.result c.args.number c.feed.new.self c.self.invariant c.place.ensures exists (c.feed.ensures.number ∙ number_of c.args.number _ _ here)).numbered
 
 pub returns-clause-takes : goal.returns-clause-takes
-returns-clause-takes c =
-    let exists = bytes_exist c.args.connection c.args.number _ c.self.invariant (rw (← c.self.view_is) at c.requires) in
+returns-clause-takes g c =
+    let exists = bytes_exist c.args.connection c.args.number _ c.self.invariant (rw (← c.self.view_is) at c.requires.reads) in
     let here = at_number c.self.inside.list.items c.place.result c.args.number _ c.self.invariant c.place.ensures exists c.index_mut.ensures.value in
     let change = changed_at c.self.inside.list.items c.place.result c.args.number c.feed.new.self c.self.invariant c.place.ensures exists (c.feed.ensures.number ∙ number_of c.args.number _ _ here) in
     rw (← c.self.view_is) (both_ok c.feed.result (λ brings front before is.
@@ -37,15 +57,15 @@ returns-clause-takes c =
     (brings before here_bytes) (front before here_bytes) c.feed.ensures.up c.feed.ensures.incarnation) c.feed.ensures.brings c.feed.ensures.front)
 
 pub returns-clause-refused : goal.returns-clause-refused
-returns-clause-refused c =
-    let exists = bytes_exist c.args.connection c.args.number _ c.self.invariant (rw (← c.self.view_is) at c.requires) in
+returns-clause-refused g c =
+    let exists = bytes_exist c.args.connection c.args.number _ c.self.invariant (rw (← c.self.view_is) at c.requires.reads) in
     let here = at_number c.self.inside.list.items c.place.result c.args.number _ c.self.invariant c.place.ensures exists c.index_mut.ensures.value in
     let change = changed_at c.self.inside.list.items c.place.result c.args.number c.feed.new.self c.self.invariant c.place.ensures exists (c.feed.ensures.number ∙ number_of c.args.number _ _ here) in
     rw (← c.self.view_is) (refused_grown c.args.number _ _ _ _ here change c.feed.ensures.refused)
 
 pub returns-clause-cause : goal.returns-clause-cause
-returns-clause-cause c =
-    let exists = bytes_exist c.args.connection c.args.number _ c.self.invariant (rw (← c.self.view_is) at c.requires) in
+returns-clause-cause g c =
+    let exists = bytes_exist c.args.connection c.args.number _ c.self.invariant (rw (← c.self.view_is) at c.requires.reads) in
     let here = at_number c.self.inside.list.items c.place.result c.args.number _ c.self.invariant c.place.ensures exists c.index_mut.ensures.value in
     let change = changed_at c.self.inside.list.items c.place.result c.args.number c.feed.new.self c.self.invariant c.place.ensures exists (c.feed.ensures.number ∙ number_of c.args.number _ _ here) in
     rw (← c.self.view_is) (IfErr-weaker c.feed.result _ _ (λ fault cause before is.
@@ -53,15 +73,15 @@ returns-clause-cause c =
     (cause before (sym (bytes_here c.args.connection c.args.number _ _ here) ∙ is))) c.feed.ensures.cause)
 
 pub returns-clause-others : goal.returns-clause-others
-returns-clause-others c =
-    let exists = bytes_exist c.args.connection c.args.number _ c.self.invariant (rw (← c.self.view_is) at c.requires) in
+returns-clause-others g c =
+    let exists = bytes_exist c.args.connection c.args.number _ c.self.invariant (rw (← c.self.view_is) at c.requires.reads) in
     let here = at_number c.self.inside.list.items c.place.result c.args.number _ c.self.invariant c.place.ensures exists c.index_mut.ensures.value in
     rw (← c.self.view_is)
     (changed_at c.self.inside.list.items c.place.result c.args.number c.feed.new.self c.self.invariant c.place.ensures exists (c.feed.ensures.number ∙ number_of c.args.number _ _ here)).others
 
 pub returns-clause-incarnation : goal.returns-clause-incarnation
-returns-clause-incarnation c =
-    let exists = bytes_exist c.args.connection c.args.number _ c.self.invariant (rw (← c.self.view_is) at c.requires) in
+returns-clause-incarnation g c =
+    let exists = bytes_exist c.args.connection c.args.number _ c.self.invariant (rw (← c.self.view_is) at c.requires.reads) in
     let here = at_number c.self.inside.list.items c.place.result c.args.number _ c.self.invariant c.place.ensures exists c.index_mut.ensures.value in
     let change = changed_at c.self.inside.list.items c.place.result c.args.number c.feed.new.self c.self.invariant c.place.ensures exists (c.feed.ensures.number ∙ number_of c.args.number _ _ here) in
     rw (← c.self.view_is)

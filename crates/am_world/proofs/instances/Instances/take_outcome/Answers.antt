@@ -1,6 +1,7 @@
 use Rattle.std.proofs.Common.{◌≡◌, ◌∙◌, length, vec_len, rules}
 use Rattle.std.proofs.lemmas.Result.{IfErr-weaker, IfOk-weaker, on_ok_weaker}
 use Rattle.am_world.proofs.InstancesLemmas.{at_number, bytes_kept, changed_at, number_of, refused_kept, roster_kept, within}
+use Rattle.am_world.proofs.Backed.{stored_kept}
 use Rattle.am_world.proofs.Working.{outcome_cause_here, outcome_fits, outcome_here}
 use Rattle.am_world.proofs.instances.Instances.take_outcome.Goals as goal
 
@@ -21,6 +22,12 @@ returns-clause-local c =
     let change = changed_at c.self.inside.list.items c.place.result c.args.attempt.now.instance c.take_outcome.new.self c.self.invariant c.place.ensures c.requires (c.take_outcome.ensures.number ∙ number_of c.args.attempt.now.instance _ _ here) in
     rw (← c.self.view_is) (on_ok_weaker c.take_outcome.result (λ local terms same t.
     outcome_here c.args.attempt.now.instance c.args.moment terms _ _ _ _ _ _ _ t c.args.attempt.now.tenant here change (local terms same t)) c.take_outcome.ensures.local)
+
+pub returns-clause-stored : goal.returns-clause-stored
+returns-clause-stored c =
+    let here = at_number c.self.inside.list.items c.place.result c.args.attempt.now.instance _ c.self.invariant c.place.ensures c.requires c.index_mut.ensures.value in
+    let change = changed_at c.self.inside.list.items c.place.result c.args.attempt.now.instance c.take_outcome.new.self c.self.invariant c.place.ensures c.requires (c.take_outcome.ensures.number ∙ number_of c.args.attempt.now.instance _ _ here) in
+    rw (← c.self.view_is) (on_ok_weaker c.take_outcome.result (λ stored t i. stored_kept c.args.attempt.now.instance i t _ _ _ _ here change (stored t)) c.take_outcome.ensures.stored)
 
 pub returns-clause-fits : goal.returns-clause-fits
 returns-clause-fits c =

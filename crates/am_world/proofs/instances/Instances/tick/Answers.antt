@@ -1,4 +1,8 @@
-use Rattle.std.proofs.Common.{◌≤◌, arith, slice_index_or, take}
+use Rattle.std.proofs.Common.{◌≡◌, ◌∙◌, ◌+◌, ◌<◌, ◌≤◌, arith, get_or, length, map, slice_index_or, slice_set, suc, sym, take}
+use Rattle.std.proofs.lemmas.List.{length-map}
+use Rattle.std.proofs.lemmas.Option.{slice_get-get_or}
+use Rattle.am_world.specs.Shelves.{shelf_of}
+use Rattle.am_world.proofs.Shelved.{backed_at, cleaner_at, cleaner_then, number_exists, number_is, quiet_turn, shelf_here}
 use Rattle.std.proofs.lemmas.List.{take_more}
 use Rattle.am_setup.specs.Setup.{numbers}
 use Rattle.am_world.proofs.Working.{exists_up}
@@ -7,16 +11,43 @@ use Rattle.am_world.proofs.instances.Instances.tick.Goals.{then-not-tick_at, els
 use Rattle.am_world.proofs.instances.Instances.tick.Goals as goal
 
 pub loop-number-preserved : goal.loop-number-preserved
-loop-number-preserved c =
+loop-number-preserved g c =
     let i = c.loop-number.number-index in
     let more = turns_more c.args.moment c.args.limits.now (take i numbers) c.args.self.now c.loop-number.self c.args.outputs.now.items
     c.loop-number.outputs.items c.loop-number.faults (slice_index_or numbers i 0) c.tick_at.result c.tick_at.new.self
-    c.tick_at.new.outputs.items c.loop-number.invariant.0 c.tick_at.ensures in
+    c.tick_at.new.outputs.items c.loop-number.invariant.0 c.tick_at.ensures.turn in
     let few : c.loop-number.faults ≤ i = c.loop-number.invariant.1 in
+    let xs = c.loop-number.stores in
+    let f = λ (r : g.row.R.Denot). shelf_of (g.R.Rows.pairs r) (g.R.Rows.is_clean r) (g.R.Rows.is_open r) in
+    let n = slice_index_or numbers i 0 in
+    let size : length xs ≡ 8 = sym (length-map xs f) ∙ c.loop-number.invariant.2.size in
+    let index : i < 8 = c.loop-number-test.true in
+    let is : n ≡ i + 1 = number_is i index in
+    let less : c.place.result < length xs = omega arith in
+    let next : suc c.place.result ≡ n = omega arith in
+    let backed = backed_at f xs c.loop-number.self c.tick_at.new.self c.place.result n c.tick_at.new.store next c.loop-number.invariant.2 less c.tick_at.ensures.turn.others c.tick_at.ensures.backed
+    (quiet_turn n c.args.moment c.args.limits.now c.tick_at.result _ _ _ _ c.tick_at.ensures.turn.ends (c.loop-number.invariant.2.quiet n)) in
+    let x = get_or xs c.place.result c.index-stores-place.result in
+    let clean = cleaner_then (map f c.args.stores.now) (map f xs) (map f (slice_set xs c.place.result c.tick_at.new.store)) c.loop-number.invariant.3
+    (cleaner_at f xs c.place.result x c.tick_at.new.store less (slice_get-get_or xs c.place.result c.index-stores-place.result less) c.tick_at.ensures.clean) in
     elim c.if-not-tick_at.branch [
-      | then-not-tick_at w ↦ rw (take_more numbers i 0 c.loop-number-test.true, w.faults-is) (rw w.if-not-tick_at.true at more, omega arith)
-      | else-not-tick_at w ↦ rw (take_more numbers i 0 c.loop-number-test.true, w.faults-is) (rw w.if-not-tick_at.false at more, omega arith)
+      | then-not-tick_at w ↦ rw (take_more numbers i 0 c.loop-number-test.true, w.faults-is) (rw w.if-not-tick_at.true at more, omega arith, backed, clean)
+      | else-not-tick_at w ↦ rw (take_more numbers i 0 c.loop-number-test.true, w.faults-is) (rw w.if-not-tick_at.false at more, omega arith, backed, clean)
     ]
 
 pub returns-clause-exist : goal.returns-clause-exist
-returns-clause-exist c = exists_up c.args.self.now (rw c.self.view_is at c.self.invariant)
+returns-clause-exist g c = exists_up c.args.self.now (rw c.self.view_is at c.self.invariant)
+
+pub tick_at-requires-clause-backed : goal.tick_at-requires-clause-backed
+tick_at-requires-clause-backed g c =
+    let i = c.loop-number.number-index in
+    let xs = c.loop-number.stores in
+    let f = λ (r : g.row.R.Denot). shelf_of (g.R.Rows.pairs r) (g.R.Rows.is_clean r) (g.R.Rows.is_open r) in
+    let n = slice_index_or numbers i 0 in
+    let size : length xs ≡ 8 = sym (length-map xs f) ∙ c.loop-number.invariant.2.size in
+    let index : i < 8 = c.loop-number-test.true in
+    let is : n ≡ i + 1 = number_is i index in
+    let less : c.place.result < length xs = omega arith in
+    let next : suc c.place.result ≡ n = omega arith in
+    let x = get_or xs c.place.result c.index-stores-place.result in
+    shelf_here f xs c.loop-number.self c.place.result n x next (number_exists i index) c.loop-number.invariant.2 (slice_get-get_or xs c.place.result c.index-stores-place.result less)

@@ -1,0 +1,186 @@
+//! What the stores keep of a scenario, and what comes of a call that one refuses.
+
+use super::links::Direct;
+use super::{ended, opened, play_on, stores};
+use am_expect::{equal, holds};
+use am_play::lines::LineReader;
+use am_play::writing::WholeWriter;
+use am_rows::StoreRefusal;
+use am_test_store::TestStore;
+use am_world::OpenRefusal;
+use std::alloc::Global;
+use std::test::Fail;
+
+// Twelve requests of two tenants. At the second tick the first silence of each is retired, 120 hours after its end.
+const STORED: &str = r#"at 1750000000000
+tick
+call a1 1 a POST /api/v1/alerts "{\"alertmanager_config\":\"{\\\"route\\\":{\\\"receiver\\\":\\\"r\\\"},\\\"receivers\\\":[{\\\"name\\\":\\\"r\\\"}]}\"}"
+call b1 1 b POST /api/v1/alerts "{\"alertmanager_config\":\"{\\\"route\\\":{\\\"receiver\\\":\\\"s\\\"},\\\"receivers\\\":[{\\\"name\\\":\\\"s\\\"}]}\"}"
+call a2 1 a POST /alertmanager/api/v2/silences "{\"matchers\":[{\"name\":\"a\",\"value\":\"b\",\"isRegex\":false}],\"startsAt\":\"2025-06-15T15:00:00Z\",\"endsAt\":\"2025-06-15T16:00:00Z\",\"createdBy\":\"ada\",\"comment\":\"soon over\"}"
+call b2 1 b POST /alertmanager/api/v2/silences "{\"matchers\":[{\"name\":\"a\",\"value\":\"b\",\"isRegex\":false}],\"startsAt\":\"2025-06-15T15:00:00Z\",\"endsAt\":\"2025-06-15T16:00:00Z\",\"createdBy\":\"bob\",\"comment\":\"soon over\"}"
+call a3 1 a POST /alertmanager/api/v2/alerts "[{\"labels\":{\"a\":\"b\"},\"endsAt\":\"2025-07-15T16:00:00Z\"}]"
+call a4 1 a POST /alertmanager/api/v2/silences "{\"matchers\":[{\"name\":\"a\",\"value\":\"b.*\",\"isRegex\":true}],\"startsAt\":\"2025-06-15T15:00:00Z\",\"endsAt\":\"2025-07-15T16:00:00Z\",\"createdBy\":\"ada\",\"comment\":\"taken back\"}"
+call b3 1 b POST /alertmanager/api/v2/silences "{\"matchers\":[{\"name\":\"c\",\"value\":\"d\",\"isRegex\":false}],\"startsAt\":\"2025-06-15T15:00:00Z\",\"endsAt\":\"2025-07-15T16:00:00Z\",\"createdBy\":\"bob\",\"comment\":\"for long\"}"
+call a5 1 a DELETE /alertmanager/api/v2/silence/d114fbbf-392c-4662-bc08-f47326b689a4
+call b4 1 b DELETE /api/v1/alerts
+at 1750440000000
+tick
+call a6 1 a GET /alertmanager/api/v2/silences
+call b5 1 b GET /alertmanager/api/v2/silences
+call a7 1 a GET /alertmanager/api/v2/alerts
+"#;
+
+// What is read of either tenant.
+const READS: &str = r#"at 1750440000000
+call ra 1 a GET /api/v1/alerts
+call rb 1 b GET /api/v1/alerts
+call sa 1 a GET /alertmanager/api/v2/silences
+call sb 1 b GET /alertmanager/api/v2/silences
+call aa 1 a GET /alertmanager/api/v2/alerts
+"#;
+
+// A list of no alerts, and the end.
+const NO_ALERTS: &str =
+    r#"reply aa "HTTP/1.1 200 OK\r\nContent-Type: application/json\r\nContent-Length: 2\r\nConnection: close\r\n\r\n[]"
+faults 0
+"#;
+
+// How many calls of the store come before one that is refused, and how many lines of the scenario before the one that makes it.
+// The first two open it and ask for its tenants; a post of alerts makes none; the tick makes the last.
+const REFUSED: [(u64, usize); 9] = [
+    (2, 2),
+    (3, 3),
+    (4, 4),
+    (5, 5),
+    (6, 7),
+    (7, 8),
+    (8, 9),
+    (9, 10),
+    (10, 12),
+];
+
+// How many calls there are.
+const CALLS: u64 = 11;
+
+/// Plays a scenario over stores, and gives what it wrote and the stores.
+fn played_over(
+    alloc: Global,
+    start: u32,
+    stores: Vec<TestStore>,
+    scenario: &str,
+) -> Result<(Vec<u8>, Vec<TestStore>), Fail> {
+    let world = opened(alloc, start, stores)?;
+    let mut written = Vec::new(alloc);
+    let (_, stores) = ended(play_on(
+        alloc,
+        world,
+        &mut Direct,
+        LineReader::new(alloc, scenario.as_bytes()),
+        &mut WholeWriter(&mut written),
+        &mut WholeWriter(Vec::new(alloc)),
+    ))?;
+    Ok((written, stores))
+}
+
+/// The first lines of a text.
+fn first_lines(alloc: Global, text: &str, count: usize) -> Result<String, Fail> {
+    let mut lines = String::new(alloc);
+    for line in text.lines().take(count) {
+        lines.push_str(line)?;
+        lines.push('\n')?;
+    }
+    Ok(lines)
+}
+
+/// How many of the lines behind so many are calls.
+fn calls_behind(text: &str, lines: usize) -> usize {
+    text.lines()
+        .skip(lines)
+        .filter(|line| line.starts_with("call"))
+        .count()
+}
+
+/// What is read of stores in a further incarnation.
+fn read(alloc: Global, stores: Vec<TestStore>) -> Result<Vec<u8>, Fail> {
+    let (written, _) = played_over(alloc, 2, stores, READS)?;
+    Ok(written)
+}
+
+/// The configurations and silences that a run leaves are those that the next one begins with, and no alert.
+#[test]
+fn configurations_and_silences_stay(rt: HostRuntime) -> Result<(), Fail> {
+    let alloc = rt.alloc();
+    let mut scenario = String::from_str(alloc, STORED)?;
+    scenario.push_str(READS)?;
+    let (written, stores) = played_over(alloc, 1, stores(alloc)?, scenario.as_str())?;
+    let again = read(alloc, stores)?;
+    let written = std::str::from_utf8(&written)?;
+    let (_, reads) = written.split_once("reply ra").ok_or("no read")?;
+    let (rows, _) = reads.split_once("reply aa").ok_or("no alerts")?;
+    let mut wanted = String::from_str(alloc, "reply ra")?;
+    wanted.push_str(rows)?;
+    wanted.push_str(NO_ALERTS)?;
+    equal(std::str::from_utf8(&again)?, wanted.as_str(), "what stays")
+}
+
+/// The stores of the eight instances, of which the first refuses the call behind so many.
+fn refusing(alloc: Global, calls: u64) -> Result<Vec<TestStore>, Fail> {
+    let mut stores = stores(alloc)?;
+    let first = stores.first_mut().ok_or("no store")?;
+    first.fail_behind(calls);
+    Ok(stores)
+}
+
+/// What is written where the instance stops at the line behind so many: what was written of those before, and then that it
+/// isn't up.
+fn stopped_behind(alloc: Global, whole: &str, lines: usize) -> Result<String, Fail> {
+    let answered = calls_behind(STORED, 0) - calls_behind(STORED, lines);
+    let mut written = first_lines(alloc, whole, answered)?;
+    for _ in 0..calls_behind(STORED, lines + 1) {
+        written.push_str("refused We2\n")?;
+    }
+    written.push_str("faults 1\n")?;
+    Ok(written)
+}
+
+/// A call is refused: the instance stops, with the rows of the lines before.
+fn stops(alloc: Global, whole: &str, (calls, lines): (u64, usize)) -> Result<(), Fail> {
+    let (written, left) = played_over(alloc, 1, refusing(alloc, calls)?, STORED)?;
+    let wanted = stopped_behind(alloc, whole, lines)?;
+    equal(std::str::from_utf8(&written)?, wanted.as_str(), calls)?;
+    let part = first_lines(alloc, STORED, lines)?;
+    let (_, kept) = played_over(alloc, 1, stores(alloc)?, part.as_str())?;
+    let rows = read(alloc, left)?;
+    let wanted = read(alloc, kept)?;
+    equal(rows.as_slice(), wanted.as_slice(), calls)
+}
+
+#[test]
+fn a_refused_call_stops_the_instance(rt: HostRuntime) -> Result<(), Fail> {
+    let alloc = rt.alloc();
+    let (whole, _) = played_over(alloc, 1, refusing(alloc, CALLS)?, STORED)?;
+    let whole = std::str::from_utf8(&whole)?;
+    holds(whole.ends_with("faults 0\n"), "no call is left")?;
+    for refused in REFUSED {
+        stops(alloc, whole, refused)?;
+    }
+    Ok(())
+}
+
+/// An opening of which a call is refused.
+fn is_refused(alloc: Global, calls: u64) -> Result<(), Fail> {
+    let refusal = OpenRefusal::Store {
+        instance: 1,
+        refusal: StoreRefusal::Database,
+    };
+    match opened(alloc, 1, refusing(alloc, calls)?) {
+        Ok(_) => Err("it was opened".into()),
+        Err(found) => equal(found, refusal, calls),
+    }
+}
+
+#[test]
+fn a_refused_call_stops_the_opening(rt: HostRuntime) -> Result<(), Fail> {
+    is_refused(rt.alloc(), 0)?;
+    is_refused(rt.alloc(), 1)
+}

@@ -1,0 +1,39 @@
+use Rattle.std.proofs.Common.{◌≡◌, true, ap, ◌∙◌}
+use Rattle.sqlite.specs.Held.{state}
+use Rattle.am_store.proofs.Calls.{clean_before}
+use Rattle.am_store.proofs.Removed.{each_store, removes_each}
+use Rattle.am_store.proofs.Shelves.{clean_is, cleaner, not_shut, stays}
+use Rattle.am_store.proofs.shelf.ShelfRows.drop_silences.Goals as goal
+
+pub returns-in-Ok-clause-clean : goal.returns-in-Ok-clause-clean
+returns-in-Ok-clause-clean g c = rw (← c.self.view_is) (cleaner (state g.S.Store c.self.inside.conn) (state g.S.Store c.drop_silences.new.conn) _ c.drop_silences.ensures.crash)
+
+pub returns-in-Err-clause-clean : goal.returns-in-Err-clause-clean
+returns-in-Err-clause-clean g c = rw (← c.self.view_is) (cleaner (state g.S.Store c.self.inside.conn) (state g.S.Store c.drop_silences.new.conn) _ c.drop_silences.ensures.crash)
+
+pub returns-in-Ok-clause-dropped : goal.returns-in-Ok-clause-dropped
+returns-in-Ok-clause-dropped g c = λ clean.
+    let old = state g.S.Store c.self.inside.conn in
+    let new = state g.S.Store c.drop_silences.new.conn in
+    let opened : c.self.inside.is_open ≡ true = ap (λ v. v.1) c.self.view_is ∙ c.requires in
+    let is = c.self.invariant.1 opened (clean_is old (cleaner old new _ c.drop_silences.ensures.crash clean)) in
+    rw (← c.self.view_is) (removes_each c.args.silences.now old.now new.now is (c.in-Ok.ensures.ok (clean_is new clean) is).made)
+
+pub returns-in-Err-clause-err : goal.returns-in-Err-clause-err
+returns-in-Err-clause-err g c = λ clean still.
+    let old = state g.S.Store c.self.inside.conn in
+    let new = state g.S.Store c.drop_silences.new.conn in
+    let opened : c.self.inside.is_open ≡ true = ap (λ v. v.1) c.self.view_is ∙ c.requires in
+    let is = c.self.invariant.1 opened (clean_is old (cleaner old new _ c.drop_silences.ensures.crash clean)) in
+    rw (← c.self.view_is) (stays old.now new.now (c.in-Err.ensures.err (clean_is new clean) (not_shut _ still) is).0)
+
+pub invariant_of-self : goal.invariant_of-self
+invariant_of-self g c =
+    let old = state g.S.Store c.self.inside.conn in
+    let new = state g.S.Store c.drop_silences.new.conn in
+    let opened : c.self.inside.is_open ≡ true = ap (λ v. v.1) c.self.view_is ∙ c.requires in (
+      c.drop_silences.ensures.idle,
+      λ is_open clean.
+          let is = c.self.invariant.1 opened (clean_before old new _ c.drop_silences.ensures.crash clean) in
+          each_store c.args.silences.now old.now new.now is (c.in-Ok.ensures.ok clean is).made,
+    )

@@ -1,0 +1,39 @@
+use Rattle.std.proofs.Common.{◌≡◌, true, ap, sym, subst, ◌∙◌}
+use Rattle.sqlite.specs.Held.{state}
+use Rattle.am_store.specs.Rows.{IsStore}
+use Rattle.am_store.proofs.Calls.{clean_before}
+use Rattle.am_store.proofs.Shelves.{clean_is, cleaner, reads_all, stays}
+use Rattle.am_store.proofs.shelf.ShelfRows.rows_of.Goals as goal
+
+pub returns-in-Ok-clause-clean : goal.returns-in-Ok-clause-clean
+returns-in-Ok-clause-clean g c = rw (← c.self.view_is) (cleaner (state g.S.Store c.self.inside.conn) (state g.S.Store c.rows_of.new.conn) _ (c.rows_of.ensures.rests (λ clean. c.self.invariant.1 (ap (λ v. v.1) c.self.view_is ∙ c.requires) clean)).survives)
+
+pub returns-in-Err-clause-clean : goal.returns-in-Err-clause-clean
+returns-in-Err-clause-clean g c = rw (← c.self.view_is) (cleaner (state g.S.Store c.self.inside.conn) (state g.S.Store c.rows_of.new.conn) _ (c.rows_of.ensures.rests (λ clean. c.self.invariant.1 (ap (λ v. v.1) c.self.view_is ∙ c.requires) clean)).survives)
+
+pub returns-in-Ok-clause-stays : goal.returns-in-Ok-clause-stays
+returns-in-Ok-clause-stays g c = λ clean.
+    let old = state g.S.Store c.self.inside.conn in
+    let new = state g.S.Store c.rows_of.new.conn in
+    let opened : c.self.inside.is_open ≡ true = ap (λ v. v.1) c.self.view_is ∙ c.requires in
+    let is = c.self.invariant.1 opened (clean_is old (cleaner old new _ (c.rows_of.ensures.rests (λ clean. c.self.invariant.1 (ap (λ v. v.1) c.self.view_is ∙ c.requires) clean)).survives clean)) in
+    rw (← c.self.view_is) (stays old.now new.now (c.in-Ok.ensures.same (clean_is new clean) is))
+
+pub invariant_of-self : goal.invariant_of-self
+invariant_of-self g c =
+    let old = state g.S.Store c.self.inside.conn in
+    let new = state g.S.Store c.rows_of.new.conn in
+    let opened : c.self.inside.is_open ≡ true = ap (λ v. v.1) c.self.view_is ∙ c.requires in (
+      c.rows_of.ensures.idle c.self.invariant.0,
+      λ _ clean.
+          let is = c.self.invariant.1 opened (clean_before old new _ (c.rows_of.ensures.rests (λ clean. c.self.invariant.1 (ap (λ v. v.1) c.self.view_is ∙ c.requires) clean)).survives clean) in
+          subst IsStore (sym (c.in-Ok.ensures.same clean is)) is,
+    )
+
+pub returns-in-Ok-clause-rows : goal.returns-in-Ok-clause-rows
+returns-in-Ok-clause-rows g c = λ clean.
+    let old = state g.S.Store c.self.inside.conn in
+    let new = state g.S.Store c.rows_of.new.conn in
+    let opened : c.self.inside.is_open ≡ true = ap (λ v. v.1) c.self.view_is ∙ c.requires in
+    let is = c.self.invariant.1 opened (clean_is old (cleaner old new _ (c.rows_of.ensures.rests (λ clean. c.self.invariant.1 (ap (λ v. v.1) c.self.view_is ∙ c.requires) clean)).survives clean)) in
+    rw (← c.self.view_is) (reads_all c.args.tenant.now old.now c.in-Ok.items.items is (c.in-Ok.ensures.rows (clean_is new clean) is) c.in-Ok.ensures.order c.in-Ok.ensures.stored)

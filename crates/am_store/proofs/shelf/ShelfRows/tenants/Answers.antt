@@ -1,0 +1,39 @@
+use Rattle.std.proofs.Common.{◌≡◌, true, ap, sym, subst, ◌∙◌}
+use Rattle.sqlite.specs.Held.{state}
+use Rattle.am_store.specs.Rows.{IsStore}
+use Rattle.am_store.proofs.Calls.{clean_before}
+use Rattle.am_store.proofs.Shelves.{clean_is, cleaner, unnamed_empty, stays}
+use Rattle.am_store.proofs.shelf.ShelfRows.tenants.Goals as goal
+
+pub returns-in-Ok-clause-clean : goal.returns-in-Ok-clause-clean
+returns-in-Ok-clause-clean g c = rw (← c.self.view_is) (cleaner (state g.S.Store c.self.inside.conn) (state g.S.Store c.tenants.new.conn) _ (c.tenants.ensures.rests (λ clean. c.self.invariant.1 (ap (λ v. v.1) c.self.view_is ∙ c.requires) clean)).survives)
+
+pub returns-in-Err-clause-clean : goal.returns-in-Err-clause-clean
+returns-in-Err-clause-clean g c = rw (← c.self.view_is) (cleaner (state g.S.Store c.self.inside.conn) (state g.S.Store c.tenants.new.conn) _ (c.tenants.ensures.rests (λ clean. c.self.invariant.1 (ap (λ v. v.1) c.self.view_is ∙ c.requires) clean)).survives)
+
+pub returns-in-Ok-clause-stays : goal.returns-in-Ok-clause-stays
+returns-in-Ok-clause-stays g c = λ clean.
+    let old = state g.S.Store c.self.inside.conn in
+    let new = state g.S.Store c.tenants.new.conn in
+    let opened : c.self.inside.is_open ≡ true = ap (λ v. v.1) c.self.view_is ∙ c.requires in
+    let is = c.self.invariant.1 opened (clean_is old (cleaner old new _ (c.tenants.ensures.rests (λ clean. c.self.invariant.1 (ap (λ v. v.1) c.self.view_is ∙ c.requires) clean)).survives clean)) in
+    rw (← c.self.view_is) (stays old.now new.now (c.in-Ok.ensures.same (clean_is new clean) is))
+
+pub invariant_of-self : goal.invariant_of-self
+invariant_of-self g c =
+    let old = state g.S.Store c.self.inside.conn in
+    let new = state g.S.Store c.tenants.new.conn in
+    let opened : c.self.inside.is_open ≡ true = ap (λ v. v.1) c.self.view_is ∙ c.requires in (
+      c.tenants.ensures.idle c.self.invariant.0,
+      λ _ clean.
+          let is = c.self.invariant.1 opened (clean_before old new _ (c.tenants.ensures.rests (λ clean. c.self.invariant.1 (ap (λ v. v.1) c.self.view_is ∙ c.requires) clean)).survives clean) in
+          subst IsStore (sym (c.in-Ok.ensures.same clean is)) is,
+    )
+
+pub returns-in-Ok-clause-names : goal.returns-in-Ok-clause-names
+returns-in-Ok-clause-names g c = λ clean t none.
+    let old = state g.S.Store c.self.inside.conn in
+    let new = state g.S.Store c.tenants.new.conn in
+    let opened : c.self.inside.is_open ≡ true = ap (λ v. v.1) c.self.view_is ∙ c.requires in
+    let is = c.self.invariant.1 opened (clean_is old (cleaner old new _ (c.tenants.ensures.rests (λ clean. c.self.invariant.1 (ap (λ v. v.1) c.self.view_is ∙ c.requires) clean)).survives clean)) in
+    rw (← c.self.view_is) (unnamed_empty t old.now is (sym (c.in-Ok.ensures.names (clean_is new clean) is t) ∙ none))

@@ -1,0 +1,63 @@
+//! What may be stored.
+
+ghost use Rattle.std.specs.Prelude.{◌≡◌, ◌<◌, ◌^◌, All, IsTrue, length};
+ghost use Rattle.am_match.specs.Spelling.{IsShort, IsSpellable};
+ghost use Rattle.am_rows.specs.Fit.{IsFit, IsNumbered};
+
+use am_item::{GREATEST_COUNT, Item, Stamp, Thing};
+use am_match::Matcher;
+
+/// Whether items may be stored. That the item of a request may always be is not for the store to know.
+pub(crate) fn are_fit(items: &[Item]) -> bool
+    ensures { IsTrue result → All IsFit items.now }
+{
+    for item in items {
+        if !is_fit(item) {
+            return false;
+        }
+    }
+    true
+}
+
+fn is_fit(item: &Item) -> bool
+    ensures { IsTrue result → IsFit item.now }
+{
+    if !is_numbered(&item.stamp) {
+        return false;
+    }
+    match &item.thing {
+        Thing::Silence(silence) => are_spellable(silence.matchers.as_slice()),
+        Thing::Configuration(_) => true,
+        Thing::Alert(_) => true,
+        Thing::SentEntry(_) => true,
+    }
+}
+
+fn is_numbered(stamp: &Stamp) -> bool
+    ensures { IsTrue result → IsNumbered stamp.now }
+{
+    1 <= stamp.instance && stamp.instance <= 8 && stamp.count <= GREATEST_COUNT
+}
+
+fn are_spellable(matchers: &[Matcher]) -> bool
+    ensures { IsTrue result → IsSpellable matchers.now }
+{
+    matchers.len() < 1 << 16 && are_short(matchers)
+}
+
+fn are_short(matchers: &[Matcher]) -> bool
+    ensures { IsTrue result → All IsShort matchers.now }
+{
+    for matcher in matchers {
+        if !is_short(matcher) {
+            return false;
+        }
+    }
+    true
+}
+
+fn is_short(matcher: &Matcher) -> bool
+    ensures { IsTrue result → IsShort matcher.now }
+{
+    matcher.name().len() < 1 << 32 && matcher.value().len() < 1 << 32
+}

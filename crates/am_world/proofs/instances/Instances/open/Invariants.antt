@@ -1,8 +1,0 @@
-use Rattle.std.proofs.Common.{◌≡◌, map, take}
-use Rattle.am_world.specs.declared.instance.Instance.{Instance}
-use Rattle.am_world.proofs.Opening.{AreFresh}
-use Rattle.am_world.proofs.instances.Instances.open.Given as goal
-
-abbrev pub invariant-loop-number : goal.invariant-loop-number
-invariant-loop-number l =
-    (map (λ (x : Instance). x.number) l.list.items ≡ take l.number-index l.number-items) × AreFresh l.fn.first l.list.items

@@ -1,0 +1,54 @@
+use Rattle.std.proofs.Common.{◌≡◌, ◌∙◌, nat_lt, false, inl, inr, refl, sym, arith}
+use Rattle.std.proofs.lemmas.Bool.Decides.{nat_tests}
+use Rattle.am_world.specs.Moments.{last_moment}
+use Rattle.am_world.specs.Reaction.{terms_of}
+use Rattle.am_world.proofs.Shelved.{backed_as, backed_stopped}
+use Rattle.am_world.proofs.Built.{keep_same}
+use Rattle.am_world.proofs.Faults.{elsewhere_then, faulted_at}
+use Rattle.am_world.proofs.Kept.{incarnation_all, itself}
+use Rattle.am_world.proofs.KeptOutcome.{kept_outcome, kept_unawaited}
+use Rattle.am_world.proofs.state.State.on_outcome.Goals as goal
+
+pub returns-then-moment-gt-LAST_MOMENT-clause-step : goal.returns-then-moment-gt-LAST_MOMENT-clause-step
+returns-then-moment-gt-LAST_MOMENT-clause-step c =
+    inl (kept_unawaited c.args.self.now c.args.attempt.now c.args.tries c.args.moment c.args.status (inl (grind (arith, nat_tests))))
+
+pub returns-then-not-is_awaiting-clause-step : goal.returns-then-not-is_awaiting-clause-step
+returns-then-not-is_awaiting-clause-step c =
+    inl (kept_unawaited c.args.self.now c.args.attempt.now c.args.tries c.args.moment c.args.status
+    (inr (sym c.is_awaiting.ensures.awaits ∙ c.if-not-is_awaiting.true)))
+
+pub returns-in-Ok-clause-step : goal.returns-in-Ok-clause-step
+returns-in-Ok-clause-step c =
+    let terms = terms_of c.args.self.now.service_key c.args.self.now.limits c.args.attempt.now.tenant in
+    inl (kept_outcome c.args.self.now _ c.args.attempt.now c.args.tries c.args.moment c.args.status (grind (arith, nat_tests))
+    (sym c.is_awaiting.ensures.awaits ∙ c.if-not-is_awaiting.false)
+    (rw c.effective-at.ensures at (c.in-Ok.ensures.local terms (sym c.of-limits.ensures)))
+    (rw c.effective-at.ensures at (c.in-Ok.ensures.fits terms (sym c.of-limits.ensures)))
+    c.take_outcome.ensures.others c.take_outcome.ensures.reading c.take_outcome.ensures.roster c.take_outcome.ensures.refused refl refl refl refl refl)
+
+pub returns-in-Err-clause-step : goal.returns-in-Err-clause-step
+returns-in-Err-clause-step c =
+    let allowed : nat_lt last_moment c.args.moment ≡ false = grind (arith, nat_tests) in
+    inr (faulted_at c.args.self.now _ _ c.args.attempt.now.instance
+    (rw (allowed, sym c.is_awaiting.ensures.awaits ∙ c.if-not-is_awaiting.false) refl) (itself c.args.attempt.now.instance)
+    c.stop.ensures.down (record {
+      fault = c.in-Err.fault;
+      told = c.stop.ensures.cause;
+      cause = rw (← c.effective-at.ensures)
+          (c.in-Err.ensures.cause (terms_of c.args.self.now.service_key c.args.self.now.limits c.args.attempt.now.tenant) (sym c.of-limits.ensures));
+    })
+    (elsewhere_then c.args.attempt.now.instance _ _ _ c.take_outcome.ensures.others c.stop.ensures.others)
+    (incarnation_all c.args.attempt.now.instance _ _ _ c.take_outcome.ensures.roster c.stop.ensures.incarnation c.stop.ensures.others)
+    c.stop.ensures.outputs c.stop.ensures.counted c.stop.ensures.clock c.stop.ensures.limits c.stop.ensures.service_key
+    (keep_same _ _ (λ i. c.stop.ensures.refused i ∙ c.take_outcome.ensures.refused i)))
+
+pub returns-in-Ok-clause-backed : goal.returns-in-Ok-clause-backed
+returns-in-Ok-clause-backed c shelves backed =
+    backed_as c.args.self.now.instances c.take_outcome.new.self shelves backed c.take_outcome.ensures.roster.up c.in-Ok.ensures.stored
+    (λ i down d. c.take_outcome.ensures.reading d i ∙ backed.quiet i (sym (c.take_outcome.ensures.roster.up i) ∙ down) d)
+
+pub returns-in-Err-clause-backed : goal.returns-in-Err-clause-backed
+returns-in-Err-clause-backed c shelves backed =
+    backed_stopped c.args.attempt.now.instance c.args.self.now.instances c.stop.new.self.instances shelves backed c.stop.ensures.down
+    (elsewhere_then c.args.attempt.now.instance _ _ _ c.take_outcome.ensures.others c.stop.ensures.others)

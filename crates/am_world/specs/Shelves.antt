@@ -1,0 +1,74 @@
+-- What a store has beside the instance whose store it is.
+use Rattle.std.specs.Prelude.{◌≡◌, ℕ, zero, suc, Bool, true, false, List, [], length, map, slice_get, Option, Some, None}
+use Rattle.am_item.specs.declared.item.Item.{Item}
+use Rattle.am_rows.specs.Rows.{rows_of, stored_in}
+use Rattle.am_setup.specs.Setup.{is_instance}
+use Rattle.am_replica.specs.Accepting.{accepted}
+use Rattle.am_replica.specs.Local.{blank}
+use Rattle.am_world.specs.Places.{bytes_at, incarnation_at, local_at, local_in, refused_at, up_at}
+use Rattle.am_world.specs.declared.instance.Instance.{Instance}
+
+-- what is seen of a store: what it has of all tenants; whether its disk has returned what was written; and whether it is
+-- open, so that no call was refused since it was opened
+pub record Shelf : Type 0 where
+  pub pairs : List (List ℕ × Item)
+  pub is_clean : Bool
+  pub is_open : Bool
+
+abbrev pub shelf_of : List (List ℕ × Item) → (clean opened : Bool) → Shelf
+shelf_of pairs clean opened = record { pairs = pairs; is_clean = clean; is_open = opened }
+
+-- .. of stores, in their order
+abbrev pub shelves_of : {R : Type 0} → (R → List (List ℕ × Item)) → (clean opened : R → Bool) → List R → List Shelf
+shelves_of pairs clean opened stores = map (λ r. shelf_of (pairs r) (clean r) (opened r)) stores
+
+abbrev pub shelf_where : Option Shelf → Shelf
+shelf_where None = shelf_of [] false false
+shelf_where (Some shelf) = shelf
+
+-- the store of the instance of a number
+unfoldable pub shelf_at : ℕ → List Shelf → Shelf
+shelf_at zero shelves = shelf_where None
+shelf_at (suc p) shelves = shelf_where (slice_get shelves p)
+
+-- what stores have of a tenant, by the number of the instance
+abbrev pub rows_in : List Shelf → List ℕ → ℕ → List Item
+rows_in shelves t i = rows_of t (shelf_at i shelves).pairs
+
+-- each store is in memory, or its disk has returned what was written
+abbrev pub AreClean : List Shelf → Type 0
+AreClean shelves = (i : ℕ) → is_instance i ≡ true → (shelf_at i shelves).is_clean ≡ true
+
+-- where the instance is up, its store is open, and has what is held of each tenant, as long as its disk has returned what was
+-- written
+pub record IsBacked (x : Instance) (shelf : Shelf) : Type 0 where
+  pub opens : x.up ≡ true → shelf.is_open ≡ true
+  pub stores : x.up ≡ true → shelf.is_clean ≡ true → (t : List ℕ) → rows_of t shelf.pairs ≡ stored_in (local_in t x).held
+
+-- the same of the instance of a number
+pub record IsBackedAt (i : ℕ) (xs : List Instance) (shelf : Shelf) : Type 0 where
+  pub opens : up_at i xs ≡ true → shelf.is_open ≡ true
+  pub stores : up_at i xs ≡ true → shelf.is_clean ≡ true → (t : List ℕ) → rows_of t shelf.pairs ≡ stored_in (local_at t i xs).held
+
+-- who is down reads nothing
+abbrev pub AreQuiet : List Instance → Type 0
+AreQuiet xs = (i : ℕ) → up_at i xs ≡ false → (c : ℕ) → bytes_at c i xs ≡ None
+
+-- every instance that is up has its rows in its store, and reads nothing where it is down
+pub record AreBacked (xs : List Instance) (shelves : List Shelf) : Type 0 where
+  pub size : length shelves ≡ 8
+  pub each : (i : ℕ) → is_instance i ≡ true → IsBackedAt i xs (shelf_at i shelves)
+  pub quiet : AreQuiet xs
+
+-- no store's disk returns again what was written, once it did not
+abbrev pub NeverCleaner : (old new : List Shelf) → Type 0
+NeverCleaner old new = (i : ℕ) → (shelf_at i new).is_clean ≡ true → (shelf_at i old).is_clean ≡ true
+
+-- an instance was started at a moment: it is up, and holds of each tenant what its store had; it reads nothing, and is else
+-- as it was
+pub record IsStartedAt (i moment : ℕ) (xs ys : List Instance) (old new : Shelf) : Type 0 where
+  pub up : up_at i ys ≡ true
+  pub held : new.is_clean ≡ true → (t : List ℕ) → local_at t i ys ≡ accepted moment (rows_of t old.pairs) blank
+  pub unread : (c : ℕ) → bytes_at c i ys ≡ None
+  pub incarnation : incarnation_at i ys ≡ incarnation_at i xs
+  pub refused : refused_at i ys ≡ refused_at i xs
