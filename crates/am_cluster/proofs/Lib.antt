@@ -1,0 +1,13 @@
+pub mod Quiet
+pub mod Newest
+pub mod Cuts
+pub mod Start
+pub mod Counted
+pub mod Names
+pub mod Named
+pub mod PeerMaps
+pub mod ListsKept
+pub mod Listed
+pub mod StatePieces
+pub mod StateTurns
+pub mod OneList

@@ -1,0 +1,45 @@
+-- What an instance goes by where something happens to a tenant, beside what it has of the tenant.
+use Rattle.std.specs.Prelude.{ℕ, Bool, not, ◌==◌, List, Option, filter, position}
+use Rattle.am_replica.specs.declared.here.Here.{Here as ReplicaHere}
+use Rattle.am_ring.specs.Instances.{is_among}
+use Rattle.am_cluster.specs.Origins.{TenantLimits}
+use Rattle.am_cluster.specs.Peers.{Peer, peer}
+
+-- whose it is; its number and its incarnation; the moment; the tenant's limits; of the ring that it knows the epoch and the
+-- tenant's three replicas, in order of position; whether it has stayed: it was never joined or restarted, and was one of the
+-- three under every ring that it has known; and the present incarnation of every instance
+pub record Here : Type 0 where
+  pub tenant : List ℕ
+  pub instance : ℕ
+  pub incarnation : ℕ
+  pub moment : ℕ
+  pub limits : TenantLimits
+  pub epoch : ℕ
+  pub three : List ℕ
+  pub stayed : Bool
+  pub incarnations : ℕ → ℕ
+
+-- what an instance by itself goes by
+abbrev pub replica_here : Here → ReplicaHere
+replica_here here = record {
+  instance = here.instance;
+  incarnation = here.incarnation;
+  moment = here.moment;
+  limits = here.limits.usual;
+}
+
+-- the instance is one of the tenant's three replicas
+abbrev pub is_replica_here : Here → Bool
+is_replica_here here = is_among here.instance here.three
+
+-- its position among them
+abbrev pub position_here : Here → Option ℕ
+position_here here = position (λ i. i == here.instance) here.three
+
+-- the other two, in order of position
+abbrev pub others : Here → List ℕ
+others here = filter (λ i. not (i == here.instance)) here.three
+
+-- another instance in its present incarnation
+abbrev pub peer_now : Here → ℕ → Peer
+peer_now here i = peer i (here.incarnations i)

@@ -1,0 +1,76 @@
+//! Laws of the private cluster, which no program needs to call.
+
+ghost use Rattle.std.specs.Prelude.{◌≡◌, ℕ, [], ◌∷◌, ◌++◌, List, None, IsTrue, flat_map};
+ghost use Rattle.am_item.specs.declared.item.Item.{Item};
+ghost use Rattle.am_ring.specs.Instances.{in_order};
+ghost use Rattle.am_ring.specs.Replicas.{ReplacesOne};
+ghost use Rattle.am_cluster.specs.Courses.{after_all, told_all};
+ghost use Rattle.am_cluster.specs.Happening.{Happening};
+ghost use Rattle.am_cluster.specs.Here.{Here, is_replica_here};
+ghost use Rattle.am_cluster.specs.Local.{Local, is_settled};
+ghost use Rattle.am_cluster.specs.Messages.{Get};
+ghost use Rattle.am_cluster.specs.Origins.{Origin};
+ghost use Rattle.am_cluster.specs.Pieces.{Piece, cut};
+ghost use Rattle.am_cluster.specs.Plans.{plan_of};
+ghost use Rattle.am_cluster.specs.PrivateCluster.{PrivateCluster, opened};
+ghost use Rattle.am_cluster.specs.Reactions.{stays};
+ghost use Rattle.am_cluster.specs.Roster.{RingEvent, Roster, ring_event_refusal, ring_now, roster_after};
+ghost use Rattle.am_cluster.specs.SentFacts.{AreLists, AreNamedOnce};
+ghost use Rattle.am_cluster.specs.Settling.{untouched};
+ghost use Rattle.am_cluster.specs.Spelling.{spelling};
+ghost use Rattle.am_cluster.specs.Ticking.{deadlines, timers_of};
+ghost use Rattle.am_agenda.specs.Plan.{in_order as timers_in_order, timers_in};
+ghost use Rattle.am_cluster.specs.Transfers.{asks_first};
+ghost use Rattle.am_cluster.specs.Unnamed.{IsUnnamed, name_nobody};
+
+/// A tenant whom nothing has named stays so, whatever happens to the ring, and nothing is put out for it.
+pub fn unnamed_tenants()
+    ensures opened { (origin : Origin) (tenant : List ℕ) → IsUnnamed (opened origin tenant (λ i. [])) }
+    ensures stay { (p : PrivateCluster) (hs : List Happening) → IsUnnamed p → IsTrue (name_nobody hs) → IsUnnamed (after_all p hs) }
+    ensures silent { (p : PrivateCluster) (hs : List Happening) → IsUnnamed p → IsTrue (name_nobody hs) → told_all p hs ≡ [] }
+{}
+
+/// A join or a leave, as any other event of the ring, puts at most one replica of a tenant in another's place.
+pub fn one_replica_changes()
+    ensures one { (tenant : List ℕ) (roster : Roster) (event : RingEvent) → ring_now roster ≡ in_order (ring_now roster)
+        → ring_event_refusal event roster ≡ None → ReplacesOne tenant (ring_now roster) (ring_now (roster_after event roster)) }
+    ensures ordered { (roster : Roster) (event : RingEvent) → ring_now roster ≡ in_order (ring_now roster)
+        → ring_event_refusal event roster ≡ None
+        → ring_now (roster_after event roster) ≡ in_order (ring_now (roster_after event roster)) }
+{}
+
+/// While the ring stays as it was opened, and no instance is restarted, the replicas are those that are settled, nobody asks, and the
+/// timers are deadlines, flushes and tries.
+pub fn settled_from_the_start()
+    ensures settled { (here : Here) (local : Local) → here.stayed ≡ is_replica_here here → local.settling ≡ untouched
+        → is_settled here local ≡ is_replica_here here }
+    ensures nobody_asks { (here : Here) (local : Local) → here.stayed ≡ is_replica_here here → asks_first here local ≡ stays local }
+    ensures timers { (here : Here) (local : Local) → local.settling ≡ untouched
+        → timers_of here local
+        ≡ timers_in_order (deadlines here.tenant local ++ (timers_in here.tenant (plan_of here local) ++ [])) }
+{}
+
+/// No two messages of a tenant have one name, whatever happened since its cluster was opened.
+pub fn messages_are_named_once()
+    ensures { (origin : Origin) (tenant : List ℕ) (rows : ℕ → List Item) (hs : List Happening)
+        → AreNamedOnce (after_all (opened origin tenant rows) hs).sent }
+{}
+
+/// The pieces of a State that were sent, in one epoch and to one incarnation of its receiver, are those into which one list is
+/// cut, however often they were sent.
+pub fn states_are_lists()
+    ensures { (origin : Origin) (tenant : List ℕ) (rows : ℕ → List Item) (hs : List Happening)
+        → AreLists (after_all (opened origin tenant rows) hs).sent }
+{}
+
+/// The pieces into which a list is cut are the list, one after the other.
+pub fn one_list()
+    ensures { (items : List Item) → flat_map (λ (p : Piece). p.items) (cut items) ≡ items }
+{}
+
+/// The frame of `Get` number 1 of tenant `a` from instance 1 to 2, of epoch 0.
+pub fn first_frame()
+    ensures { spelling (record { tenant = 97 ∷ []; from = 1; incarnation = 1; to = 2; count = 1; epoch = 0; body = Get 1 })
+        ≡ 0 ∷ 0 ∷ 0 ∷ 34 ∷ 2 ∷ 1 ∷ 1 ∷ 0 ∷ 0 ∷ 0 ∷ 1 ∷ 2 ∷ 0 ∷ 0 ∷ 0 ∷ 0 ∷ 0 ∷ 0 ∷ 0 ∷ 1 ∷ 0 ∷ 0 ∷ 0 ∷ 0 ∷ 0 ∷ 0 ∷ 0 ∷ 0 ∷ 1 ∷ 97
+        ∷ 0 ∷ 0 ∷ 0 ∷ 0 ∷ 0 ∷ 0 ∷ 0 ∷ 1 ∷ [] }
+{}
