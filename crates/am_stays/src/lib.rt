@@ -1,8 +1,9 @@
 //! Acknowledged writes stay: what on-call people rely on most, proved on one key of one tenant.
 //!
-//! A silence that was answered is in every later decision, over crashes, restarts, joins, leaves, a stop of all, and ring
-//! changes that each instance learns for itself, while the view is calm: a replica crashes, joins or leaves only while all
-//! three are up, settled and go by the present era. Messages may be lost, repeated, and come in any order, however late.
+//! A silence that was answered is seen by the decision of every request that comes later, until it is outlived: over
+//! crashes, restarts, joins, leaves, a stop of all, and ring changes that each instance learns for itself, while the view
+//! is calm: a replica crashes, joins or leaves only while all three are up, settled and go by the present era, and none is
+//! settled by force. Messages may be lost, repeated, and come in any order, however late.
 //!
 //! `specs/Shadow` has what one key sees of the cluster, `specs/Happenings` what happens and when it can, `specs/Claims`
 //! the claims. No function here does anything: their contracts are the claims.
@@ -21,8 +22,8 @@ ghost use Rattle.am_stays.specs.Claims.{
 };
 ghost use Rattle.am_stays.specs.Examples.{after, moved, late, two_eras, forced};
 
-/// Any two settled replicas of an era include a holder of each acknowledged item, and who settles has what both others
-/// had.
+/// Any two settled replicas of an era include a holder of each acknowledged item that isn't outlived, and who settles has
+/// what both others had when their lists were cut, or it is outlived.
 pub fn acknowledged_writes_stay()
     ensures pairs { InEveryCalmView PairsHold }
     ensures lists { InEveryCalmView ListsAreHeld }
@@ -34,7 +35,7 @@ pub fn decisions_see()
 {}
 
 /// At any moment replicas of at most two eras count: who still goes by an older one lost its place, and where two
-/// answered in an epoch, at most one replica of each earlier epoch still goes by that.
+/// answered a request of an epoch, at most one replica of each earlier epoch still goes by that.
 pub fn at_most_two_eras()
     ensures adjacent { InEveryCalmView AreAdjacent }
     ensures ended { InEveryCalmView EarlierEpochsEnd }
@@ -46,8 +47,9 @@ pub fn places_follow_instances()
 {}
 
 /// There are views in which an acknowledged write is seen though one of the two answers lacks it, after its place moved and
-/// a holder crashed, or where it was acknowledged late; one in which two settled replicas, of two eras, both lack it; and,
-/// outside calm, where one was settled by force, two of one era.
+/// a holder crashed; one in which it was acknowledged late, and a request that came before is answered by one with it; one
+/// in which two settled replicas, of two eras, both lack it; and, outside calm, where one was settled by force, two of one
+/// era.
 pub fn there_are_such_views()
     ensures moved_acknowledged { (after moved).acknowledged 7 ≡ true }
     ensures moved_before { (after moved).before 2 7 ≡ true }
