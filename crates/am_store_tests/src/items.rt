@@ -1,7 +1,7 @@
 //! What is put, step by step, and how the rows are told.
 
 ghost use Rattle.std.specs.Prelude.{All, IfOk};
-ghost use Rattle.am_store.specs.Rows.{IsFit, IsNumbered};
+ghost use Rattle.am_rows.specs.Fit.{IsFit, IsNumbered};
 
 use crate::work::Told;
 use am_item::{Item, Matchers, Silence, SilenceId, Stamp, Thing};

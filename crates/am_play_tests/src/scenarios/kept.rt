@@ -134,9 +134,9 @@ fn refusing(alloc: Global, calls: u64) -> Result<Vec<TestStore>, Fail> {
 /// What is written where the instance stops at the line behind so many: what was written of those before, and then that it
 /// isn't up.
 fn stopped_behind(alloc: Global, whole: &str, lines: usize) -> Result<String, Fail> {
-    let answered = calls_behind(STORED, 0) - calls_behind(STORED, lines);
+    let answered = calls_behind(STORED, 0).saturating_sub(calls_behind(STORED, lines));
     let mut written = first_lines(alloc, whole, answered)?;
-    for _ in 0..calls_behind(STORED, lines + 1) {
+    for _ in 0..calls_behind(STORED, lines.saturating_add(1)) {
         written.push_str("refused We2\n")?;
     }
     written.push_str("faults 1\n")?;
