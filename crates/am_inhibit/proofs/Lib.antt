@@ -10,3 +10,4 @@ pub mod LinkLemmas
 pub mod RuleLemmas
 -- the inhibitors of each alert, and their places
 pub mod InhibitorLemmas
+pub mod MarkLemmas

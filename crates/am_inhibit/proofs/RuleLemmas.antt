@@ -1,8 +1,9 @@
 -- What the rules make of flags, and what their matchers ask.
-use Rattle.std.proofs.Common.{◌≡◌, ◌∙◌, ℕ, zero, suc, ◌+◌, ◌<◌, ◌≤◌, ◌&&◌, ◌||◌, not, Bool, true, false, cond, List, All, [], ◌∷◌, ◌++◌, ap, get_or, length, map, refl, subst, sym, take, inl, inr, arith}
+use Rattle.std.proofs.Common.{◌≡◌, ◌∙◌, ℕ, zero, suc, ◌+◌, ◌<◌, ◌≤◌, ◌&&◌, ◌||◌, not, Bool, Bor, Global, Vec, true, false, cond, List, All, [], ◌∷◌, ◌++◌, ap, append_assoc, get_or, length, map, refl, sym, take, arith}
 use Rattle.std.specs.List.{Contains}
 use Rattle.std.proofs.lemmas.Bool.{cases_Bool, true≢false}
-use Rattle.std.proofs.lemmas.List.{length-map}
+use Rattle.std.proofs.lemmas.List.{get_or-map, length-map}
+use Rattle.std.proofs.lemmas.Simd.{map-map}
 use Rattle.std.proofs.lemmas.List.Elements.{All-append, All-cons, All-get_or, All-head, All-nil, All-tail, Contains-append_left, Contains-append_right}
 use Rattle.std.proofs.lemmas.List.Folds.{list_any_more}
 use Rattle.am_text.specs.declared.failure.Failure.{Failure}
@@ -16,12 +17,13 @@ use Rattle.am_pattern.proofs.AskingLemmas.{stays-trans}
 use Rattle.am_match.specs.Asking.{IsFailureAmong}
 use Rattle.am_match.specs.Matchers.{MatcherText, is_on_pattern, patterns_of}
 use Rattle.am_match.specs.Meaning.{all_take}
+use Rattle.am_match.specs.Tables.{all_matchers}
 use Rattle.am_config.specs.Configured.{HasPattern}
 use Rattle.am_config.specs.declared.parts.Rule.{Rule}
 use Rattle.am_inhibit.specs.Alike.{are_alike}
 use Rattle.am_inhibit.specs.Inhibits.{AreInhibitors, inhibits, inhibits_by, rule_matchers}
 use Rattle.am_inhibit.specs.Links.{AreAllPlaces, AreLinked, ArePlaces, is_among}
-use Rattle.am_inhibit.specs.Sides.{AreLinkedBySides}
+use Rattle.am_inhibit.specs.Sides.{AreLinkedBySides, sides_in}
 
 -- ---- flags
 
@@ -168,64 +170,83 @@ none_places count (lists ∷ each) none =
     (rw (All-head (λ (held : List (List ℕ)). held ≡ []) lists each none) (All-nil (ArePlaces count)))
     (none_places count each (All-tail (λ (held : List (List ℕ)). held ≡ []) lists each none))
 
--- ---- how many patterns are asked for
+-- ---- both sides of the rules
 
-patterns-append : (ms ns : List MatcherText) → length (patterns_of (ms ++ ns)) ≡ length (patterns_of ms) + length (patterns_of ns)
-patterns-append [] ns = omega arith
-patterns-append (m ∷ ms) ns =
-    let rest = patterns-append ms ns in
-    elim (cases_Bool (is_on_pattern m.operator)) [ inl on ↦ rw on (omega (arith, rest)) | inr off ↦ rw off rest ]
+pub sides_matchers : (rules : List Rule) → all_matchers (sides_in rules) ≡ rule_matchers rules
+sides_matchers [] = refl
+sides_matchers (rule ∷ rules) =
+    ap (λ rest. rule.source ++ (rule.target ++ rest)) (sides_matchers rules) ∙ sym (append_assoc rule.source rule.target (rule_matchers rules))
 
-pub sides-patterns : (rule : Rule) → length (patterns_of (rule.source ++ rule.target)) ≡ length (patterns_of rule.source) + length (patterns_of rule.target)
-sides-patterns rule = patterns-append rule.source rule.target
-
--- of one rule more
-pub rules-more : (rules : List Rule) (i : ℕ) (rule : Rule) → i < length rules → rule ≡ get_or rules i rule →
-    length (patterns_of (rule_matchers (take (i + 1) rules)))
-    ≡ length (patterns_of (rule_matchers (take i rules))) + (length (patterns_of rule.source) + length (patterns_of rule.target))
-rules-more [] i rule fits at = absurd (omega (arith, fits))
-rules-more (first ∷ rules) zero rule fits at =
-    let whole = patterns-append (first.source ++ first.target) [] in
-    let same = ap (λ (r : Rule). length (patterns_of r.source) + length (patterns_of r.target)) at in
-    omega (arith, whole, sides-patterns first, same)
-rules-more (first ∷ rules) (suc i) rule fits at =
-    let more = rules-more rules i rule (omega (arith, fits)) at in
-    let whole = patterns-append (first.source ++ first.target) (rule_matchers (take (i + 1) rules)) in
-    let front = patterns-append (first.source ++ first.target) (rule_matchers (take i rules)) in
+-- the sides of one rule more
+pub sides_more : (rules : List Rule) (i : ℕ) (rule : Rule) → i < length rules → rule ≡ get_or rules i rule →
+    sides_in (take (i + 1) rules) ≡ sides_in (take i rules) ++ rule.source ∷ rule.target ∷ []
+sides_more [] i rule fits at = absurd (omega (arith, fits))
+sides_more (first ∷ rules) zero rule fits at = rw (← at) refl
+sides_more (first ∷ rules) (suc i) rule fits at =
     let next : suc i + 1 ≡ suc (i + 1) = omega arith in
-    ap (λ n. length (patterns_of (rule_matchers (take n (first ∷ rules))))) next ∙ omega (arith, more, whole, front)
+    ap (λ n. sides_in (take n (first ∷ rules))) next
+    ∙ ap (λ rest. first.source ∷ first.target ∷ rest) (sides_more rules i rule (omega (arith, fits)) at)
 
--- of some of them, no more than of all
-pub rules-some : (rules : List Rule) (i : ℕ) → length (patterns_of (rule_matchers (take i rules))) ≤ length (patterns_of (rule_matchers rules))
-rules-some rules zero = omega arith
-rules-some [] (suc i) = omega arith
-rules-some (first ∷ rules) (suc i) =
-    let some = rules-some rules i in
-    let whole = patterns-append (first.source ++ first.target) (rule_matchers rules) in
-    let front = patterns-append (first.source ++ first.target) (rule_matchers (take i rules)) in
-    omega (arith, some, whole, front)
+-- there are two of each rule
+pub sides_long : (rules : List Rule) → length (sides_in rules) ≡ length rules + length rules
+sides_long [] = omega arith
+sides_long (rule ∷ rules) = let rest = sides_long rules in omega (arith, rest)
 
--- ---- failures
+-- where they stand
+pub source_at : (rules : List Rule) (i : ℕ) (rule : Rule) → i < length rules → rule ≡ get_or rules i rule → get_or (sides_in rules) (i + i) [] ≡ rule.source
+source_at [] i rule fits at = absurd (omega (arith, fits))
+source_at (first ∷ rules) zero rule fits at = ap (λ (r : Rule). r.source) (sym at)
+source_at (first ∷ rules) (suc i) rule fits at =
+    let there : suc i + suc i ≡ suc (suc (i + i)) = omega arith in
+    ap (λ n. get_or (sides_in (first ∷ rules)) n []) there ∙ source_at rules i rule (omega (arith, fits)) at
 
--- a failure of some matchers is one of more, where nothing was refused before
-pub failure_of_some : (some all : List MatcherText) (start old new : Cache) (failure : Failure PatternRefusal) →
-    ((matcher : MatcherText) → Contains some matcher → Contains all matcher) → Stays start old →
-    IsFailureAmong some old new failure → IsFailureAmong all start new failure
-failure_of_some some all start old new (Refused refusal) among stays (matcher, at, refused) = (
-  matcher,
-  among matcher at,
-  record { on_pattern = refused.on_pattern; is_refused = refused.is_refused; kept = rw stays.refused at refused.kept },
-)
-failure_of_some some all start old new OutOfMemory among stays same = stays-trans start old new stays same
+pub target_at : (rules : List Rule) (i : ℕ) (rule : Rule) → i < length rules → rule ≡ get_or rules i rule → get_or (sides_in rules) (i + i + 1) [] ≡ rule.target
+target_at [] i rule fits at = absurd (omega (arith, fits))
+target_at (first ∷ rules) zero rule fits at = ap (λ (r : Rule). r.target) (sym at)
+target_at (first ∷ rules) (suc i) rule fits at =
+    let there : suc i + suc i + 1 ≡ suc (suc (i + i + 1)) = omega arith in
+    ap (λ n. get_or (sides_in (first ∷ rules)) n []) there ∙ target_at rules i rule (omega (arith, fits)) at
 
--- the matchers of a rule are among those of the rules
-pub of_rules : (rules : List Rule) (i : ℕ) (rule : Rule) → i < length rules → rule ≡ get_or rules i rule → (matcher : MatcherText) →
-    Contains (rule.source ++ rule.target) matcher → Contains (rule_matchers rules) matcher
-of_rules [] i rule fits at matcher there = absurd (omega (arith, fits))
-of_rules (first ∷ rules) zero rule fits at matcher there =
-    Contains-append_left (first.source ++ first.target) (rule_matchers rules) matcher (subst (λ (r : Rule). Contains (r.source ++ r.target) matcher) at there)
-of_rules (first ∷ rules) (suc i) rule fits at matcher there =
-    Contains-append_right (first.source ++ first.target) (rule_matchers rules) matcher (of_rules rules i rule (omega (arith, fits)) at matcher there)
+-- the rows of lists of matchers
+pub rows_of_sides : (sets : List (Bor (List Label))) (sides : List (List MatcherText)) (lists : List (Bor (List MatcherText))) → map (λ list. list.now) lists ≡ sides →
+    map (λ list. map (λ set'. all_take list.now set'.now) sets) lists ≡ map (λ ms. map (λ set'. all_take ms set'.now) sets) sides
+rows_of_sides sets sides lists are =
+    let row : List MatcherText → List Bool = λ ms. map (λ set'. all_take ms set'.now) sets in
+    sym (map-map row (λ (list : Bor (List MatcherText)). list.now) lists) ∙ ap (map row) are
+
+-- the row at a place
+pub row_at : (sets : List (Bor (List Label))) (sides : List (List MatcherText)) (table : List (Vec Bool Global)) (k : ℕ) (row : Vec Bool Global) → k < length sides →
+    row ≡ get_or table k row → map (λ (r : Vec Bool Global). r.items) table ≡ map (λ ms. map (λ set'. all_take ms set'.now) sets) sides →
+    row.items ≡ map (λ set'. all_take (get_or sides k []) set'.now) sets
+row_at sets sides table k row fits at are =
+    let items : Vec Bool Global → List Bool = λ r. r.items in
+    let taken : List MatcherText → List Bool = λ ms. map (λ set'. all_take ms set'.now) sets in
+    let inside : k < length table = omega (arith, fits, length-map table items, ap length are, length-map sides taken) in
+    ap items at ∙ sym (get_or-map items table k row [] inside)
+    ∙ ap (λ (rows : List (List Bool)). get_or rows k []) are
+    ∙ get_or-map taken sides k [] [] fits
+
+-- those of a rule's two sides
+module _ (sets : List (Bor (List Label))) (rules : List Rule) (table : List (Vec Bool Global)) (i : ℕ) (rule : Rule) (k : ℕ) (row : Vec Bool Global) (fits : i < length rules)
+    (at : rule ≡ get_or rules i rule) (is : row ≡ get_or table k row)
+    (are : map (λ (r : Vec Bool Global). r.items) table ≡ map (λ ms. map (λ set'. all_take ms set'.now) sets) (sides_in rules)) where
+  pub source_row : k ≡ i + i → row.items ≡ map (λ set'. all_take rule.source set'.now) sets
+  source_row here =
+      row_at sets (sides_in rules) table k row (omega (arith, fits, here, sides_long rules)) is are
+      ∙ ap (λ ms. map (λ set'. all_take ms set'.now) sets) (ap (λ n. get_or (sides_in rules) n []) here ∙ source_at rules i rule fits at)
+
+  pub target_row : k ≡ i + i + 1 → row.items ≡ map (λ set'. all_take rule.target set'.now) sets
+  target_row here =
+      row_at sets (sides_in rules) table k row (omega (arith, fits, here, sides_long rules)) is are
+      ∙ ap (λ ms. map (λ set'. all_take ms set'.now) sets) (ap (λ n. get_or (sides_in rules) n []) here ∙ target_at rules i rule fits at)
+
+-- there are two rows of each rule
+pub rows_long : (sets : List (Bor (List Label))) (rules : List Rule) (table : List (Vec Bool Global)) →
+    map (λ (r : Vec Bool Global). r.items) table ≡ map (λ ms. map (λ set'. all_take ms set'.now) sets) (sides_in rules) → length table ≡ length rules + length rules
+rows_long sets rules table are =
+    sym (length-map table (λ (r : Vec Bool Global). r.items)) ∙ ap length are ∙ length-map (sides_in rules) (λ ms. map (λ set'. all_take ms set'.now) sets) ∙ sides_long rules
+
+-- ---- patterns
 
 -- those of each rule have patterns
 patterns_had : (ms : List MatcherText) → All HasPattern ms → All IsPattern (patterns_of ms)

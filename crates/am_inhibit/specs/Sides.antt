@@ -1,8 +1,15 @@
--- What comes of the flags that tell which label sets a rule's two sides take.
-use Rattle.std.specs.Prelude.{◌≡◌, ◌&&◌, ◌||◌, ℕ, ◌<◌, [], false, List, Bool, get_or, length, not}
+-- The two sides of rules, and what comes of the flags that tell which label sets they take.
+use Rattle.std.specs.Prelude.{◌≡◌, ◌&&◌, ◌||◌, ℕ, ◌<◌, [], ◌∷◌, false, List, Bool, get_or, length, not}
+use Rattle.std.specs.List.{flat_map}
 use Rattle.am_labels.specs.declared.Label.{Label}
+use Rattle.am_match.specs.Matchers.{MatcherText}
+use Rattle.am_config.specs.declared.parts.Rule.{Rule}
 use Rattle.am_inhibit.specs.Alike.{are_alike}
 use Rattle.am_inhibit.specs.Links.{is_among}
+
+-- the matchers of each rule's source, and behind them those of its target
+abbrev pub sides_in : List Rule → List (List MatcherText)
+sides_in rules = flat_map (λ (rule : Rule). rule.source ∷ rule.target ∷ []) rules
 
 -- to the lists of each target came the sources that fire and are like it, but not one that takes both sides to one that does
 abbrev pub AreLinkedBySides : List (List ℕ) → List (List Label) → List Bool → List Bool → List Bool → List (List (List ℕ)) → List (List (List ℕ)) → Type 0

@@ -1,19 +1,20 @@
 //! Inhibit rules, asked of many label sets.
 
-ghost use Rattle.std.specs.Prelude.{◌≡◌, ◌+◌, ◌++◌, ℕ, ◌<◌, ◌≤◌, [], false, true, All, IfErr, IfOk, OnOk, get_or, length, map};
+ghost use Rattle.std.specs.Prelude.{◌≡◌, ◌+◌, ◌++◌, ℕ, ◌<◌, ◌≤◌, [], false, true, All, IfErr, IfOk, OnOk};
+ghost use Rattle.std.specs.Prelude.{get_or, length, map};
 ghost use Rattle.am_pattern.specs.Asking.{Asked};
 ghost use Rattle.am_match.specs.Asking.{IsFailureAmong};
 ghost use Rattle.am_match.specs.Matchers.{patterns_of};
 ghost use Rattle.am_match.specs.Meaning.{all_take};
 ghost use Rattle.am_inhibit.specs.Inhibits.{AreInhibitors, rule_matchers};
 ghost use Rattle.am_inhibit.specs.Links.{AreAllPlaces, lists_of};
-ghost use Rattle.am_inhibit.specs.Sides.{AreLinkedBySides};
+ghost use Rattle.am_inhibit.specs.Sides.{AreLinkedBySides, sides_in};
 
 use crate::flags::{both, without};
 use crate::links::link;
 use am_config::Rule;
 use am_labels::LabelSet;
-use am_match::taken_by_all;
+use am_match::{Matcher, taken_by_each};
 use am_pattern::{PatternCache, PatternRefusal};
 use am_text::{Failure, Text};
 use std::alloc::{AllocError, Global};
@@ -33,33 +34,65 @@ pub fn links_of(
 ) -> Result<Vec<Vec<RcSlice<usize>>>, Failure<PatternRefusal>>
     requires each { length fires.now ≡ length sets.now }
     ensures links { IfOk result (λ v. length v.items ≡ length sets.now) }
-    ensures inhibitors { IfOk result (λ v. AreInhibitors rules.now (map (λ set. set.now) sets.now) fires.now (lists_of v.items)) }
+    ensures inhibitors { IfOk result (λ v.
+        AreInhibitors rules.now (map (λ set. set.now) sets.now) fires.now (lists_of v.items)) }
     ensures places { (count : ℕ) → ((place : ℕ) → get_or fires.now place false ≡ true → place < count)
         → IfOk result (λ v. AreAllPlaces count (lists_of v.items)) }
     ensures asked { Asked result cache.old cache.new }
     ensures misses { cache.new.misses ≤ cache.old.misses + length (patterns_of (rule_matchers rules.now)) }
     ensures failure { IfErr result (IsFailureAmong (rule_matchers rules.now) cache.old cache.new) }
 {
-    let mut links = no_links(alloc, sets.len())?;
+    let lists = sides_of(alloc, rules)?;
+    let table = taken_by_each(alloc, &lists, sets, cache)?;
+    let links = linked_by(alloc, rules, &table, sets, fires)?;
+    Ok(links)
+}
+
+// The matchers of both sides of each of the rules, the source before the target.
+fn sides_of<'a>(alloc: Global, rules: &'a [Rule]) -> Result<Vec<&'a [Matcher]>, AllocError>
+    ensures { IfOk result (λ v. map (λ list. list.now) v.items ≡ sides_in rules.now) }
+{
+    let mut lists = Vec::new(alloc);
     for rule in rules {
-        let sides = sides_of(alloc, rule, sets, cache)?;
+        lists.push(rule.source.as_slice())?;
+        lists.push(rule.target.as_slice())?;
+    }
+    Ok(lists)
+}
+
+// The lists of those that fire and inhibit a label set by one of the rules, where the table tells of each side which label
+// sets it takes.
+fn linked_by(
+    alloc: Global,
+    rules: &[Rule],
+    table: &[Vec<bool>],
+    sets: &[&LabelSet],
+    fires: &[bool],
+) -> Result<Vec<Vec<RcSlice<usize>>>, AllocError>
+    requires each { length fires.now ≡ length sets.now }
+    requires table { map (λ row. row.items) table.now
+        ≡ map (λ ms. map (λ set. all_take ms set.now) sets.now) (sides_in rules.now) }
+    ensures links { IfOk result (λ v. length v.items ≡ length sets.now) }
+    ensures inhibitors { IfOk result (λ v.
+        AreInhibitors rules.now (map (λ set. set.now) sets.now) fires.now (lists_of v.items)) }
+    ensures places { (count : ℕ) → ((place : ℕ) → get_or fires.now place false ≡ true → place < count)
+        → IfOk result (λ v. AreAllPlaces count (lists_of v.items)) }
+{
+    let mut links = no_links(alloc, sets.len())?;
+    for (number, rule) in rules.iter().enumerate() {
+        let sources = table[2 * number].as_slice();
+        let targets = table[2 * number + 1].as_slice();
         link_rule(
             alloc,
             rule.equal.as_slice(),
-            &sides,
+            sources,
+            targets,
             sets,
             fires,
             &mut links,
         )?;
     }
     Ok(links)
-}
-
-// Which label sets a rule's matchers take, of its source and of its target.
-#[derive(Drop)]
-struct Sides {
-    sources: Vec<bool>,
-    targets: Vec<bool>,
 }
 
 // So many alerts that nothing inhibits.
@@ -74,50 +107,32 @@ fn no_links(alloc: Global, count: usize) -> Result<Vec<Vec<RcSlice<usize>>>, All
     Ok(links)
 }
 
-// Asks the matchers of a rule of all the label sets.
-fn sides_of(
-    alloc: Global,
-    rule: &Rule,
-    sets: &[&LabelSet],
-    cache: &mut PatternCache,
-) -> Result<Sides, Failure<PatternRefusal>>
-    ensures sources { IfOk result (λ sides. sides.sources.items ≡ map (λ set. all_take rule.now.source set.now) sets.now) }
-    ensures targets { IfOk result (λ sides. sides.targets.items ≡ map (λ set. all_take rule.now.target set.now) sets.now) }
-    ensures asked { Asked result cache.old cache.new }
-    ensures misses { cache.new.misses
-        ≤ cache.old.misses + (length (patterns_of rule.now.source) + length (patterns_of rule.now.target)) }
-    ensures failure { IfErr result (IsFailureAmong (rule.now.source ++ rule.now.target) cache.old cache.new) }
-{
-    let sources = taken_by_all(alloc, rule.source.as_slice(), sets, cache)?;
-    let targets = taken_by_all(alloc, rule.target.as_slice(), sets, cache)?;
-    Ok(Sides { sources, targets })
-}
-
-// Adds what inhibits by a rule with these names and these label sets on its sides: to the targets that take the target
-// alone come all sources that are like them, to those that take both sides the sources that take the source alone.
+// Adds what inhibits by a rule with these names and these flags of what its sides take: to the targets that take the
+// target alone come all sources that are like them, to those that take both sides the sources that take the source alone.
 fn link_rule(
     alloc: Global,
     names: &[Text],
-    sides: &Sides,
+    sources: &[bool],
+    targets: &[bool],
     sets: &[&LabelSet],
     fires: &[bool],
     links: &mut Vec<Vec<RcSlice<usize>>>,
 ) -> Result<(), AllocError>
-    requires sources { length sides.now.sources.items ≡ length sets.now }
-    requires targets { length sides.now.targets.items ≡ length sets.now }
+    requires sources { length sources.now ≡ length sets.now }
+    requires targets { length targets.now ≡ length sets.now }
     requires fires { length fires.now ≡ length sets.now }
     requires links { length links.now.items ≡ length sets.now }
     ensures links { OnOk result (length links.new.items ≡ length sets.now) }
-    ensures linked { OnOk result (AreLinkedBySides names.now (map (λ set. set.now) sets.now) sides.now.sources.items sides.now.targets.items fires.now
+    ensures linked { OnOk result (AreLinkedBySides names.now (map (λ set. set.now) sets.now) sources.now targets.now fires.now
         (lists_of links.old.items) (lists_of links.new.items)) }
     ensures places { (count : ℕ) → ((place : ℕ) → get_or fires.now place false ≡ true → place < count)
         → AreAllPlaces count (lists_of links.old.items) → OnOk result (AreAllPlaces count (lists_of links.new.items)) }
 {
-    let firing = both(alloc, &sides.sources, fires)?;
-    let target_alone = without(alloc, &sides.targets, &sides.sources)?;
+    let firing = both(alloc, sources, fires)?;
+    let target_alone = without(alloc, targets, sources)?;
     link(alloc, names, sets, &firing, &target_alone, links)?;
-    let source_alone = without(alloc, &firing, &sides.targets)?;
-    let both_sides = both(alloc, &sides.targets, &sides.sources)?;
+    let source_alone = without(alloc, &firing, targets)?;
+    let both_sides = both(alloc, targets, sources)?;
     link(alloc, names, sets, &source_alone, &both_sides, links)?;
     Ok(())
 }

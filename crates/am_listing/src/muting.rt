@@ -106,7 +106,7 @@ fn muted_at<'a>(
     requires { place < length mutes.now }
     ensures { IfOk result (λ m. muted m ≡ (held_alert alert.now, get_or mutes.now place nothing)) }
 {
-    let silenced_by = Vec::from_slice(alloc, mutes.silenced_by(place))?;
+    let silenced_by = mutes.silenced_by(alloc, place)?;
     let inhibited_by = mutes.inhibited_by(alloc, place)?;
     Ok(MutedAlert {
         alert: HeldAlert {

@@ -8,3 +8,7 @@ pub mod TakingLemmas
 pub mod RoundTrip
 pub mod FormsRead
 pub mod FormsFound
+pub mod FailureLemmas
+pub mod PlacesLemmas
+pub mod QuestionLemmas
+pub mod TableLemmas

@@ -20,3 +20,9 @@ pub mod Printing
 pub mod Spelling
 -- and as they are taken
 pub mod Taking
+-- lists of matchers and what they take
+pub mod Tables
+-- places of values, and flags at them
+pub mod Places
+-- the values of a label, by their places
+pub mod Columns

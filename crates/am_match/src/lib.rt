@@ -7,12 +7,16 @@
 
 mod asking;
 mod checking;
+mod column;
 pub mod laws;
 mod matcher;
+mod places;
 mod printing;
+mod questions;
 mod reading;
 mod refusal;
 mod spelling;
+mod table;
 mod taking;
 
 pub use asking::{narrow, taken_by_all, values_of};
@@ -21,4 +25,5 @@ pub use matcher::{Matcher, Operator};
 pub use printing::print_matchers;
 pub use refusal::{MatcherRefusal, SpellRefusal, TakeRefusal};
 pub use spelling::spell_matchers;
+pub use table::taken_by_each;
 pub use taking::take_matchers;

@@ -1,5 +1,5 @@
 -- What mutes the alert at each place.
-use Rattle.std.proofs.Common.{◌≡◌, ℕ, zero, suc, ◌+◌, ◌<◌, ◌≤◌, Fits, Vec, Global, w64, ◌==◌, ◌&&◌, true, false, List, [], ◌∷◌, ◌++◌, Bor, inl, inr, length, map, drop, get_or, refl, sym, ap, ap₂, ◌∙◌, arith, append-nil, length-append, length-drop, true≢false, Bool, filter}
+use Rattle.std.proofs.Common.{◌≡◌, ℕ, zero, suc, ◌+◌, ◌<◌, ◌==◌, ◌&&◌, true, false, List, [], ◌∷◌, ◌++◌, Bor, inl, inr, length, map, drop, get_or, refl, sym, ap, ap₂, ◌∙◌, arith, append-nil, length-append, length-drop, true≢false, Bool, filter}
 use Rattle.std.proofs.lemmas.Bool.{and_parts}
 use Rattle.std.proofs.lemmas.Bool.Decides.{eqb_tells}
 use Rattle.std.proofs.lemmas.Simd.{map-map}
@@ -58,11 +58,6 @@ module _ (firing : List (List Label)) (count first : ℕ) (silences : List (List
       ap (λ v. get_or v place nothing) (sym is)
       ∙ mutings_at firing silences (drop first inhibited) place (dropped first silences inhibited each.each)
       ∙ ap (λ places. muting_at firing (get_or silences place [], places)) (get_or-drop first inhibited place [])
-
--- the sum of a place among one list and one of another fits
-pub fits_both : {X Y : Type 0} (xs : Vec X Global) (ys : Vec Y Global) (first place : ℕ) → first ≤ length xs.items → place < length ys.items → Fits w64 (first + place)
-fits_both xs ys first place fits below =
-    omega (arith, fits, below, xs.ok.0, xs.ok.1, ys.ok.0, ys.ok.1, xs.small, ys.small)
 
 -- ---- what mutes each
 

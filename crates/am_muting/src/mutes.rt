@@ -5,6 +5,7 @@ ghost use Rattle.am_muting.specs.Muting.{is_inhibited, is_muted, is_silenced, no
 use am_inhibit::{Inhibited, sets_at};
 use am_item::SilenceId;
 use am_labels::LabelSet;
+use am_silence::Silenced;
 use std::alloc::{AllocError, Global};
 use std::marker::Model;
 
@@ -14,7 +15,7 @@ pub struct Mutes<'a> {
     // the label sets of the alerts that fire
     firing: Vec<&'a LabelSet>,
     // the silences of each
-    silences: Vec<Vec<SilenceId>>,
+    silences: Silenced,
     // which of the firing ones inhibit each, behind those of so many others
     inhibited: Inhibited,
     first: usize,
@@ -27,21 +28,21 @@ impl<'a> Model for Mutes<'a> {
 
     ghost Value = { List Muting };
 
-    ghost view = { λ m. mutings (map (λ set. set.now) m.firing.items) (map (λ ids. ids.items) m.silences.items) (drop m.first m.inhibited) };
+    ghost view = { λ m. mutings (map (λ set. set.now) m.firing.items) m.silences (drop m.first m.inhibited) };
 
-    ghost invariant = { λ m. AreEach (length m.firing.items) m.first (map (λ ids. ids.items) m.silences.items) m.inhibited };
+    ghost invariant = { λ m. AreEach (length m.firing.items) m.first m.silences m.inhibited };
 }
 
 impl<'a> Mutes<'a> {
     // The silences of each, and the places of the firing ones that inhibit each, behind those of so many others.
     pub(crate) fn new(
         firing: Vec<&'a LabelSet>,
-        silences: Vec<Vec<SilenceId>>,
+        silences: Silenced,
         inhibited: Inhibited,
         first: usize,
     ) -> Mutes<'a>
-        requires { AreEach (length firing.items) first (map (λ ids. ids.items) silences.items) inhibited }
-        ensures { result ≡ mutings (map (λ set. set.now) firing.entry.items) (map (λ ids. ids.items) silences.items) (drop first inhibited) }
+        requires { AreEach (length firing.items) first silences inhibited }
+        ensures { result ≡ mutings (map (λ set. set.now) firing.entry.items) silences (drop first inhibited) }
     {
         Mutes {
             firing,
@@ -56,7 +57,7 @@ impl<'a> Mutes<'a> {
         requires { place < length self.now }
         ensures { result ≡ is_silenced (get_or self.now place nothing) }
     {
-        !self.silenced_by(place).is_empty()
+        self.silences.is_silenced(place)
     }
 
     /// Whether an alert inhibits the one at this place.
@@ -64,6 +65,8 @@ impl<'a> Mutes<'a> {
         requires { place < length self.now }
         ensures { result ≡ is_inhibited (get_or self.now place nothing) }
     {
+        // each place among them is a number, so the sum is one
+        let _all = self.inhibited.len();
         self.inhibited.is_inhibited(self.first + place)
     }
 
@@ -76,11 +79,11 @@ impl<'a> Mutes<'a> {
     }
 
     /// The silences that silence the alert at this place, in the order of identifiers.
-    pub fn silenced_by(&self, place: usize) -> &[SilenceId]
+    pub fn silenced_by(&self, alloc: Global, place: usize) -> Result<Vec<SilenceId>, AllocError>
         requires { place < length self.now }
-        ensures { result.now ≡ (get_or self.now place nothing).silenced_by }
+        ensures { IfOk result (λ v. v.items ≡ (get_or self.now place nothing).silenced_by) }
     {
-        self.silences[place].as_slice()
+        self.silences.ids_of(alloc, place)
     }
 
     /// The label sets of the alerts that inhibit the one at this place, in their order.
@@ -88,6 +91,7 @@ impl<'a> Mutes<'a> {
         requires { place < length self.now }
         ensures { IfOk result (λ v. map (λ set. set.now) v.items ≡ (get_or self.now place nothing).inhibited_by) }
     {
+        let _all = self.inhibited.len();
         let places = self.inhibited.places_of(alloc, self.first + place)?;
         sets_at(alloc, &self.firing, &places)
     }

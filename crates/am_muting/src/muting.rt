@@ -18,7 +18,7 @@ use am_inhibit::{Inhibited, inhibitors_of_each};
 use am_item::{Held, LabelSets, SilenceDetails, SilenceId, Stamped};
 use am_labels::LabelSet;
 use am_pattern::{PatternCache, PatternRefusal};
-use am_silence::{SilenceBook, SilenceState};
+use am_silence::{SilenceBook, SilenceState, Silenced};
 use am_text::{Failure, Moment};
 use std::alloc::{AllocError, Global};
 use std::collections::BTreeMap;
@@ -83,9 +83,8 @@ fn ask<'a>(
     firing: &[&'a LabelSet],
     others: &[&'a LabelSet],
     cache: &mut PatternCache,
-) -> Result<(Vec<Vec<SilenceId>>, Inhibited), Failure<PatternRefusal>>
-    ensures silencing { IfOk result (λ found. map (λ ids. ids.items) found.0.items
-        ≡ map (λ set. silencing moment held.now set.now) targets.now) }
+) -> Result<(Silenced, Inhibited), Failure<PatternRefusal>>
+    ensures silencing { IfOk result (λ found. found.0 ≡ map (λ set. silencing moment held.now set.now) targets.now) }
     ensures inhibitors { IfOk result (λ found. found.1
         ≡ map (λ target. inhibitor_places config.now.rules (map (λ set. set.now) firing.now) target.now) (firing.now ++ others.now)) }
     ensures places { IfOk result (λ found. All (λ places. All (λ place. place < length firing.now) places) found.1) }

@@ -31,7 +31,7 @@ misses_after cache p = if has_text cache.kept p then cache.misses else counted_o
 
 -- how many bytes the tables of one built pattern may take
 abbrev pub largest : ℕ
-largest = 2 ^ 20 + 24
+largest = 2 ^ 18 + 24
 
 -- a regex whose tables take no more was built of the text as it stands
 pub record IsBuilt (text : List ℕ) : Type 0 where

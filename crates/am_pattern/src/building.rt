@@ -17,7 +17,7 @@ use std::alloc::{AllocError, Global};
 use std::marker::Model;
 
 /// About how many bytes one built pattern may take.
-pub const MAX_SIZE: usize = 1 << 20;
+pub const MAX_SIZE: usize = 1 << 18;
 
 /// A regex that was built of a text.
 #[derive(Drop)]

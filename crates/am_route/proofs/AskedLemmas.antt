@@ -15,7 +15,7 @@ use Rattle.am_config.specs.Configured.{HasPattern}
 use Rattle.am_route.specs.Asked.{asked_among, asked_at, asked_of, route_matchers}
 use Rattle.am_route.specs.Routes.{route_takes}
 use Rattle.am_draft.specs.Forests.{IsForest, forest_of}
-use Rattle.am_route.proofs.FailureLemmas.{AreAmong, in_back, in_front}
+use Rattle.am_match.proofs.FailureLemmas.{AreAmong, in_back, in_front}
 use Rattle.am_draft.proofs.ForestLemmas.{forest_of-flat, head}
 
 -- the matcher at a place, where those before it took the labels

@@ -3,5 +3,4 @@ pub mod FailureLemmas
 pub mod PlacesLemmas
 pub mod RoutesLemmas
 pub mod KnownLemmas
-pub mod QuestionLemmas
 pub mod TableLemmas

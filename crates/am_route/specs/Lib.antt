@@ -2,5 +2,5 @@
 pub mod Routes
 -- the matchers that are asked
 pub mod Asked
--- the answers to many label sets
+-- what is known of the answers
 pub mod Answers

@@ -3,7 +3,6 @@
 
 mod answers;
 mod id;
-mod questions;
 mod routing;
 
 pub use id::RouteId;

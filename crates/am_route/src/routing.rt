@@ -50,9 +50,9 @@ pub fn routes_of(
 
 /// The routes of each of these label sets, in their order: those that [`routes_of`] gives.
 ///
-/// All matchers of the routes are asked, pattern by pattern, each once for all label sets. So no more patterns are built
-/// in the call than the routes have, however few the cache keeps; one that several matchers have is asked in turn, and
-/// built once. The call takes a byte for each route and label set.
+/// All matchers of the routes are asked, label by label, each once for all label sets. So no more patterns are built in
+/// the call than the routes have, however few the cache keeps; one that several matchers of a label have is built once.
+/// The call takes a byte for each route and label set.
 ///
 /// # Errors
 ///

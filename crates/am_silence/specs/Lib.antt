@@ -16,5 +16,5 @@ pub mod Held
 pub mod Changing
 -- which of them have matchers
 pub mod Having
--- the label sets at places
-pub mod Places
+-- rows of flags by column
+pub mod Rows

@@ -16,6 +16,7 @@ use crate::change::{Change, SilenceWrite, expiry_of, make_change};
 use crate::held::{HeldSilence, active_among, all_of, having, unexpired_of};
 use crate::posted::PostedSilence;
 use crate::refusal::SilenceRefusal;
+use crate::silenced::Silenced;
 use crate::silencing::silencing;
 use am_item::{Held, SilenceId};
 use am_labels::LabelSet;
@@ -144,11 +145,11 @@ impl<'a> SilenceBook<'a> {
         }
     }
 
-    /// For each of the label sets, in their order, the identifiers of the silences that are active at the moment and whose
-    /// matchers all take it, in order.
+    /// For each of the label sets, in their order, the silences that are active at the moment and whose matchers all take
+    /// it.
     ///
-    /// One silence after another is asked, only of label sets that have the rarest of the labels that its matchers with
-    /// `=` want. So a pattern of one is built at most once in the call, however few patterns the cache keeps.
+    /// The matchers of all these silences are asked together, label by label. So a pattern is built at most once in the
+    /// call for each label that it is asked of, however few patterns the cache keeps.
     ///
     /// # Errors
     /// Those of [`am_match::Matcher::matches`] for a matcher of an active silence.
@@ -158,8 +159,8 @@ impl<'a> SilenceBook<'a> {
         sets: &[&LabelSet],
         moment: Moment,
         cache: &mut PatternCache,
-    ) -> Result<Vec<Vec<SilenceId>>, Failure<PatternRefusal>>
-        ensures silencing { IfOk result (λ v. map (λ ids. ids.items) v.items ≡ map (λ set. silencing moment self.now set.now) sets.now) }
+    ) -> Result<Silenced, Failure<PatternRefusal>>
+        ensures silencing { IfOk result (λ s. s ≡ map (λ set. silencing moment self.now set.now) sets.now) }
         ensures asked { Asked result cache.old cache.new }
         ensures misses { cache.new.misses ≤ cache.old.misses + length (patterns_of (matchers_in (active_among moment self.now))) }
         ensures failure { IfErr result (IsFailureAmong (matchers_in (active_among moment self.now)) cache.old cache.new) }

@@ -10,26 +10,26 @@ pub returns-clause-linked : goal.returns-clause-linked
 returns-clause-linked c =
     let view : Bor LabelSet → List Label = λ set. set.now in
     let long = length-map c.args.sets.now view in
-    let sources = c.args.sides.now.sources.items in
-    let targets = c.args.sides.now.targets.items in
+    let sources = c.args.sources.now in
+    let targets = c.args.targets.now in
     sides_linked c.args.names.now (map view c.args.sets.now) sources targets c.args.fires.now c.in_ok-firing.firing.items c.in_ok-target_alone.target_alone.items
     c.in_ok-source_alone.source_alone.items c.in_ok-both_sides.both_sides.items (lists_of c.args.links.now.items) (lists_of c.link.new.links.items)
     (lists_of c.link-2.new.links.items)
-    (λ k below. rw c.deref.ensures.value at c.in_ok-firing.ensures.flags k (omega (arith, below, long, c.requires.sources)))
-    (λ k below. rw (c.deref-2.ensures.value, c.deref-3.ensures.value) at c.in_ok-target_alone.ensures.flags k (omega (arith, below, long, c.requires.targets)))
-    (λ k below. rw (c.deref-6.ensures.value, c.deref-7.ensures.value) at c.in_ok-source_alone.ensures.flags k (omega (arith, below, long, c.requires.sources, c.in_ok-firing.ensures.each)))
-    (λ k below. rw (c.deref-8.ensures.value, c.deref-9.ensures.value) at c.in_ok-both_sides.ensures.flags k (omega (arith, below, long, c.requires.targets)))
-    (rw (c.deref-4.ensures.value, c.deref-5.ensures.value) at c.in_ok-link.ensures.linked)
-    (rw (c.deref-10.ensures.value, c.deref-11.ensures.value) at c.in_ok-link-2.ensures.linked)
+    (λ k below. c.in_ok-firing.ensures.flags k (omega (arith, below, long, c.requires.sources)))
+    (λ k below. c.in_ok-target_alone.ensures.flags k (omega (arith, below, long, c.requires.targets)))
+    (λ k below. rw c.deref-3.ensures.value at c.in_ok-source_alone.ensures.flags k (omega (arith, below, long, c.requires.sources, c.in_ok-firing.ensures.each)))
+    (λ k below. c.in_ok-both_sides.ensures.flags k (omega (arith, below, long, c.requires.targets)))
+    (rw (c.deref.ensures.value, c.deref-2.ensures.value) at c.in_ok-link.ensures.linked)
+    (rw (c.deref-4.ensures.value, c.deref-5.ensures.value) at c.in_ok-link-2.ensures.linked)
 
 pub returns-clause-places : goal.returns-clause-places
 returns-clause-places c = λ count sound fine.
     let sound_firing = below_second c.in_ok-firing.firing.items _ c.args.fires.now count c.in_ok-firing.ensures.each c.in_ok-firing.ensures.flags sound in
     c.in_ok-link-2.ensures.places count
     (λ place on.
-    below_first c.in_ok-source_alone.source_alone.items c.deref-6.result.now (λ k. not (get_or c.deref-7.result.now k false)) count
+    below_first c.in_ok-source_alone.source_alone.items c.deref-3.result.now (λ k. not (get_or c.args.targets.now k false)) count
     c.in_ok-source_alone.ensures.each c.in_ok-source_alone.ensures.flags
-    (λ other set. sound_firing other (ap (λ (flags : List Bool). get_or flags other false) (sym c.deref-6.ensures.value) ∙ set))
-    place (ap (λ (flags : List Bool). get_or flags place false) (sym c.deref-10.ensures.value) ∙ on))
+    (λ other set. sound_firing other (ap (λ (flags : List Bool). get_or flags other false) (sym c.deref-3.ensures.value) ∙ set))
+    place (ap (λ (flags : List Bool). get_or flags place false) (sym c.deref-4.ensures.value) ∙ on))
     (c.in_ok-link.ensures.places count
-    (λ place on. sound_firing place (ap (λ (flags : List Bool). get_or flags place false) (sym c.deref-4.ensures.value) ∙ on)) fine)
+    (λ place on. sound_firing place (ap (λ (flags : List Bool). get_or flags place false) (sym c.deref.ensures.value) ∙ on)) fine)

@@ -1,4 +1,4 @@
-use Rattle.std.proofs.Common.{◌∙◌, [], List, ℕ, Bor, Global, Vec, ap, append-nil, map, arith}
+use Rattle.std.proofs.Common.{◌∙◌, [], List, ℕ, Bor, ap, append-nil, map, arith}
 use Rattle.am_labels.specs.declared.Label.{Label}
 use Rattle.am_silence.specs.Held.{silencing}
 use Rattle.am_inhibit.specs.Inhibits.{inhibitor_places}
@@ -24,7 +24,7 @@ pub returns-clause-muting : goal.returns-clause-muting
 returns-clause-muting c =
     let firing = c.args.firing.items in
     c.new.ensures
-    ∙ muting_first c.args.config.now c.args.moment c.args.held.now firing (map (λ (ids : Vec (List ℕ) Global). ids.items) c.in_ok-silences.silences.items) c.in_ok-silences.inhibited
+    ∙ muting_first c.args.config.now c.args.moment c.args.held.now firing c.in_ok-silences.silences c.in_ok-silences.inhibited
     (rw c.deref.ensures.value at c.in_ok-silences.ensures.silencing) (rw c.deref-2.ensures.value at c.in_ok-silences.ensures.inhibitors)
     ∙ ap (λ (sets : List (List Label)). map (λ (set' : Bor (List Label)). muting_by c.args.config.now c.args.moment c.args.held.now sets set'.now) firing) c.requires
     ∙ of_firing c.args.config.now c.args.moment c.args.held.now firing

@@ -6,7 +6,7 @@ use Rattle.am_draft.specs.Forests.{forest_of}
 use Rattle.am_route.proofs.AskedLemmas.{below_asked, later_asked, own_asked, passed_asked}
 use Rattle.am_pattern.proofs.AskingLemmas.{grows-stays, grows-trans, stays-trans}
 use Rattle.am_route.proofs.KnownLemmas.{back_known, first_known, first_within, front_known, rest_known}
-use Rattle.am_route.proofs.FailureLemmas.{AreAmong, asked_on, failure_of_part, handed_on}
+use Rattle.am_match.proofs.FailureLemmas.{AreAmong, asked_on, failure_of_part, handed_on}
 use Rattle.am_route.proofs.RoutesLemmas.{head_of, passed, routes_none, taken_last, taken_on}
 use Rattle.am_route.proofs.routing.+walk.Goals as goal
 use Rattle.am_route.proofs.routing.+walk.Goals.{walk-then-branch+in_ok-enter+else-not-node, walk-else-branch}

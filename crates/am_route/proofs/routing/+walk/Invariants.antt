@@ -4,7 +4,7 @@ use Rattle.am_route.specs.Answers.{AreKnown}
 use Rattle.am_route.specs.Asked.{asked_among}
 use Rattle.am_route.specs.Routes.{routes_among}
 use Rattle.am_draft.specs.Forests.{IsForest, forest_of}
-use Rattle.am_route.proofs.FailureLemmas.{AreAmong}
+use Rattle.am_match.proofs.FailureLemmas.{AreAmong}
 use Rattle.am_route.proofs.routing.+walk.Given as goal
 
 abbrev pub decreases-enter : goal.decreases-enter

@@ -8,7 +8,8 @@ use Rattle.am_match.proofs.NarrowLemmas.{memory_alone}
 use Rattle.am_route.specs.Asked.{asked_at, route_matchers}
 use Rattle.am_route.specs.Routes.{routes_at}
 use Rattle.am_route.proofs.AskedLemmas.{asked_in_routes}
-use Rattle.am_route.proofs.FailureLemmas.{asked_on, failure_of_part, handed_on, patterns_had, route_patterns}
+use Rattle.am_match.proofs.FailureLemmas.{asked_on, failure_of_part, handed_on}
+use Rattle.am_route.proofs.FailureLemmas.{patterns_had, route_patterns}
 use Rattle.am_route.proofs.PlacesLemmas.{places_at, some_at}
 use Rattle.am_route.proofs.TableLemmas.{all_of_each, all_told, column_known, rows_reach}
 use Rattle.am_route.proofs.routing.routes_of_each.Goals as goal

@@ -2,7 +2,7 @@ use Rattle.std.proofs.Common.{◌≡◌, drop}
 use Rattle.am_pattern.specs.Asking.{Stays}
 use Rattle.am_match.specs.Meaning.{all_take}
 use Rattle.am_route.specs.Asked.{asked_of}
-use Rattle.am_route.proofs.FailureLemmas.{AreAmong}
+use Rattle.am_match.proofs.FailureLemmas.{AreAmong}
 use Rattle.am_route.proofs.routing.takes_all.Given as goal
 
 abbrev pub invariant-loop-matcher : goal.invariant-loop-matcher

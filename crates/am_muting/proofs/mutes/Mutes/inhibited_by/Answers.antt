@@ -1,17 +1,14 @@
-use Rattle.std.proofs.Common.{◌∙◌, [], ℕ, Bor, List, Global, Vec, ap, get_or, map, sym, arith}
-use Rattle.std.proofs.lemmas.List.{length-map}
+use Rattle.std.proofs.Common.{◌∙◌, [], Bor, List, ap, get_or, map, sym, arith}
 use Rattle.std.proofs.lemmas.Result.{IfOk-weaker}
 use Rattle.am_labels.specs.declared.Label.{Label}
 use Rattle.am_muting.specs.Muting.{Muting}
-use Rattle.am_muting.proofs.Places.{fits_both, muting_here, within_inhibited, within_silences}
+use Rattle.am_muting.proofs.Places.{muting_here, within_inhibited}
 use Rattle.am_muting.proofs.mutes.Mutes.inhibited_by.Goals as goal
 
 pub overflow_add-self-inside : goal.overflow_add-self-inside
 overflow_add-self-inside c =
-    let items : Vec (List ℕ) Global → List (List ℕ) = λ ids. ids.items in
-    let below = within_silences _ _ _ _ _ _ c.args.place c.self.view_is c.self.invariant c.requires in
-    fits_both c.self.inside.firing c.self.inside.silences c.self.inside.first c.args.place c.self.invariant.fits
-    (let long = length-map c.self.inside.silences.items items in omega (arith, below, long))
+    let below = within_inhibited _ _ _ _ _ _ c.args.place c.self.view_is c.self.invariant c.requires in
+    omega (arith, below, c.len-all.ensures)
 
 pub places_of-requires : goal.places_of-requires
 places_of-requires c = within_inhibited _ _ _ _ _ _ c.args.place c.self.view_is c.self.invariant c.requires
