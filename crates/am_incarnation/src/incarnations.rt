@@ -1,8 +1,9 @@
 //! The greatest incarnation that the rows of a store have.
 
-ghost use Rattle.std.specs.Prelude.{◌≡◌, IfOk, OnOk, true};
+ghost use Rattle.std.specs.Prelude.{◌≡◌, IfErr, IfOk, OnOk, true};
 ghost use Rattle.std.specs.List.{list_all};
 ghost use Rattle.am_incarnation.specs.Incarnations.{IsGreatestFrom, IsGreatestIncarnation, IsReached, bounds};
+ghost use Rattle.am_rows.specs.Refusing.{IsCaused, IsJudged, MayRefuse, Wears};
 ghost use Rattle.am_rows.specs.Rows.{Keeps, rows_of};
 
 use am_item::Item;
@@ -22,6 +23,8 @@ pub fn greatest_incarnation<R: Rows>(
     ensures clean { R.is_clean store.new ≡ true → R.is_clean store.old ≡ true }
     ensures greatest { R.is_clean store.new ≡ true → IfOk result (λ n. IsGreatestIncarnation n (R.pairs store.old)) }
     ensures stays { R.is_clean store.new ≡ true → OnOk result (Keeps (R.pairs store.old) (R.pairs store.new)) }
+    ensures fails { R.is_clean store.new ≡ true
+        → IfErr result (IsJudged (R.is_foreign store.old) (MayRefuse (R.medium store.old) (R.medium store.new))) }
 {
     store.open(alloc)?;
     let tenants = store.tenants(alloc)?;
@@ -39,6 +42,9 @@ fn greatest_of<R: Rows>(
     ensures greatest { R.is_clean store.new ≡ true → IfOk result (λ n.
         (list_all (λ t. bounds n (rows_of t (R.pairs store.old))) tenants.now ≡ true) × IsReached n (R.pairs store.old)) }
     ensures stays { R.is_clean store.new ≡ true → OnOk result (Keeps (R.pairs store.old) (R.pairs store.new)) }
+    ensures fails { R.is_clean store.new ≡ true
+        → IfErr result (IsCaused (MayRefuse (R.medium store.old) (R.medium store.new))) }
+    ensures wears { R.is_clean store.new ≡ true → Wears (R.medium store.old) (R.medium store.new) }
 {
     let mut greatest = 0;
     for tenant in tenants {

@@ -1,4 +1,4 @@
-ghost use Rattle.std.specs.Prelude.{◌≡◌, ◌⊎◌, ◌++◌, ◌&&◌, not, is_none, ℕ, List, [], IfErr, IfOk, OnErr, OnOk, string_bytes};
+ghost use Rattle.std.specs.Prelude.{◌≡◌, ◌⊎◌, ◌++◌, ◌&&◌, not, is_none, ℕ, List, [], length, IfErr, IfOk, OnErr, OnOk, string_bytes};
 ghost use Rattle.std.specs.List.{flat_map};
 ghost use Rattle.std.specs.Io.KnownBytes.{Appends, Keeps};
 ghost use Rattle.am_world.specs.Refusal.{refusal};
@@ -64,11 +64,12 @@ pub fn play<R: Rows + Drop, L: Link, S: Source, K: Sink, E: Sink>(
     // Where the lines of the source aren't known, there are lines of which this holds.
     ensures plays { IfOk result (λ r. (trace : List Happened) × (faults : ℕ)
         × Scenario R L.carries L.answers world.state (S.lines source) r.0 trace faults
-        (shelves_of R.pairs R.is_clean R.is_open r.1.items)
+        (shelves_of R.Rows r.1.items)
         × Appends (K.contents writer.old) (K.contents writer.new) (printed trace ++ ending r.0 faults)
         × IsolatesTenants world.state trace faults) }
     ensures breaks { OnErr result (ScenarioBreaks R L.carries L.answers world.state (S.lines source)
         (K.contents writer.old) (K.contents writer.new)) }
+    ensures stores { IfOk result (λ r. length r.1.items ≡ 8) }
     ensures causes { IfErr result (IsFailureOf
         (λ error. S.fails_with error ⊎ K.fails_with error ⊎ E.fails_with error)) }
 {

@@ -1,5 +1,5 @@
 -- The rows of a store go by what is held.
-use Rattle.std.proofs.Common.{◌≡◌, ◌<◌, ◌&&◌, ◌||◌, inl, inr, ℕ, Bool, true, false, not, length, List, [], ◌∷◌, ◌++◌, Option, Some, None, Result, Ok, Err, OnErr, OnOk, filter, nat_le, refl, sym, ap, subst, ◌∙◌, if◌then◌else◌}
+use Rattle.std.proofs.Common.{◌≡◌, ◌<◌, ◌&&◌, ◌||◌, inl, inr, ℕ, Bool, true, false, not, length, List, [], ◌∷◌, ◌++◌, Option, Some, None, IfErr, Result, Ok, Err, OnErr, OnOk, filter, nat_le, refl, sym, ap, subst, ◌∙◌, if◌then◌else◌}
 use Rattle.std.specs.List.{list_any}
 use Rattle.std.proofs.lemmas.List.{append-nil}
 use Rattle.std.specs.Option.{option_map_or}
@@ -37,8 +37,8 @@ use Rattle.am_item.proofs.Joining.{all_joined-merged}
 use Rattle.am_rows.proofs.Following.{rows_rise, rows_stored}
 use Rattle.std.specs.List.Sorted.{IsStrictlySortedBy}
 use Rattle.am_replica.specs.Plans.{IsPlanned}
-use Rattle.am_replica.specs.Storing.{AreRowsOf, AreStored, StopsStoring, fault_for, silence_named}
-use Rattle.am_replica.specs.Ticks.{StopsRetiring}
+use Rattle.am_replica.specs.Storing.{AreRowsOf, AreStored, StopsStoring, fault_for, fault_in, silence_named}
+use Rattle.am_replica.specs.Ticks.{StopsDoing, StopsRetiring}
 
 abbrev Pairs : Type 0
 Pairs = List (List ℕ × Item)
@@ -237,3 +237,21 @@ held_accepted moment items local = refl
 pub stores_held : (moment : ℕ) (new : Parts) (before after : Pairs) → Keeps before after → ((t : List ℕ) → local_of t new ≡ accepted moment (rows_of t before) blank) → AreStored new after
 stores_held moment new before after keeps held t =
     keeps t ∙ sym (ap (λ (l : Local). stored_in l.held) (held t) ∙ ap stored_in (held_accepted moment (rows_of t before) blank) ∙ rows_whole t before)
+
+-- ---- only a store refuses
+
+pub never_accepting : {X : Type 0} (r : Result X Fault) (refused : List (List ℕ)) (items : List Item) (local : Local) → IfErr r (StopsAccepting refused items local)
+    → fault_in r ≡ Some StoreRefused → ⊥
+never_accepting (Ok x) refused items local stops is = let clash = is in cc
+never_accepting (Err OutOfMemory) refused items local stops is = let clash = is in cc
+never_accepting (Err CountsExhausted) refused items local stops is = stops
+never_accepting (Err PatternNotBuilt) refused items local stops is = let clash = is in cc
+never_accepting (Err StoreRefused) refused items local stops is = stops
+
+pub never_doing : {X : Type 0} (r : Result X Fault) (here : List ℕ → Here) (before : List ℕ → Local) (refused : List (List ℕ)) → IfErr r (StopsDoing here before refused)
+    → fault_in r ≡ Some StoreRefused → ⊥
+never_doing (Ok x) here before refused stops is = let clash = is in cc
+never_doing (Err OutOfMemory) here before refused stops is = let clash = is in cc
+never_doing (Err CountsExhausted) here before refused stops is = let clash = is in cc
+never_doing (Err PatternNotBuilt) here before refused stops is = let clash = is in cc
+never_doing (Err StoreRefused) here before refused stops is = stops

@@ -1,6 +1,6 @@
 //! Items that are accepted.
 
-ghost use Rattle.std.specs.Prelude.{OnErr, ◌≡◌, ◌⊎◌, ◌+◌, ◌<◌, ◌≤◌, ℕ, List, [], ◌∷◌, false, true, length, IfErr, IfOk, OnOk, if◌then◌else◌, map, unwrap_or};
+ghost use Rattle.std.specs.Prelude.{◌≡◌, ◌⊎◌, ◌+◌, ◌<◌, ◌≤◌, ℕ, List, [], ◌∷◌, false, true, length, IfErr, IfOk, OnOk, if◌then◌else◌, map, unwrap_or};
 ghost use Rattle.std.specs.List.{list_any};
 ghost use Rattle.std.specs.List.Sorted.{IsStrictlySortedBy};
 ghost use Rattle.std.specs.Map.{keys_of};
@@ -15,7 +15,7 @@ ghost use Rattle.am_pattern.specs.Asking.{Asked};
 ghost use Rattle.am_planning.specs.Planning.{planned_alerts};
 ghost use Rattle.am_route.specs.Asked.{route_matchers};
 ghost use Rattle.am_rows.specs.Rows.{has_stored};
-ghost use Rattle.am_replica.specs.Storing.{AreStored, LeavesRows};
+ghost use Rattle.am_replica.specs.Storing.{AreStored, LeavesStore, fault_in};
 ghost use Rattle.am_tenant.specs.Names.{same};
 ghost use Rattle.am_text.specs.Outcome.{ForRefused};
 ghost use Rattle.am_words.specs.Places.{place_of};
@@ -127,8 +127,9 @@ impl Parts {
         ensures clean { R.is_clean store.new ≡ true → R.is_clean store.old ≡ true }
         ensures open { OnOk result (R.is_open store.new ≡ true) }
         ensures stores { R.is_clean store.new ≡ true → AreStored self.old (R.pairs store.old) → OnOk result (AreStored self.new (R.pairs store.new)) }
-        ensures left { R.is_clean store.new ≡ true → R.is_shut store.new ≡ false → AreStored self.old (R.pairs store.old) → OnErr result (LeavesRows
-            (λ t. local_of t self.old) (λ t. kept_for tenant.now moment items.items drawn t (local_of t self.old)) (R.pairs store.new)) }
+        ensures left { R.is_clean store.new ≡ true → AreStored self.old (R.pairs store.old) → LeavesStore
+            (λ t. local_of t self.old) (λ t. kept_for tenant.now moment items.items drawn t (local_of t self.old))
+            (R.rejects tenant.now items.items) (fault_in result) (R.medium store.old) (R.medium store.new) (R.pairs store.new) }
         ensures untouched { has_stored items.items ≡ false → store.new ≡ store.old }
     {
         commit(alloc, store, tenant, &items)?;

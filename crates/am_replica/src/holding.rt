@@ -6,6 +6,7 @@ ghost use Rattle.std.specs.List.{list_any};
 ghost use Rattle.std.specs.List.Sorted.{IsStrictlySortedBy};
 ghost use Rattle.std.specs.Ordering.{nat_cmp};
 ghost use Rattle.am_pattern.specs.Asking.{Asked};
+ghost use Rattle.am_rows.specs.Refusing.{IsCaused, IsJudged, MayRefuse, Wears};
 ghost use Rattle.am_rows.specs.Rows.{Keeps, rows_of, stored_in};
 ghost use Rattle.am_tenant.specs.Names.{same};
 ghost use Rattle.am_replica.specs.Accepting.{accepted};
@@ -41,6 +42,8 @@ impl Parts {
         ensures keeps { R.is_clean store.new ≡ true → OnOk result (Keeps (R.pairs store.old) (R.pairs store.new)) }
         ensures held { R.is_clean store.new ≡ true → OnOk result ((t : List ℕ) →
             local_of t self.new ≡ accepted moment (rows_of t (R.pairs store.old)) blank) }
+        ensures fails { R.is_clean store.new ≡ true
+            → IfErr result (IsJudged (R.is_foreign store.old) (MayRefuse (R.medium store.old) (R.medium store.new))) }
     {
         store.open(alloc)?;
         let names = store.tenants(alloc)?;
@@ -66,6 +69,9 @@ impl Parts {
         ensures keeps { R.is_clean store.new ≡ true → OnOk result (Keeps (R.pairs store.old) (R.pairs store.new)) }
         ensures held { R.is_clean store.new ≡ true → OnOk result ((t : List ℕ) → local_of t self.new ≡
             (if list_any (same t) names.now then accepted moment (rows_of t (R.pairs store.old)) blank else blank)) }
+        ensures fails { R.is_clean store.new ≡ true
+            → IfErr result (IsCaused (MayRefuse (R.medium store.old) (R.medium store.new))) }
+        ensures wears { R.is_clean store.new ≡ true → Wears (R.medium store.old) (R.medium store.new) }
     {
         for tenant in names {
             let rows = store.rows_of(alloc, tenant)?;

@@ -7,9 +7,10 @@ ghost use Rattle.am_alert.specs.Made.{greatest_count};
 ghost use Rattle.am_current.specs.Current.{configuration_in};
 ghost use Rattle.am_item.specs.Best.{IsRising};
 ghost use Rattle.am_pattern.specs.Asking.{Asked};
+ghost use Rattle.am_rows.specs.Refusing.{IsJudged, MayRefuse};
 ghost use Rattle.am_rows.specs.Rows.{Keeps, has_stored, rows_of, stored_in};
 ghost use Rattle.am_replica.specs.Retiring.{retired};
-ghost use Rattle.am_replica.specs.Storing.{AreStored, LeavesRows};
+ghost use Rattle.am_replica.specs.Storing.{AreStored, LeavesStore, fault_in};
 ghost use Rattle.am_tenant.specs.Names.{same};
 ghost use Rattle.am_replica.specs.Accepting.{StopsCommitting, accepted, kept, kept_for};
 ghost use Rattle.am_replica.specs.Delivery.{is_awaited, outcome};
@@ -132,6 +133,8 @@ impl Replica {
             local_of t self.new ≡ accepted moment (rows_of t (R.pairs store.old)) blank) }
         ensures stores { R.is_clean store.new ≡ true → OnOk result (AreStored self.new (R.pairs store.new)) }
         ensures lost { OnErr result ((t : List ℕ) → local_of t self.new ≡ blank) }
+        ensures fails { R.is_clean store.new ≡ true
+            → IfErr result (IsJudged (R.is_foreign store.old) (MayRefuse (R.medium store.old) (R.medium store.new))) }
     {
         let parts = &mut self.parts;
         match parts.hold(alloc, moment, cache, store) {
@@ -168,8 +171,9 @@ impl Replica {
         ensures clean { R.is_clean store.new ≡ true → R.is_clean store.old ≡ true }
         ensures open { OnOk result (R.is_open store.new ≡ true) }
         ensures stores { R.is_clean store.new ≡ true → AreStored self.old (R.pairs store.old) → OnOk result (AreStored self.new (R.pairs store.new)) }
-        ensures left { R.is_clean store.new ≡ true → R.is_shut store.new ≡ false → AreStored self.old (R.pairs store.old) → OnErr result (LeavesRows
-            (λ t. local_of t self.old) (λ t. kept_for tenant.now moment items.items drawn t (local_of t self.old)) (R.pairs store.new)) }
+        ensures left { R.is_clean store.new ≡ true → AreStored self.old (R.pairs store.old) → LeavesStore
+            (λ t. local_of t self.old) (λ t. kept_for tenant.now moment items.items drawn t (local_of t self.old))
+            (R.rejects tenant.now items.items) (fault_in result) (R.medium store.old) (R.medium store.new) (R.pairs store.new) }
         ensures untouched { has_stored items.items ≡ false → store.new ≡ store.old }
     {
         let parts = &mut self.parts;
@@ -207,8 +211,9 @@ impl Replica {
         ensures clean { R.is_clean store.new ≡ true → R.is_clean store.old ≡ true }
         ensures open { OnOk result (R.is_open store.new ≡ true) }
         ensures stores { R.is_clean store.new ≡ true → AreStored self.old (R.pairs store.old) → OnOk result (AreStored self.new (R.pairs store.new)) }
-        ensures left { R.is_clean store.new ≡ true → R.is_shut store.new ≡ false → AreStored self.old (R.pairs store.old) → OnErr result (LeavesRows
-            (λ t. local_of t self.old) (λ t. retired moment (local_of t self.old)) (R.pairs store.new)) }
+        ensures left { R.is_clean store.new ≡ true → AreStored self.old (R.pairs store.old) → LeavesStore
+            (λ t. local_of t self.old) (λ t. retired moment (local_of t self.old))
+            ⊥ (fault_in result) (R.medium store.old) (R.medium store.new) (R.pairs store.new) }
     {
         let parts = &mut self.parts;
         match parts.tick(alloc, instance, incarnation, moment, limits, cache, store) {

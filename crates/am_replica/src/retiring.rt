@@ -1,12 +1,13 @@
 //! What becomes of what is retired.
 
-ghost use Rattle.std.specs.Prelude.{◌≡◌, ℕ, List, IfErr, OnErr, OnOk, false, true, if◌then◌else◌};
+ghost use Rattle.std.specs.Prelude.{◌≡◌, ℕ, List, Some, IfErr, OnErr, OnOk, false, true, if◌then◌else◌};
 ghost use Rattle.am_tenant.specs.Names.{same};
 ghost use Rattle.am_agenda.specs.Planned.{plan_of};
 ghost use Rattle.am_replica.specs.Held.{local_of};
 ghost use Rattle.am_replica.specs.Retiring.{plan_without, retired};
-ghost use Rattle.am_replica.specs.Storing.{AreStored};
+ghost use Rattle.am_replica.specs.Storing.{AreStored, fault_in};
 ghost use Rattle.am_replica.specs.Ticks.{StopsRetiring};
+ghost use Rattle.am_rows.specs.Refusing.{MayRefuse};
 ghost use Rattle.am_rows.specs.Rows.{Keeps};
 
 use crate::parts::Parts;
@@ -33,8 +34,10 @@ impl Parts {
         ensures clean { R.is_clean store.new ≡ true → R.is_clean store.old ≡ true }
         ensures open { OnOk result (R.is_open store.new ≡ true) }
         ensures stores { R.is_clean store.new ≡ true → AreStored self.old (R.pairs store.old) → OnOk result (AreStored self.new (R.pairs store.new)) }
-        ensures left { R.is_clean store.new ≡ true → R.is_shut store.new ≡ false → OnErr result (Keeps (R.pairs store.old) (R.pairs store.new)) }
+        ensures left { R.is_clean store.new ≡ true → (R.medium store.new).is_shut ≡ false → OnErr result (Keeps (R.pairs store.old) (R.pairs store.new)) }
         ensures fault { IfErr result (StopsRetiring moment (λ t. local_of t self.old)) }
+        ensures cause { R.is_clean store.new ≡ true → fault_in result ≡ Some Fault.StoreRefused
+            → MayRefuse (R.medium store.old) (R.medium store.new) }
     {
         let mut silences = Vec::new(alloc);
         while let Some((tenant, key)) = self.holdings.pop_retired(moment) {

@@ -1,8 +1,10 @@
 //! What goes to the store.
 
-ghost use Rattle.std.specs.Prelude.{◌≡◌, ◌<◌, ◌++◌, ℕ, List, IfErr, OnErr, OnOk, false, length, nat_lt, true};
+ghost use Rattle.std.specs.Prelude.{◌≡◌, ◌⊎◌, ◌<◌, ◌++◌, ℕ, List, Some, IfErr, OnErr, OnOk, false, length, nat_lt};
+ghost use Rattle.std.specs.Prelude.{true};
+ghost use Rattle.am_rows.specs.Refusing.{MayRefuse};
 ghost use Rattle.am_rows.specs.Rows.{Keeps, Makes as MakesRows, has_stored, is_stored, put_rows, rows_of, without_silences};
-ghost use Rattle.am_replica.specs.Storing.{StopsStoring, fault_for, silence_named};
+ghost use Rattle.am_replica.specs.Storing.{StopsStoring, fault_for, fault_in, silence_named};
 
 use am_item::{Fault, Item, SilenceId, Thing, ThingKey};
 use am_rows::{Rows, StoreRefusal};
@@ -21,8 +23,10 @@ pub(crate) fn commit<R: Rows>(
     ensures clean { R.is_clean store.new ≡ true → R.is_clean store.old ≡ true }
     ensures open { OnOk result (R.is_open store.new ≡ true) }
     ensures put { R.is_clean store.new ≡ true → OnOk result (MakesRows tenant.now (put_rows items.now) (R.pairs store.old) (R.pairs store.new)) }
-    ensures err { R.is_clean store.new ≡ true → R.is_shut store.new ≡ false → OnErr result (Keeps (R.pairs store.old) (R.pairs store.new)) }
+    ensures err { R.is_clean store.new ≡ true → (R.medium store.new).is_shut ≡ false → OnErr result (Keeps (R.pairs store.old) (R.pairs store.new)) }
     ensures fault { IfErr result (StopsStoring (has_stored items.now)) }
+    ensures cause { R.is_clean store.new ≡ true → fault_in result ≡ Some Fault.StoreRefused
+        → MayRefuse (R.medium store.old) (R.medium store.new) ⊎ R.rejects tenant.now items.now }
     ensures untouched { has_stored items.now ≡ false → store.new ≡ store.old }
 {
     if !has_stored(items) {
@@ -75,8 +79,10 @@ pub(crate) fn drop_rows<R: Rows>(
     ensures open { OnOk result (R.is_open store.new ≡ true) }
     ensures dropped { R.is_clean store.new ≡ true → OnOk result ((t : List ℕ) →
         rows_of t (R.pairs store.new) ≡ without_silences silences.now t (rows_of t (R.pairs store.old))) }
-    ensures err { R.is_clean store.new ≡ true → R.is_shut store.new ≡ false → OnErr result (Keeps (R.pairs store.old) (R.pairs store.new)) }
+    ensures err { R.is_clean store.new ≡ true → (R.medium store.new).is_shut ≡ false → OnErr result (Keeps (R.pairs store.old) (R.pairs store.new)) }
     ensures fault { IfErr result (StopsStoring (nat_lt 0 (length silences.now))) }
+    ensures cause { R.is_clean store.new ≡ true → fault_in result ≡ Some Fault.StoreRefused
+        → MayRefuse (R.medium store.old) (R.medium store.new) }
     ensures untouched { length silences.now ≡ 0 → store.new ≡ store.old }
 {
     if silences.is_empty() {

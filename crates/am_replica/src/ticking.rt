@@ -11,7 +11,7 @@ ghost use Rattle.am_replica.specs.Held.{Does, StopsFor, local_of};
 ghost use Rattle.am_replica.specs.Local.{Tells};
 ghost use Rattle.am_replica.specs.Plans.{IsPlanned};
 ghost use Rattle.am_replica.specs.Retiring.{retired};
-ghost use Rattle.am_replica.specs.Storing.{AreStored, LeavesRows};
+ghost use Rattle.am_replica.specs.Storing.{AreStored, LeavesStore, fault_in};
 ghost use Rattle.am_replica.specs.Ticking.{due_keys, handled};
 ghost use Rattle.am_replica.specs.Ticks.{AreHandled, DoesDue, StopsTicking, StopsDoing, StopsHandling, StopsMuting, TicksAll, has_flush, here_for, keys_for, muted_at, muted_for, said_of, some_flush};
 
@@ -55,8 +55,9 @@ impl Parts {
         ensures clean { R.is_clean store.new ≡ true → R.is_clean store.old ≡ true }
         ensures open { OnOk result (R.is_open store.new ≡ true) }
         ensures stores { R.is_clean store.new ≡ true → AreStored self.old (R.pairs store.old) → OnOk result (AreStored self.new (R.pairs store.new)) }
-        ensures left { R.is_clean store.new ≡ true → R.is_shut store.new ≡ false → AreStored self.old (R.pairs store.old) → OnErr result (LeavesRows
-            (λ t. local_of t self.old) (λ t. retired moment (local_of t self.old)) (R.pairs store.new)) }
+        ensures left { R.is_clean store.new ≡ true → AreStored self.old (R.pairs store.old) → LeavesStore
+            (λ t. local_of t self.old) (λ t. retired moment (local_of t self.old))
+            ⊥ (fault_in result) (R.medium store.old) (R.medium store.new) (R.pairs store.new) }
     {
         self.retire(alloc, moment, store)?;
         self.do_due(alloc, instance, incarnation, moment, limits, cache)

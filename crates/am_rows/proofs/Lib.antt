@@ -1,2 +1,3 @@
 pub mod Dropping
 pub mod Following
+pub mod Wearing

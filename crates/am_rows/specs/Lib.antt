@@ -1,3 +1,4 @@
 pub mod Codes
 pub mod Fit
+pub mod Refusing
 pub mod Rows

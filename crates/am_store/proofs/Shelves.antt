@@ -1,14 +1,17 @@
 -- What the calls of a store make of its rows, as items.
-use Rattle.std.proofs.Common.{◌≡◌, inl, inr, ℕ, Bool, true, false, cond, not, ◌||◌, List, [], ◌∷◌, ◌++◌, map, Option, Some, None, option_and_then, option_map, IsTrue, arith, refl, sym, ap, ◌∙◌, subst}
+use Rattle.std.proofs.Common.{◌≡◌, ◌⊎◌, inl, inr, ℕ, Bool, true, false, cond, not, ◌||◌, List, [], ◌∷◌, ◌++◌, map, IsSome, Option, Some, None, option_and_then, option_map, IsTrue, arith, refl, sym, ap, ◌∙◌, subst}
 use Rattle.std.specs.List.{cons_option, list_all, list_any}
 use Rattle.std.specs.List.Sorted.{IsPermutation, IsStrictlySortedBy}
 use Rattle.std.specs.Option.{option_to_list}
 use Rattle.std.specs.Ordering.{is_eq}
-use Rattle.std.proofs.lemmas.Bool.{and_parts, cases_Bool, cond-false, cond-true}
+use Rattle.std.proofs.lemmas.Bool.{and_parts, both_ways, cases_Bool, cond-false, cond-true}
 use Rattle.std.proofs.lemmas.List.Sorted.{IsPermutation-sym, length_permutation}
 use Rattle.sqlite.proofs.Callers.{one_permutation}
 use Rattle.sqlite.specs.Effect.{Database}
 use Rattle.sqlite.specs.State.{HasCleanDisk, State, Survives}
+use Rattle.sqlite.specs.declared.error.Error.{Error}
+use Rattle.sqlite.specs.declared.error.Error.TheVariants.{SqliteFailure}
+use Rattle.sqlite.specs.declared.error.ErrorCode.TheVariants as code
 use Rattle.sqlite.specs.Tree.{Trees}
 use Rattle.sqlite_keyed.proofs.ListLemmas.{IsPermutation-filter}
 use Rattle.sqlite_trees.proofs.Doubt.{clean_of, no_doubt}
@@ -25,12 +28,20 @@ use Rattle.am_item.proofs.Joining.{all_joined-merged}
 use Rattle.am_item.proofs.Meaning.{at_keyed}
 use Rattle.am_item.proofs.Keys.{key_same}
 use Rattle.am_item.proofs.Rising.{AllAbove, here_at, later_at, none_above, rising_same}
+use Rattle.am_text.specs.Outcome.{ForRefused}
+use Rattle.am_text.specs.declared.failure.Failure.{Failure}
+use Rattle.am_text.specs.declared.failure.Failure.TheVariants.{Refused, OutOfMemory}
+use Rattle.am_rows.specs.Refusing.{MayRefuse, Wears}
+use Rattle.am_rows.specs.Refusing as rows
+use Rattle.am_rows.specs.declared.refusal.StoreRefusal.{StoreRefusal}
+use Rattle.am_rows.specs.declared.refusal.StoreRefusal.TheVariants as refusal
 use Rattle.am_rows.specs.Rows.{Keeps, Makes, is_kept, is_stored, no_rows, put_rows, rows_of, stored_in, without_key}
 use Rattle.am_rows.proofs.Following.{at-filter, by_kind, is_kind, drop_follows, put_follows, rising-filter, sifted}
 use Rattle.am_share.specs.Pairs.{things_of}
 use Rattle.am_store.specs.Best.{Holds}
 use Rattle.am_store.specs.Items.{is_empty, item_of, kept_in, with_item}
-use Rattle.am_store.specs.Opening.{Opens}
+use Rattle.am_store.specs.Failing.{IsCaused, IsExcused, IsJudged, IsPutExcused, MayFail, Rejects, medium_of}
+use Rattle.am_store.specs.Opening.{IsForeign, Opens}
 use Rattle.am_store.specs.Rows.{IsStore, pairs_in}
 use Rattle.am_store.specs.Steps.{Empties, Removes, Stores}
 use Rattle.am_store.specs.Stored.{ConfigurationText, Content, Puts, SilenceWords, Stored, latest, of_key, stamped, stored_at, stored_item, stored_items, stored_thing}
@@ -40,6 +51,7 @@ use Rattle.sqlite.specs.Order.{Row}
 use Rattle.am_store.specs.Tables.{no_schema}
 use Rattle.am_store.proofs.KeyOrder.{key_stored}
 use Rattle.am_store.proofs.Bests.{put_joins, put_best}
+use Rattle.am_store.proofs.Failing.{told}
 
 -- ---- what is stored, as items
 
@@ -297,3 +309,49 @@ cleaner old new P s is = let now = clean_is new is in is_clean old (omega (arith
 pub not_shut : (b : Bool) → not b ≡ false → IsTrue b
 not_shut true h = refl
 not_shut false h = absurd (let clash = h in cc)
+
+-- ---- refusals
+
+shut_is : (b : Bool) → not b ≡ true → b ≡ false
+shut_is true h = absurd (let clash = h in cc)
+shut_is false h = refl
+
+pub worn : (old new : State) (P : Trees → Type 0) → Survives old new P → new.is_clean ≡ true → Wears (medium_of old) (medium_of new)
+worn old new P s clean = record {
+  counts = s.counts;
+  shuts = λ shut. elim (cases_Bool old.is_open) [
+    | inl was ↦ elim (s.closes (clean_is new clean) was) [
+      | inl still ↦ absurd (both_ways _ (shut_is new.is_open shut) still)
+      | inr faults ↦ inr faults
+    ]
+    | inr before ↦ inl (ap not before)
+  ];
+}
+
+module _ (old new : State) (unlimited : old.step_limit ≡ None) where
+  may_refuse : MayFail old new → MayRefuse (medium_of old) (medium_of new)
+  may_refuse (inl faults) = inr faults
+  may_refuse (inr (inl shut)) = inl (ap not shut)
+  may_refuse (inr (inr limit)) = absurd (let some = subst IsSome unlimited limit in cc)
+
+  pub caused : (failure : Failure StoreRefusal) → IsCaused old new failure → rows.IsCaused (MayRefuse (medium_of old) (medium_of new)) failure
+  caused (Refused why) is = (is.0, may_refuse is.1)
+  caused OutOfMemory is = tt
+
+  pub excused : (e : Error) (failure : Failure StoreRefusal) → (e ≡ SqliteFailure code.OutOfMemory → failure ≡ OutOfMemory)
+      → ForRefused failure (λ why. why ≡ refusal.Database) → IsExcused old new e → rows.IsCaused (MayRefuse (medium_of old) (medium_of new)) failure
+  excused e failure memory database is = caused failure (told old new e failure memory database is)
+
+  pub put_excused : (t : List ℕ) (items : List Item) (e : Error) (failure : Failure StoreRefusal) → (e ≡ SqliteFailure code.OutOfMemory → failure ≡ OutOfMemory)
+      → ForRefused failure (λ why. why ≡ refusal.Database) → IsPutExcused t (stored_items items) old new e
+      → rows.IsCaused (MayRefuse (medium_of old) (medium_of new) ⊎ Rejects t items) failure
+  put_excused t items e OutOfMemory memory database is = tt
+  put_excused t items e (Refused why) memory database (inl (inl out)) = absurd (let no = memory out in cc)
+  put_excused t items e (Refused why) memory database (inl (inr may)) = (database, inl (may_refuse may))
+  put_excused t items e (Refused why) memory database (inr refuses) = (database, inr (inr (old.now, refuses)))
+
+  pub judged : (failure : Failure StoreRefusal) → (failure ≡ Refused refusal.Foreign → old.now.schema ≡ no_schema → ⊥) → IsJudged old new failure
+      → rows.IsJudged (IsForeign old.now) (MayRefuse (medium_of old) (medium_of new)) failure
+  judged (Refused why) used (inl foreign) = inl (foreign.0, record { used = used (ap Refused foreign.0); foreign = foreign.1 })
+  judged (Refused why) used (inr is) = inr (is.0, may_refuse is.1)
+  judged OutOfMemory used is = tt

@@ -1,5 +1,5 @@
 -- When the database of a store refuses a call.
-use Rattle.std.specs.Prelude.{◌≡◌, ◌⊎◌, ◌≤◌, ℕ, Bool, true, false, not, List, [], ◌∷◌, ◌++◌, None, Ok, Err, length, Option, IsSome, IsTrue, Result, IfErr}
+use Rattle.std.specs.Prelude.{◌≡◌, ◌⊎◌, ◌≤◌, ℕ, Bool, true, false, not, All, List, [], ◌∷◌, ◌++◌, None, Ok, Err, length, Option, IsSome, IsTrue, Result, IfErr}
 use Rattle.std.specs.List.{list_any}
 use Rattle.std.specs.Ordering.{is_gt}
 use Rattle.sqlite_disk.specs.Disk.{MoreFaults}
@@ -26,9 +26,12 @@ use Rattle.am_item.specs.Stamp.{stamp_cmp}
 use Rattle.am_share.specs.Pairs.{things_of}
 use Rattle.am_store.specs.Rows.{IsStore, config_fields, id_text, pairs_in, silence_fields}
 use Rattle.am_store.specs.Steps.{PutsRow, TakesOut}
-use Rattle.am_store.specs.Stored.{ConfigurationText, Content, SilenceWords, Stored, key_in, of_key}
+use Rattle.am_store.specs.Stored.{ConfigurationText, Content, SilenceWords, Stored, key_in, of_key, stored_items}
 use Rattle.am_store.specs.Tables.{config, silence, store_schema}
 use Rattle.am_store.specs.Where.{hit, of_silence, of_tenant}
+use Rattle.am_item.specs.declared.item.Item.{Item}
+use Rattle.am_rows.specs.Fit.{IsFit}
+use Rattle.am_rows.specs.Refusing.{Medium}
 use Rattle.am_rows.specs.declared.refusal.StoreRefusal.{StoreRefusal}
 use Rattle.am_rows.specs.declared.refusal.StoreRefusal.TheVariants as refusal
 
@@ -139,3 +142,13 @@ IsPutExcused tenant xs old new e = IsExcused old new e ⊎ RefusesPut tenant xs 
 abbrev pub IsPutCaused : List ℕ → List Stored → State → State → Failure StoreRefusal → Type 0
 IsPutCaused tenant xs old new failure =
     ForRefused failure (λ why. (why ≡ refusal.Database) × (MayFail old new ⊎ RefusesPut tenant xs old.now))
+
+-- ---- what is told of a database as a store of rows
+
+-- what a database is kept on
+abbrev pub medium_of : State → Medium
+medium_of s = record { failures = s.faults; is_shut = not s.is_open }
+
+-- one of the items has no row, as a number or a length doesn't fit, or there is a store that refuses one of the rows
+abbrev pub Rejects : List ℕ → List Item → Type 0
+Rejects tenant items = (All IsFit items → ⊥) ⊎ ((db : Database) × RefusesPut tenant (stored_items items) db)

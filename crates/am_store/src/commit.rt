@@ -127,6 +127,8 @@ fn take_silence<S: Alter>(
         (state S.Store tx.new.conn.now).now) }
     ensures fails { HasCleanDisk (state S.Store tx.new.conn.now) → IsReady (state S.Store tx.old.conn.now)
         → IfErr result (IsExcused (state S.Store tx.old.conn.now) (state S.Store tx.new.conn.now)) }
+    ensures sound { HasCleanDisk (state S.Store tx.new.conn.now) → IsReady (state S.Store tx.old.conn.now)
+        → OnOk result (IsDatabase (state S.Store tx.new.conn.now).now) }
     ensures kept { HasCleanDisk (state S.Store tx.new.conn.now)
         → KeepsCommit (state S.Store tx.old.conn.now) (state S.Store tx.new.conn.now) }
     ensures inside { HasCleanDisk (state S.Store tx.new.conn.now)
@@ -173,6 +175,8 @@ fn take_silences<S: Alter>(
     ensures same_reference { tx.new.conn.ghost_name ≡ tx.old.conn.ghost_name }
     ensures ok { HasCleanDisk (state S.Store tx.new.conn.now) → IsStore (state S.Store tx.old.conn.now).now
         → OnOk result (RemovesEach silences.now (state S.Store tx.old.conn.now).now (state S.Store tx.new.conn.now).now) }
+    ensures fails { HasCleanDisk (state S.Store tx.new.conn.now) → IsReady (state S.Store tx.old.conn.now)
+        → IfErr result (IsExcused (state S.Store tx.old.conn.now) (state S.Store tx.new.conn.now)) }
     ensures kept { HasCleanDisk (state S.Store tx.new.conn.now)
         → KeepsCommit (state S.Store tx.old.conn.now) (state S.Store tx.new.conn.now) }
     ensures inside { HasCleanDisk (state S.Store tx.new.conn.now)
@@ -197,6 +201,8 @@ pub(crate) fn drop_silences<S: Alter>(
     ensures err { HasCleanDisk (state S.Store conn.new) → IsTrue (state S.Store conn.new).is_open
         → IsStore (state S.Store conn.old).now
         → OnErr result (IsSame (state S.Store conn.old) (state S.Store conn.new)) }
+    ensures fails { HasCleanDisk (state S.Store conn.new) → IsStore (state S.Store conn.old).now
+        → IfErr result (IsExcused (state S.Store conn.old) (state S.Store conn.new)) }
     ensures idle { conn.new.in_transaction ≡ false }
     ensures crash { Survives (state S.Store conn.old) (state S.Store conn.new)
         (Leaves (RemovesEach silences.now) (state S.Store conn.old)) }

@@ -1,6 +1,6 @@
 //! What may be stored.
 
-ghost use Rattle.std.specs.Prelude.{◌≡◌, ◌<◌, ◌^◌, All, IsTrue, length};
+ghost use Rattle.std.specs.Prelude.{◌≡◌, ◌<◌, ◌^◌, All, IsTrue, false, length};
 ghost use Rattle.am_match.specs.Spelling.{IsShort, IsSpellable};
 ghost use Rattle.am_rows.specs.Fit.{IsFit, IsNumbered};
 
@@ -9,7 +9,8 @@ use am_match::Matcher;
 
 /// Whether items may be stored. That the item of a request may always be is not for the store to know.
 pub(crate) fn are_fit(items: &[Item]) -> bool
-    ensures { IsTrue result → All IsFit items.now }
+    ensures fits { IsTrue result → All IsFit items.now }
+    ensures unfit { result ≡ false → All IsFit items.now → ⊥ }
 {
     for item in items {
         if !is_fit(item) {
@@ -20,7 +21,8 @@ pub(crate) fn are_fit(items: &[Item]) -> bool
 }
 
 fn is_fit(item: &Item) -> bool
-    ensures { IsTrue result → IsFit item.now }
+    ensures fits { IsTrue result → IsFit item.now }
+    ensures unfit { result ≡ false → IsFit item.now → ⊥ }
 {
     if !is_numbered(&item.stamp) {
         return false;
@@ -34,19 +36,22 @@ fn is_fit(item: &Item) -> bool
 }
 
 fn is_numbered(stamp: &Stamp) -> bool
-    ensures { IsTrue result → IsNumbered stamp.now }
+    ensures fits { IsTrue result → IsNumbered stamp.now }
+    ensures unfit { result ≡ false → IsNumbered stamp.now → ⊥ }
 {
     1 <= stamp.instance && stamp.instance <= 8 && stamp.count <= GREATEST_COUNT
 }
 
 fn are_spellable(matchers: &[Matcher]) -> bool
-    ensures { IsTrue result → IsSpellable matchers.now }
+    ensures fits { IsTrue result → IsSpellable matchers.now }
+    ensures unfit { result ≡ false → IsSpellable matchers.now → ⊥ }
 {
     matchers.len() < 1 << 16 && are_short(matchers)
 }
 
 fn are_short(matchers: &[Matcher]) -> bool
-    ensures { IsTrue result → All IsShort matchers.now }
+    ensures fits { IsTrue result → All IsShort matchers.now }
+    ensures unfit { result ≡ false → All IsShort matchers.now → ⊥ }
 {
     for matcher in matchers {
         if !is_short(matcher) {
@@ -57,7 +62,8 @@ fn are_short(matchers: &[Matcher]) -> bool
 }
 
 fn is_short(matcher: &Matcher) -> bool
-    ensures { IsTrue result → IsShort matcher.now }
+    ensures fits { IsTrue result → IsShort matcher.now }
+    ensures unfit { result ≡ false → IsShort matcher.now → ⊥ }
 {
     matcher.name().len() < 1 << 32 && matcher.value().len() < 1 << 32
 }

@@ -9,6 +9,8 @@ ghost use Rattle.am_store.specs.Best.{Holds};
 ghost use Rattle.sqlite.specs.Held.{Held, state};
 ghost use Rattle.sqlite.specs.Steps.{over_memory};
 ghost use Rattle.sqlite_trees.specs.declared.memory.MemStore.{MemStore};
+ghost use Rattle.am_rows.specs.Refusing.{MayRefuse};
+ghost use Rattle.am_store.specs.Failing.{medium_of};
 ghost use Rattle.am_store.specs.Stored.{Puts, Stored, stored_items};
 
 /// What a store has of a tenant under each key is the best of the items that were put since the tenant was last
@@ -26,4 +28,11 @@ pub fn rows_are_the_best()
 /// time.
 pub fn memory_stays_clean()
     ensures { (shelf : Held MemStore × Bool) → (state over_memory shelf.0).is_clean ≡ true }
+{}
+
+/// Memory never fails: what a call of a store may be refused for never holds of one in memory. It refuses only what no
+/// store takes.
+pub fn memory_never_fails()
+    ensures { (old new : Held MemStore × Bool)
+        → MayRefuse (medium_of (state over_memory old.0)) (medium_of (state over_memory new.0)) → ⊥ }
 {}

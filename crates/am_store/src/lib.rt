@@ -19,7 +19,7 @@ mod stamps;
 mod store;
 mod tenants;
 
-pub use laws::{memory_stays_clean, rows_are_the_best};
+pub use laws::{memory_never_fails, memory_stays_clean, rows_are_the_best};
 pub use made::{FileShelf, MemoryShelf};
 pub use shelf::Shelf;
 pub use store::Store;

@@ -1,6 +1,6 @@
 //! A database as the store of an instance, opened or not.
 
-ghost use Rattle.std.specs.Prelude.{◌≡◌, Bool, false, true};
+ghost use Rattle.std.specs.Prelude.{◌≡◌, Bool, None, false, true};
 ghost use Rattle.sqlite.specs.Held.{state};
 ghost use Rattle.am_store.specs.Items.{kept_in};
 
@@ -16,7 +16,6 @@ use std::alloc::Global;
 use std::marker::Model;
 
 /// A database that an instance keeps its rows in. It is a store once it was opened, until a call is refused.
-#[derive(Drop)]
 pub struct Shelf<S: Alter> {
     conn: Connection<S>,
     is_open: bool,
@@ -24,7 +23,7 @@ pub struct Shelf<S: Alter> {
 
 impl<S: Alter> Model for Shelf<S> {
     ghost use Rattle.std.specs.Coded.{coded×, coded_bool};
-    ghost use Rattle.std.specs.Prelude.{◌≡◌, Bool, false, true};
+    ghost use Rattle.std.specs.Prelude.{◌≡◌, Bool, None, false, true};
     ghost use Rattle.sqlite.specs.Held.{Held, held_code, state};
     ghost use Rattle.sqlite.specs.State.{HasCleanDisk};
     ghost use Rattle.am_store.specs.Rows.{IsStore};
@@ -36,13 +35,26 @@ impl<S: Alter> Model for Shelf<S> {
     ghost view = { λ shelf. (shelf.conn, shelf.is_open) };
 
     ghost invariant = { λ shelf. (shelf.conn.in_transaction ≡ false)
-        × (shelf.is_open ≡ true → HasCleanDisk (state S.Store shelf.conn) → IsStore (state S.Store shelf.conn).now) };
+        × (shelf.is_open ≡ true → HasCleanDisk (state S.Store shelf.conn) → IsStore (state S.Store shelf.conn).now)
+        × (shelf.conn.step_limit ≡ None) };
+}
+
+// Written out, so that a crate which owns one has no need to prove anew how each part of a database is dropped.
+impl<S: Alter + Drop> Drop for Shelf<S> {
+    fn drop(self) {
+        let Shelf {
+            conn,
+            is_open: _is_open,
+        } = self;
+        drop(conn);
+    }
 }
 
 impl<S: Alter> Shelf<S> {
-    /// A database that isn't opened yet.
+    /// A database that isn't opened yet, and has no limit on the steps of a query.
     pub fn new(conn: Connection<S>) -> Shelf<S>
-        requires { conn.in_transaction ≡ false }
+        requires idle { conn.in_transaction ≡ false }
+        requires unlimited { conn.step_limit ≡ None }
         ensures { result ≡ (conn, false) }
     {
         Shelf {
@@ -64,15 +76,20 @@ impl<S: Alter> Shelf<S> {
 }
 
 impl<S: Alter> Rows for Shelf<S> {
-    ghost use Rattle.std.specs.Prelude.{not};
+    ghost use Rattle.am_store.specs.Failing.{Rejects, medium_of};
+    ghost use Rattle.am_store.specs.Opening.{IsForeign};
 
     ghost pairs = { λ shelf. kept_in (state S.Store shelf.0).now };
 
     ghost is_clean = { λ shelf. (state S.Store shelf.0).is_clean };
 
-    ghost is_shut = { λ shelf. not (state S.Store shelf.0).is_open };
+    ghost medium = { λ shelf. medium_of (state S.Store shelf.0) };
 
     ghost is_open = { λ shelf. shelf.1 };
+
+    ghost is_foreign = { λ shelf. IsForeign (state S.Store shelf.0).now };
+
+    ghost rejects = { Rejects };
 
     fn open(&mut self, alloc: Global) -> Result<(), Failure<StoreRefusal>> {
         self.is_open = false;

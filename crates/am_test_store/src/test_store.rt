@@ -1,8 +1,10 @@
 //! The store.
 
-ghost use Rattle.std.specs.Prelude.{◌≡◌, ◌&&◌, filter, not, false, true};
+ghost use Rattle.std.specs.Prelude.{◌≡◌, ◌&&◌, ◌≤◌, filter, not, false, true, IfErr};
 ghost use Rattle.am_item.specs.Key.{SilenceKey, has_key};
+ghost use Rattle.am_rows.specs.Refusing.{IsCaused, MayRefuse};
 ghost use Rattle.am_rows.specs.Rows.{is_among};
+ghost use Rattle.am_test_store.specs.Pairs.{medium_of};
 ghost use Rattle.am_tenant.specs.Names.{same};
 
 use crate::copying::copies_of;
@@ -23,6 +25,8 @@ pub struct TestStore {
     is_open: bool,
     // How many calls come before the one that fails, where one does.
     before: Option<u64>,
+    // How many calls failed, at most 2^64 - 1.
+    failures: u64,
 }
 
 impl TestStore {
@@ -32,6 +36,7 @@ impl TestStore {
             pairs: Vec::new(alloc),
             is_open: false,
             before: None,
+            failures: 0,
         }
     }
 
@@ -42,12 +47,16 @@ impl TestStore {
 
     // Begins a call, in which the store isn't open.
     fn begin(&mut self) -> Result<(), Failure<StoreRefusal>>
-        ensures { self.new.pairs ≡ self.old.pairs }
+        ensures pairs { self.new.pairs ≡ self.old.pairs }
+        ensures fails { IfErr result
+            (IsCaused (MayRefuse (medium_of self.old.failures) (medium_of self.new.failures))) }
+        ensures counts { self.old.failures ≤ self.new.failures }
     {
         self.is_open = false;
         let fails = self.before == Some(0);
         self.before = self.before.and_then(|before| before.checked_sub(1));
         if fails {
+            self.failures = self.failures.saturating_add(1);
             Err(Failure::Refused(StoreRefusal::Database))
         } else {
             Ok(())
@@ -60,9 +69,13 @@ impl Rows for TestStore {
 
     ghost is_clean = { λ _. true };
 
-    ghost is_shut = { λ _. false };
+    ghost medium = { λ store. medium_of store.failures };
 
     ghost is_open = { λ store. store.is_open };
+
+    ghost is_foreign = { λ _. ⊥ };
+
+    ghost rejects = { λ _ _. ⊥ };
 
     fn open(&mut self, _alloc: Global) -> Result<(), Failure<StoreRefusal>> {
         self.begin()?;

@@ -1,5 +1,5 @@
 -- what was decided on a request, as the instance sees it
-use Rattle.std.proofs.Common.{◌≡◌, inl, inr, ◌∙◌, ℕ, ◌+◌, ◌<◌, ◌≤◌, true, List, [], ◌∷◌, ◌++◌, length, Result, Ok, Err, IfOk, IfErr, refl, sym, ap, arith, subst}
+use Rattle.std.proofs.Common.{◌≡◌, inl, inr, ◌∙◌, ℕ, ◌+◌, ◌<◌, ◌≤◌, true, List, [], ◌∷◌, ◌++◌, length, Some, Result, Ok, Err, IfOk, IfErr, refl, sym, ap, arith, subst}
 use Rattle.am_alert.specs.Made.{counts_fit, greatest_count}
 use Rattle.am_api.specs.Deciding.{DecidesBy, IsUnbuilt, decision_of}
 use Rattle.am_api.specs.Decision.{decided}
@@ -30,6 +30,7 @@ use Rattle.am_pattern.specs.Cache.{Cache}
 use Rattle.am_pattern.proofs.AskingLemmas.{grows-asked}
 use Rattle.am_limit.specs.declared.limits.Limits.{Limits}
 use Rattle.am_rows.specs.Rows.{has_stored}
+use Rattle.am_replica.specs.Storing.{fault_in}
 use Rattle.am_replica.specs.Accepting.{StopsCommitting}
 use Rattle.am_replica.specs.Local.{Local}
 use Rattle.am_world.specs.Places.{HasMore, here_of, local_in}
@@ -38,7 +39,7 @@ use Rattle.am_world.specs.Taking.{Brings}
 use Rattle.am_world.proofs.Built.{adds_none, more_then}
 
 -- a refusal for a pattern has no items
-no_items : (d : Decision) → IsUnbuilt d → d.items ≡ []
+pub no_items : (d : Decision) → IsUnbuilt d → d.items ≡ []
 no_items d (inl e) = ap (λ (x : Decision). x.items) e
 no_items d (inr (inl e)) = ap (λ (x : Decision). x.items) e
 no_items d (inr (inr e)) = ap (λ (x : Decision). x.items) e
@@ -102,6 +103,15 @@ stops_for old new (Err OutOfMemory) request here local returned = tt
 stops_for old new (Err CountsExhausted) request here local returned = returned
 stops_for old new (Err PatternNotBuilt) request here local returned = inl returned
 stops_for old new (Err StoreRefused) request here local returned = absurd returned
+
+-- no store is asked
+pub never_deciding : (old new : Cache) (result : Result Decided Fault) (request : Request) (here : Here) (local : Local) → Returns old new result request here local
+    → fault_in result ≡ Some StoreRefused → ⊥
+never_deciding old new (Ok d) request here local returned is = let clash = is in cc
+never_deciding old new (Err OutOfMemory) request here local returned is = let clash = is in cc
+never_deciding old new (Err CountsExhausted) request here local returned is = let clash = is in cc
+never_deciding old new (Err PatternNotBuilt) request here local returned is = let clash = is in cc
+never_deciding old new (Err StoreRefused) request here local returned is = returned
 
 -- ---- what it brings is accepted
 

@@ -4,6 +4,7 @@ mod Deciding
 mod Faults
 mod InstancesLemmas
 mod Kept
+mod Leaves
 mod KeptBytes
 mod KeptClose
 mod KeptOutcome

@@ -1,5 +1,5 @@
 -- instances as they are opened
-use Rattle.std.proofs.Common.{◌≡◌, ◌∙◌, inl, inr, ℕ, Bool, true, false, List, [], ◌∷◌, ◌++◌, length, Option, Some, None, Result, Ok, Err, OnOk, ◌==◌, find, map, refl, sym, ap, arith, if◌then◌else◌}
+use Rattle.std.proofs.Common.{◌≡◌, ◌∙◌, inl, inr, ℕ, Bool, true, false, List, [], ◌∷◌, ◌++◌, length, Option, Some, None, Result, Ok, Err, IfErr, OnOk, ◌==◌, find, map, refl, slice_get, subst, suc, sym, ap, arith, if◌then◌else◌}
 use Rattle.std.proofs.lemmas.Bool.{cases_Bool}
 use Rattle.std.proofs.lemmas.Bool.Decides.{nat_tests}
 use Rattle.am_http.specs.Connections.{bytes_of}
@@ -15,7 +15,13 @@ use Rattle.am_world.specs.Simulation.{Follows, Stands}
 use Rattle.am_world.specs.View.{first_watch}
 use Rattle.am_item.specs.declared.item.Item.{Item}
 use Rattle.am_replica.specs.Accepting.{accepted}
+use Rattle.am_rows.specs.Refusing.{IsJudged, MayRefuse}
 use Rattle.am_rows.specs.Rows.{rows_of}
+use Rattle.am_rows.specs.declared.rows.Rows.{Ghosts}
+use Rattle.am_rows.specs.declared.refusal.StoreRefusal.{StoreRefusal}
+use Rattle.am_text.specs.declared.failure.Failure.{Failure}
+use Rattle.am_text.specs.declared.failure.Failure.TheVariants as failure
+use Rattle.am_world.specs.Opening.{FailsAt, FailsToOpen, refusal_for, store_at}
 use Rattle.am_world.specs.Shelves.{AreBacked, IsStartedAt, Shelf, shelf_at}
 use Rattle.am_world.proofs.InstancesLemmas.{Changed, bytes_here, found_within, incarnation_here, local_here, missing_number, refused_here, up_here}
 use Rattle.am_world.proofs.Shelved.{backed_down}
@@ -175,3 +181,14 @@ pub stands_opening : (origin : Origin) (rows : ℕ → List Item) (t : List ℕ)
 unfolding limits_of
 stands_opening origin rows t w clock limits service_key roster local =
     record { tenant = refl; clock = clock; limits = rw limits refl; service_key = service_key; roster = roster; local = local }
+
+-- why the store of an instance wasn't opened
+pub fails_at : {R : Type 0} (g : Ghosts R) (stores : List R) (p i : ℕ) (x y : R) → suc p ≡ i → slice_get stores p ≡ Some x → (r : Result (Unit {0}) (Failure StoreRefusal))
+    → (g.is_clean y ≡ true → IfErr r (IsJudged (g.is_foreign x) (MayRefuse (g.medium x) (g.medium y)))) → IfErr r (FailsAt g i stores)
+fails_at g stores p i x y next found (Ok done) fails = tt
+fails_at g stores p i x y next found (Err why) fails = (x, subst (λ k. store_at k stores ≡ Some x) next found, y, fails)
+
+pub fails_to_open : {R : Type 0} (g : Ghosts R) (stores : List R) (i : ℕ) (why : Failure StoreRefusal) → serves i ≡ true → FailsAt g i stores why
+    → FailsToOpen g stores (refusal_for i why)
+fails_to_open g stores i (failure.Refused refusal) serving fails = (serving, fails)
+fails_to_open g stores i failure.OutOfMemory serving fails = tt

@@ -28,7 +28,7 @@ module _ {R : Type 0} (f : R → Shelf) (xs : List R) where
       let got : slice_get (slice_set xs p y) p ≡ Some y = set_get xs p p y less ∙ rw same refl in
       ap shelf_where (slice_get-map f (slice_set xs p y) p ∙ ap (option_map f) got)
 
-  shelf_other : (p j : ℕ) (y : R) → p < length xs → (j == suc p) ≡ false → shelf_at j (map f (slice_set xs p y)) ≡ shelf_at j (map f xs)
+  pub shelf_other : (p j : ℕ) (y : R) → p < length xs → (j == suc p) ≡ false → shelf_at j (map f (slice_set xs p y)) ≡ shelf_at j (map f xs)
   unfolding shelf_at
   shelf_other p zero y less apart = refl
   shelf_other p (suc q) y less apart =

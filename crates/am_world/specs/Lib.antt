@@ -12,4 +12,5 @@ pub mod Ticks
 pub mod View
 pub mod Shelves
 pub mod Opening
+pub mod Leaving
 pub mod Whole

@@ -1,29 +1,40 @@
 -- What a store has beside the instance whose store it is.
 use Rattle.std.specs.Prelude.{◌≡◌, ℕ, zero, suc, Bool, true, false, List, [], length, map, slice_get, Option, Some, None}
 use Rattle.am_item.specs.declared.item.Item.{Item}
+use Rattle.am_rows.specs.Refusing.{Medium}
 use Rattle.am_rows.specs.Rows.{rows_of, stored_in}
+use Rattle.am_rows.specs.declared.rows.Rows.{Ghosts}
 use Rattle.am_setup.specs.Setup.{is_instance}
 use Rattle.am_replica.specs.Accepting.{accepted}
 use Rattle.am_replica.specs.Local.{blank}
 use Rattle.am_world.specs.Places.{bytes_at, incarnation_at, local_at, local_in, refused_at, up_at}
 use Rattle.am_world.specs.declared.instance.Instance.{Instance}
 
--- what is seen of a store: what it has of all tenants; whether its disk has returned what was written; and whether it is
--- open, so that no call was refused since it was opened
+-- what is seen of a store: what it has of all tenants; whether its disk has returned what was written; whether it is open,
+-- so that no call was refused since it was opened; and what it is kept on
 pub record Shelf : Type 0 where
   pub pairs : List (List ℕ × Item)
   pub is_clean : Bool
   pub is_open : Bool
+  pub medium : Medium
 
-abbrev pub shelf_of : List (List ℕ × Item) → (clean opened : Bool) → Shelf
-shelf_of pairs clean opened = record { pairs = pairs; is_clean = clean; is_open = opened }
+abbrev pub shelf_of : {R : Type 0} → Ghosts R → R → Shelf
+shelf_of g store = record {
+  pairs = g.pairs store;
+  is_clean = g.is_clean store;
+  is_open = g.is_open store;
+  medium = g.medium store;
+}
 
 -- .. of stores, in their order
-abbrev pub shelves_of : {R : Type 0} → (R → List (List ℕ × Item)) → (clean opened : R → Bool) → List R → List Shelf
-shelves_of pairs clean opened stores = map (λ r. shelf_of (pairs r) (clean r) (opened r)) stores
+abbrev pub shelves_of : {R : Type 0} → Ghosts R → List R → List Shelf
+shelves_of g stores = map (shelf_of g) stores
+
+abbrev pub no_shelf : Shelf
+no_shelf = record { pairs = []; is_clean = false; is_open = false; medium = record { failures = 0; is_shut = false } }
 
 abbrev pub shelf_where : Option Shelf → Shelf
-shelf_where None = shelf_of [] false false
+shelf_where None = no_shelf
 shelf_where (Some shelf) = shelf
 
 -- the store of the instance of a number

@@ -42,13 +42,17 @@ impl Instance {
     ghost use Rattle.am_muting.specs.Failing.{AddsAmong};
     ghost use Rattle.am_replica.specs.Accepting.{accepted};
     ghost use Rattle.am_replica.specs.Delivery.{is_awaited, outcome};
+    ghost use Rattle.am_rows.specs.Refusing.{IsJudged, MayRefuse};
     ghost use Rattle.am_rows.specs.Rows.{rows_of, stored_in};
+    ghost use Rattle.am_replica.specs.Retiring.{retired};
+    ghost use Rattle.am_replica.specs.Storing.{fault_in};
     ghost use Rattle.am_replica.specs.Held.{StopsFor as StopsReacting};
     ghost use Rattle.am_replica.specs.Local.{Local, Reaction, blank};
     ghost use Rattle.am_replica.specs.Ticks.{IsDone, StopsTicking, TicksAll, here_for, said_of};
+    ghost use Rattle.am_world.specs.Leaving.{BringsRejected, LeavesShelf, stop_for, taken_in};
     ghost use Rattle.am_world.specs.Shelves.{IsBacked, shelf_of};
     ghost use Rattle.am_world.specs.Places.{HasMore, here_of, local_in};
-    ghost use Rattle.am_world.specs.Reaction.{AcceptsBuilt, IsCause, MayDecide, StopsFor, Terms, asked_for, decision_at, in_replica, terms_of, terms_with};
+    ghost use Rattle.am_world.specs.Reaction.{AcceptsBuilt, Here as Situation, IsCause, MayDecide, StopsFor, Terms, asked_for, decision_at, in_replica, terms_of, terms_with};
     ghost use Rattle.am_world.specs.Taking.{Brings};
     ghost use Rattle.am_world.specs.Ticks.{Either, Stops, Ticks};
 
@@ -100,7 +104,9 @@ impl Instance {
         ensures number { self.new.number ≡ self.old.number }
         ensures refused { OnOk result (self.new.cache.refused ≡ self.old.cache.refused) }
         ensures clean { R.is_clean store.new ≡ true → R.is_clean store.old ≡ true }
-        ensures backed { OnOk result (IsBacked self.new (shelf_of (R.pairs store.new) (R.is_clean store.new) (R.is_open store.new))) }
+        ensures backed { OnOk result (IsBacked self.new (shelf_of R.Rows store.new)) }
+        ensures fails { R.is_clean store.new ≡ true
+            → IfErr result (IsJudged (R.is_foreign store.old) (MayRefuse (R.medium store.old) (R.medium store.new))) }
     {
         self.replica.hold(alloc, moment, &mut self.cache, store)?;
         self.cause = None;
@@ -108,8 +114,7 @@ impl Instance {
         Ok(())
     }
 
-    /// Stops the instance for a fault, as a crash does: it is down, and all that it had is lost but its patterns. It takes
-    /// no memory.
+    /// Stops the instance for a fault, as a crash does: it is down, and has lost all but its patterns. It takes no memory.
     #[tactic(auto, unfolding(crate::specs::Places::local_in))]
     pub fn stop(&mut self, alloc: Global, fault: Fault)
         ensures cause { self.new.cause ≡ Some fault }
@@ -170,14 +175,17 @@ impl Instance {
         outputs: &mut Vec<Output>,
         store: &mut R,
     ) -> bool
-        requires { IsBacked self.old (shelf_of (R.pairs store.old) (R.is_clean store.old) (R.is_open store.old)) }
+        requires { IsBacked self.old (shelf_of R.Rows store.old) }
         ensures ends { Either result (Ticks moment limits.now self.old self.new outputs.old.items outputs.new.items)
             (Stops moment limits.now self.old self.new outputs.old.items outputs.new.items) }
         ensures incarnation { self.new.incarnation ≡ self.old.incarnation }
         ensures number { self.new.number ≡ self.old.number }
         ensures clean { R.is_clean store.new ≡ true → R.is_clean store.old ≡ true }
-        ensures backed { IsBacked self.new (shelf_of (R.pairs store.new) (R.is_clean store.new) (R.is_open store.new)) }
+        ensures backed { IsBacked self.new (shelf_of R.Rows store.new) }
         ensures refused { HasMore self.old.cache.refused self.new.cache.refused }
+        ensures left { self.old.up ≡ true → LeavesShelf
+            (λ t. local_in t self.old) (λ t. retired moment (local_in t self.old)) ⊥ (stop_for self.new.up self.new.cause)
+            (shelf_of R.Rows store.old) (shelf_of R.Rows store.new) }
     {
         if !self.up {
             return true;
@@ -201,7 +209,7 @@ impl Instance {
         store: &mut R,
     ) -> Result<(), Fault>
         requires up { self.old.up ≡ true }
-        requires backed { IsBacked self.old (shelf_of (R.pairs store.old) (R.is_clean store.old) (R.is_open store.old)) }
+        requires backed { IsBacked self.old (shelf_of R.Rows store.old) }
         ensures told { OnOk result ((all : List Dispatch)
             × (outputs.new.items ≡ outputs.old.items ++ map (notice_from self.old.number self.old.incarnation) all)
             × TicksAll (here_for self.old.number self.old.incarnation moment limits.now)
@@ -215,8 +223,10 @@ impl Instance {
         ensures number { self.new.number ≡ self.old.number }
         ensures stays { OnOk result (self.new.cache.refused ≡ self.old.cache.refused) }
         ensures clean { R.is_clean store.new ≡ true → R.is_clean store.old ≡ true }
-        ensures backed { OnOk result (IsBacked self.new (shelf_of (R.pairs store.new) (R.is_clean store.new) (R.is_open store.new))) }
+        ensures backed { OnOk result (IsBacked self.new (shelf_of R.Rows store.new)) }
         ensures refused { HasMore self.old.cache.refused self.new.cache.refused }
+        ensures left { LeavesShelf (λ t. local_in t self.old) (λ t. retired moment (local_in t self.old)) ⊥ (fault_in result)
+            (shelf_of R.Rows store.old) (shelf_of R.Rows store.new) }
     {
         let (number, incarnation) = (self.number, self.incarnation);
         let cache = &mut self.cache;
@@ -296,7 +306,7 @@ impl Instance {
         store: &mut R,
     ) -> Result<(), Fault>
         requires up { self.old.up ≡ true }
-        requires backed { IsBacked self.old (shelf_of (R.pairs store.old) (R.is_clean store.old) (R.is_open store.old)) }
+        requires backed { IsBacked self.old (shelf_of R.Rows store.old) }
         requires reads { IsSome (bytes_of connection self.old.front) }
         ensures brings { OnOk result ((before : List ℕ) → bytes_of connection self.old.front ≡ Some before →
             Brings (verdict (before ++ piece.now)) connection moment (λ t. terms_of service_key.now limits.now t)
@@ -314,8 +324,17 @@ impl Instance {
         ensures incarnation { self.new.incarnation ≡ self.old.incarnation }
         ensures number { self.new.number ≡ self.old.number }
         ensures clean { R.is_clean store.new ≡ true → R.is_clean store.old ≡ true }
-        ensures backed { OnOk result (IsBacked self.new (shelf_of (R.pairs store.new) (R.is_clean store.new) (R.is_open store.new))) }
+        ensures backed { OnOk result (IsBacked self.new (shelf_of R.Rows store.new)) }
         ensures refused { HasMore self.old.cache.refused self.new.cache.refused }
+        ensures left { (before : List ℕ) → bytes_of connection self.old.front ≡ Some before → LeavesShelf
+            (λ t. local_in t self.old)
+            (taken_in (verdict (before ++ piece.now))
+            (λ request. here_of self.old moment (terms_of service_key.now limits.now request.tenant))
+            moment connection (λ t. local_in t self.old))
+            (BringsRejected R.rejects (verdict (before ++ piece.now))
+            (λ request. here_of self.old moment (terms_of service_key.now limits.now request.tenant))
+            (λ t. local_in t self.old))
+            (fault_in result) (shelf_of R.Rows store.old) (shelf_of R.Rows store.new) }
     {
         match self.front.feed(alloc, connection, piece)? {
             Fed::Waits => Ok(()),
@@ -358,7 +377,7 @@ impl Instance {
         store: &mut R,
     ) -> Result<(), Fault>
         requires up { self.old.up ≡ true }
-        requires backed { IsBacked self.old (shelf_of (R.pairs store.old) (R.is_clean store.old) (R.is_open store.old)) }
+        requires backed { IsBacked self.old (shelf_of R.Rows store.old) }
         ensures brings { OnOk result ((terms : List ℕ → Terms) →
             terms request.now.tenant ≡ terms_with service_key.now limits request.now.tenant →
             Brings (Fed.Request request.now) connection moment terms self.old self.new
@@ -372,8 +391,13 @@ impl Instance {
         ensures incarnation { self.new.incarnation ≡ self.old.incarnation }
         ensures number { self.new.number ≡ self.old.number }
         ensures clean { R.is_clean store.new ≡ true → R.is_clean store.old ≡ true }
-        ensures backed { OnOk result (IsBacked self.new (shelf_of (R.pairs store.new) (R.is_clean store.new) (R.is_open store.new))) }
+        ensures backed { OnOk result (IsBacked self.new (shelf_of R.Rows store.new)) }
         ensures refused { HasMore self.old.cache.refused self.new.cache.refused }
+        ensures left { (here : Request → Situation) →
+            here request.now ≡ here_of self.old moment (terms_with service_key.now limits request.now.tenant) → LeavesShelf
+            (λ t. local_in t self.old) (taken_in (Fed.Request request.now) here moment connection (λ t. local_in t self.old))
+            (BringsRejected R.rejects (Fed.Request request.now) here (λ t. local_in t self.old))
+            (fault_in result) (shelf_of R.Rows store.old) (shelf_of R.Rows store.new) }
     {
         let decided = self.decide(alloc, request, service_key, limits, moment)?;
         let bytes = reply_bytes(alloc, decided.status, decided.body.as_slice())?;
@@ -410,6 +434,7 @@ impl Instance {
         ensures up { self.new.up ≡ self.old.up }
         ensures incarnation { self.new.incarnation ≡ self.old.incarnation }
         ensures number { self.new.number ≡ self.old.number }
+        ensures unrefused { fault_in result ≡ Some Fault.StoreRefused → ⊥ }
     {
         let maker = Maker {
             instance: self.number,

@@ -43,6 +43,11 @@ impl Model for Instances {
 }
 
 impl Instances {
+    ghost use Rattle.am_rows.specs.Refusing.{IsJudged, MayRefuse};
+    ghost use Rattle.am_replica.specs.Retiring.{retired};
+    ghost use Rattle.am_replica.specs.Storing.{fault_in};
+    ghost use Rattle.am_world.specs.Leaving.{BringsRejected, LeavesShelf, stop_at, taken_in};
+    ghost use Rattle.am_world.specs.Opening.{FailsAt};
     ghost use Rattle.am_world.specs.Shelves.{AreBacked, AreQuiet, IsBackedAt, IsStartedAt, NeverCleaner, shelf_at, shelf_of, shelves_of};
     ghost use Rattle.am_world.specs.Places.{IsDownAt, IsReadOnce, KeepRefused, SameElsewhere, awaits_at, bytes_at, cause_at, here_in, incarnation_at, instance_at, local_at, reader_of, reads, refused_at, roster_of, up_at};
     ghost use Rattle.am_replica.specs.Local.{blank};
@@ -81,13 +86,14 @@ impl Instances {
     ) -> Result<(), Failure<StoreRefusal>>
         requires exists { IsTrue (is_instance number) }
         requires down { IsDownAt number self.old }
-        requires backed { AreBacked self.old (shelves_of R.pairs R.is_clean R.is_open stores.old) }
+        requires backed { AreBacked self.old (shelves_of R.Rows stores.old) }
         ensures starts { OnOk result (IsStartedAt number moment self.old self.new
-            (shelf_at number (shelves_of R.pairs R.is_clean R.is_open stores.old))
-            (shelf_at number (shelves_of R.pairs R.is_clean R.is_open stores.new))) }
+            (shelf_at number (shelves_of R.Rows stores.old))
+            (shelf_at number (shelves_of R.Rows stores.new))) }
         ensures others { SameElsewhere number self.old self.new }
-        ensures clean { NeverCleaner (shelves_of R.pairs R.is_clean R.is_open stores.old) (shelves_of R.pairs R.is_clean R.is_open stores.new) }
-        ensures backed { OnOk result (AreBacked self.new (shelves_of R.pairs R.is_clean R.is_open stores.new)) }
+        ensures clean { NeverCleaner (shelves_of R.Rows stores.old) (shelves_of R.Rows stores.new) }
+        ensures backed { OnOk result (AreBacked self.new (shelves_of R.Rows stores.new)) }
+        ensures fails { IfErr result (FailsAt R.Rows number stores.old) }
     {
         self.start_at(alloc, number, moment, &mut stores[place(number)])
     }
@@ -103,11 +109,13 @@ impl Instances {
         requires exists { IsTrue (is_instance number) }
         requires down { IsDownAt number self.old }
         ensures starts { OnOk result (IsStartedAt number moment self.old self.new
-            (shelf_of (R.pairs store.old) (R.is_clean store.old) (R.is_open store.old))
-            (shelf_of (R.pairs store.new) (R.is_clean store.new) (R.is_open store.new))) }
+            (shelf_of R.Rows store.old)
+            (shelf_of R.Rows store.new)) }
         ensures others { SameElsewhere number self.old self.new }
         ensures clean { R.is_clean store.new ≡ true → R.is_clean store.old ≡ true }
-        ensures backed { OnOk result (IsBackedAt number self.new (shelf_of (R.pairs store.new) (R.is_clean store.new) (R.is_open store.new))) }
+        ensures backed { OnOk result (IsBackedAt number self.new (shelf_of R.Rows store.new)) }
+        ensures fails { R.is_clean store.new ≡ true
+            → IfErr result (IsJudged (R.is_foreign store.old) (MayRefuse (R.medium store.old) (R.medium store.new))) }
     {
         self.list[place(number)].start(alloc, moment, store)
     }
@@ -241,12 +249,15 @@ impl Instances {
         outputs: &mut Vec<Output>,
         stores: &mut [R],
     ) -> u64
-        requires { AreBacked self.old (shelves_of R.pairs R.is_clean R.is_open stores.old) }
+        requires { AreBacked self.old (shelves_of R.Rows stores.old) }
         ensures turns { TakeTurns moment limits.now numbers self.old self.new outputs.old.items outputs.new.items result }
-        ensures backed { AreBacked self.new (shelves_of R.pairs R.is_clean R.is_open stores.new) }
-        ensures clean { NeverCleaner (shelves_of R.pairs R.is_clean R.is_open stores.old) (shelves_of R.pairs R.is_clean R.is_open stores.new) }
+        ensures backed { AreBacked self.new (shelves_of R.Rows stores.new) }
+        ensures clean { NeverCleaner (shelves_of R.Rows stores.old) (shelves_of R.Rows stores.new) }
         // No other numbers are those of instances that are up.
         ensures exist { (i : ℕ) → IsTrue (up_at i self.old) → IsTrue (is_instance i) }
+        ensures left { (i : ℕ) → is_instance i ≡ true → up_at i self.old ≡ true → LeavesShelf
+            (λ t. local_at t i self.old) (λ t. retired moment (local_at t i self.old)) ⊥ (stop_at i self.new)
+            (shelf_at i (shelves_of R.Rows stores.old)) (shelf_at i (shelves_of R.Rows stores.new)) }
     {
         let _ = &self.list;
         let mut faults = 0u64;
@@ -270,10 +281,13 @@ impl Instances {
         store: &mut R,
     ) -> bool
         requires exists { IsTrue (is_instance number) }
-        requires backed { IsBackedAt number self.old (shelf_of (R.pairs store.old) (R.is_clean store.old) (R.is_open store.old)) }
+        requires backed { IsBackedAt number self.old (shelf_of R.Rows store.old) }
         ensures turn { TakesTurn number moment limits.now result self.old self.new outputs.old.items outputs.new.items }
         ensures clean { R.is_clean store.new ≡ true → R.is_clean store.old ≡ true }
-        ensures backed { IsBackedAt number self.new (shelf_of (R.pairs store.new) (R.is_clean store.new) (R.is_open store.new)) }
+        ensures backed { IsBackedAt number self.new (shelf_of R.Rows store.new) }
+        ensures left { up_at number self.old ≡ true → LeavesShelf
+            (λ t. local_at t number self.old) (λ t. retired moment (local_at t number self.old)) ⊥ (stop_at number self.new)
+            (shelf_of R.Rows store.old) (shelf_of R.Rows store.new) }
     {
         self.list[place(number)].tick(alloc, moment, limits, outputs, store)
     }
@@ -338,7 +352,7 @@ impl Instances {
         store: &mut R,
     ) -> Result<(), Fault>
         requires up { IsTrue (up_at number self.old) }
-        requires backed { IsBackedAt number self.old (shelf_of (R.pairs store.old) (R.is_clean store.old) (R.is_open store.old)) }
+        requires backed { IsBackedAt number self.old (shelf_of R.Rows store.old) }
         requires reads { IsSome (bytes_at connection number self.old) }
         ensures takes { OnOk result ((before : List ℕ) → bytes_at connection number self.old ≡ Some before →
             Takes number connection (before ++ piece.now) moment (λ t. terms_of service_key.now limits.now t)
@@ -351,8 +365,17 @@ impl Instances {
         ensures others { SameElsewhere number self.old self.new }
         ensures incarnation { incarnation_at number self.new ≡ incarnation_at number self.old }
         ensures clean { R.is_clean store.new ≡ true → R.is_clean store.old ≡ true }
-        ensures backed { OnOk result (IsBackedAt number self.new (shelf_of (R.pairs store.new) (R.is_clean store.new) (R.is_open store.new))) }
+        ensures backed { OnOk result (IsBackedAt number self.new (shelf_of R.Rows store.new)) }
         ensures refused { KeepRefused self.old self.new }
+        ensures left { (before : List ℕ) → bytes_at connection number self.old ≡ Some before → LeavesShelf
+            (λ t. local_at t number self.old)
+            (taken_in (verdict (before ++ piece.now))
+            (λ request. here_in moment (terms_of service_key.now limits.now request.tenant) number self.old)
+            moment connection (λ t. local_at t number self.old))
+            (BringsRejected R.rejects (verdict (before ++ piece.now))
+            (λ request. here_in moment (terms_of service_key.now limits.now request.tenant) number self.old)
+            (λ t. local_at t number self.old))
+            (fault_in result) (shelf_of R.Rows store.old) (shelf_of R.Rows store.new) }
     {
         self.list[place(number)].feed(
             alloc,

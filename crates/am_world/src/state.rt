@@ -1,6 +1,6 @@
 //! What a world is beside its stores.
 
-ghost use Rattle.std.specs.Prelude.{◌≡◌, ◌+◌, ◌-◌, ◌^◌, ◌≤◌, ℕ, List, Some, length, min, IfErr, IfOk, OnErr, IsOk, IsTrue, MatchOption};
+ghost use Rattle.std.specs.Prelude.{◌≡◌, ◌+◌, ◌-◌, ◌^◌, ◌≤◌, ℕ, List, Some, true, length, min, IfErr, IfOk, OnErr, IsOk, IsTrue, MatchOption};
 
 use crate::event::{AttemptName, Event, LAST_MOMENT, Output, Refused};
 use crate::instances::{Instances, place};
@@ -48,11 +48,12 @@ impl Drop for State {
 impl State {
     ghost use Rattle.am_world.specs.Shelves.{AreBacked, AreClean, NeverCleaner, Shelf, rows_in, shelves_of};
     ghost use Rattle.am_world.specs.Moments.{last_moment, effective};
-    ghost use Rattle.am_world.specs.Places.{IsDownAt, SameElsewhere, cause_at, incarnation_at, refused_at};
+    ghost use Rattle.am_world.specs.Places.{IsDownAt, SameElsewhere, cause_at, incarnation_at, refused_at, up_at};
     ghost use Rattle.am_world.specs.Refusal.{refusal};
     ghost use Rattle.am_world.specs.Runs.{Run, Headline, Prefixes, Forgets};
     ghost use Rattle.am_setup.specs.Setup.{is_instance};
-    ghost use Rattle.am_world.specs.Opening.{IsOfServing};
+    ghost use Rattle.am_world.specs.Leaving.{LeavesShelves, stop_at};
+    ghost use Rattle.am_world.specs.Opening.{FailsToOpen};
     ghost use Rattle.am_world.specs.Simulation.{Opens, Step, fault_count, put_out};
 
     /// At moment 0, where no connection is open: the instance that serves opens its store, and holds what that has of all
@@ -66,11 +67,11 @@ impl State {
         stores: &mut [R],
     ) -> Result<State, OpenRefusal>
         requires { length stores.old ≡ 8 }
-        ensures opens { AreClean (shelves_of R.pairs R.is_clean R.is_open stores.new)
-            → IfOk result (Opens setup.origin (rows_in (shelves_of R.pairs R.is_clean R.is_open stores.old))) }
-        ensures clean { NeverCleaner (shelves_of R.pairs R.is_clean R.is_open stores.old) (shelves_of R.pairs R.is_clean R.is_open stores.new) }
-        ensures backed { IfOk result (λ state. AreBacked state.instances (shelves_of R.pairs R.is_clean R.is_open stores.new)) }
-        ensures refused { IfErr result IsOfServing }
+        ensures opens { AreClean (shelves_of R.Rows stores.new)
+            → IfOk result (Opens setup.origin (rows_in (shelves_of R.Rows stores.old))) }
+        ensures clean { NeverCleaner (shelves_of R.Rows stores.old) (shelves_of R.Rows stores.new) }
+        ensures backed { IfOk result (λ state. AreBacked state.instances (shelves_of R.Rows stores.new)) }
+        ensures refused { IfErr result (FailsToOpen R.Rows stores.old) }
     {
         let opening = Moment::from_milliseconds(0).unwrap();
         let first = setup.start();
@@ -133,12 +134,13 @@ impl State {
         event: &Event,
         stores: &mut [R],
     ) -> Result<(), Refused>
-        requires { AreBacked self.old.instances (shelves_of R.pairs R.is_clean R.is_open stores.old) }
+        requires { AreBacked self.old.instances (shelves_of R.Rows stores.old) }
         ensures step { Step self.old event.now self.new }
         ensures refused { MatchOption (refusal self.old event.now) (IsOk result) (λ r. result ≡ Err r) }
         ensures err { OnErr result ((self.new ≡ self.old) × (stores.new ≡ stores.old)) }
-        ensures clean { NeverCleaner (shelves_of R.pairs R.is_clean R.is_open stores.old) (shelves_of R.pairs R.is_clean R.is_open stores.new) }
-        ensures backed { AreBacked self.new.instances (shelves_of R.pairs R.is_clean R.is_open stores.new) }
+        ensures clean { NeverCleaner (shelves_of R.Rows stores.old) (shelves_of R.Rows stores.new) }
+        ensures backed { AreBacked self.new.instances (shelves_of R.Rows stores.new) }
+        ensures left { LeavesShelves R.rejects self.old event.now self.new (shelves_of R.Rows stores.old) (shelves_of R.Rows stores.new) }
     {
         match event {
             Event::Open {
@@ -168,12 +170,12 @@ impl State {
     /// Handles events one after the other, and goes on after a refused one. Each tenant's outputs are those of its
     /// private cluster, also on a further run, and what was put out before a first fault is so too.
     pub fn run<R: Rows>(&mut self, alloc: Global, events: &[Event], stores: &mut [R])
-        requires { AreBacked self.old.instances (shelves_of R.pairs R.is_clean R.is_open stores.old) }
+        requires { AreBacked self.old.instances (shelves_of R.Rows stores.old) }
         ensures steps { Run self.old events.now self.new }
         ensures headline { Headline self.old events.now self.new }
         ensures prefixes { Prefixes self.old events.now self.new }
-        ensures clean { NeverCleaner (shelves_of R.pairs R.is_clean R.is_open stores.old) (shelves_of R.pairs R.is_clean R.is_open stores.new) }
-        ensures backed { AreBacked self.new.instances (shelves_of R.pairs R.is_clean R.is_open stores.new) }
+        ensures clean { NeverCleaner (shelves_of R.Rows stores.old) (shelves_of R.Rows stores.new) }
+        ensures backed { AreBacked self.new.instances (shelves_of R.Rows stores.new) }
     {
         for event in events {
             let _ = self.step(alloc, event, stores);
@@ -190,6 +192,7 @@ impl State {
         ensures refused { MatchOption (refusal self.old (Event.Open connection instance)) (IsOk result) (λ r. result ≡ Err r) }
         ensures err { OnErr result (self.new ≡ self.old) }
         ensures backed { (shelves : List Shelf) → AreBacked self.old.instances shelves → AreBacked self.new.instances shelves }
+        ensures unrefused { (i : ℕ) → up_at i self.old.instances ≡ true → stop_at i self.new.instances ≡ Some Fault.StoreRefused → ⊥ }
     {
         if !self.instances.is_up(instance) {
             return Err(Refused::InstanceNotUp);
@@ -211,13 +214,15 @@ impl State {
         piece: &Octets,
         stores: &mut [R],
     ) -> Result<(), Refused>
-        requires { AreBacked self.old.instances (shelves_of R.pairs R.is_clean R.is_open stores.old) }
+        requires { AreBacked self.old.instances (shelves_of R.Rows stores.old) }
         ensures step { Step self.old (Event.Bytes connection moment piece.now) self.new }
         ensures refused { MatchOption (refusal self.old (Event.Bytes connection moment piece.now))
             (IsOk result) (λ r. result ≡ Err r) }
         ensures err { OnErr result ((self.new ≡ self.old) × (stores.new ≡ stores.old)) }
-        ensures clean { NeverCleaner (shelves_of R.pairs R.is_clean R.is_open stores.old) (shelves_of R.pairs R.is_clean R.is_open stores.new) }
-        ensures backed { AreBacked self.new.instances (shelves_of R.pairs R.is_clean R.is_open stores.new) }
+        ensures clean { NeverCleaner (shelves_of R.Rows stores.old) (shelves_of R.Rows stores.new) }
+        ensures backed { AreBacked self.new.instances (shelves_of R.Rows stores.new) }
+        ensures left { LeavesShelves R.rejects self.old (Event.Bytes connection moment piece.now) self.new
+            (shelves_of R.Rows stores.old) (shelves_of R.Rows stores.new) }
     {
         if moment > LAST_MOMENT {
             return Err(Refused::MomentRefused);
@@ -252,12 +257,14 @@ impl State {
         moment: u64,
         stores: &mut [R],
     ) -> Result<(), Refused>
-        requires { AreBacked self.old.instances (shelves_of R.pairs R.is_clean R.is_open stores.old) }
+        requires { AreBacked self.old.instances (shelves_of R.Rows stores.old) }
         ensures step { Step self.old (Event.Tick moment) self.new }
         ensures refused { MatchOption (refusal self.old (Event.Tick moment)) (IsOk result) (λ r. result ≡ Err r) }
         ensures err { OnErr result ((self.new ≡ self.old) × (stores.new ≡ stores.old)) }
-        ensures clean { NeverCleaner (shelves_of R.pairs R.is_clean R.is_open stores.old) (shelves_of R.pairs R.is_clean R.is_open stores.new) }
-        ensures backed { AreBacked self.new.instances (shelves_of R.pairs R.is_clean R.is_open stores.new) }
+        ensures clean { NeverCleaner (shelves_of R.Rows stores.old) (shelves_of R.Rows stores.new) }
+        ensures backed { AreBacked self.new.instances (shelves_of R.Rows stores.new) }
+        ensures left { LeavesShelves R.rejects self.old (Event.Tick moment) self.new
+            (shelves_of R.Rows stores.old) (shelves_of R.Rows stores.new) }
     {
         if moment > LAST_MOMENT || moment < self.clock.milliseconds() {
             return Err(Refused::MomentRefused);
@@ -282,6 +289,7 @@ impl State {
             (IsOk result) (λ r. result ≡ Err r) }
         ensures err { OnErr result (self.new ≡ self.old) }
         ensures backed { (shelves : List Shelf) → AreBacked self.old.instances shelves → AreBacked self.new.instances shelves }
+        ensures unrefused { (i : ℕ) → up_at i self.old.instances ≡ true → stop_at i self.new.instances ≡ Some Fault.StoreRefused → ⊥ }
     {
         if moment > LAST_MOMENT {
             return Err(Refused::MomentRefused);
@@ -308,6 +316,7 @@ impl State {
         ensures refused { MatchOption (refusal self.old (Event.Close connection)) (IsOk result) (λ r. result ≡ Err r) }
         ensures err { OnErr result (self.new ≡ self.old) }
         ensures backed { (shelves : List Shelf) → AreBacked self.old.instances shelves → AreBacked self.new.instances shelves }
+        ensures unrefused { (i : ℕ) → up_at i self.old.instances ≡ true → stop_at i self.new.instances ≡ Some Fault.StoreRefused → ⊥ }
     {
         let Some(reader) = self.instances.reader_of(connection) else {
             return Err(Refused::NotReading);

@@ -1,9 +1,10 @@
 //! The theorem in closed statements: each tenant is as if alone, equal views give equal outputs, and which events are
 //! refused is told by the events before them.
 
-ghost use Rattle.std.specs.Prelude.{◌≡◌, ℕ, List, IfOk, length};
+ghost use Rattle.std.specs.Prelude.{◌≡◌, ◌⊎◌, ℕ, List, IfErr, IfOk, length};
 ghost use Rattle.am_world.specs.declared.event.Event.{Event};
 ghost use Rattle.am_world.specs.declared.state.State.{State};
+ghost use Rattle.am_world.specs.Opening.{FailsToOpen};
 ghost use Rattle.am_world.specs.Outputs.{outputs_of};
 ghost use Rattle.am_world.specs.Places.{AreBuilt, AreNumbered};
 ghost use Rattle.am_world.specs.Refusal.{refusal, refusal_seen};
@@ -33,11 +34,12 @@ pub fn run_alone<R: Rows + Drop>(
 ) -> Result<World<R>, OpenRefusal>
     requires { length stores.items ≡ 8 }
     ensures steps { IfOk result (λ world. AreClean world.shelves →
-        RunsFrom setup.origin (rows_in (shelves_of R.pairs R.is_clean R.is_open stores.items)) events.now world.state) }
+        RunsFrom setup.origin (rows_in (shelves_of R.Rows stores.items)) events.now world.state) }
     ensures alone { IfOk result (λ world. fault_count world.state ≡ 0 → AreClean world.shelves →
         names_once (first_watch setup.origin) events.now →
-        Alone setup.origin (rows_in (shelves_of R.pairs R.is_clean R.is_open stores.items)) events.now
+        Alone setup.origin (rows_in (shelves_of R.Rows stores.items)) events.now
         (refused_by world.state) (put_out world.state)) }
+    ensures refused { IfErr result (FailsToOpen R.Rows stores.items) }
 {
     let mut world = World::open(alloc, setup, stores)?;
     world.run(alloc, events);
@@ -61,20 +63,21 @@ pub fn run_both<R: Rows + Drop>(
     requires one { length stores.items ≡ 8 }
     requires two { length other_stores.items ≡ 8 }
     ensures steps { IfOk result (λ worlds. AreClean worlds.0.shelves →
-        RunsFrom setup.origin (rows_in (shelves_of R.pairs R.is_clean R.is_open stores.items)) events.now worlds.0.state) }
+        RunsFrom setup.origin (rows_in (shelves_of R.Rows stores.items)) events.now worlds.0.state) }
     ensures other_steps { IfOk result (λ worlds. AreClean worlds.1.shelves →
-        RunsFrom other_setup.origin (rows_in (shelves_of R.pairs R.is_clean R.is_open other_stores.items)) other_events.now worlds.1.state) }
+        RunsFrom other_setup.origin (rows_in (shelves_of R.Rows other_stores.items)) other_events.now worlds.1.state) }
     ensures equal { IfOk result (λ worlds. fault_count worlds.0.state ≡ 0 → fault_count worlds.1.state ≡ 0 →
         AreClean worlds.0.shelves → AreClean worlds.1.shelves → setup.origin ≡ other_setup.origin →
         names_once (first_watch setup.origin) events.now → names_once (first_watch other_setup.origin) other_events.now →
         (t : List ℕ) →
-        rows_in (shelves_of R.pairs R.is_clean R.is_open stores.items) t
-        ≡ rows_in (shelves_of R.pairs R.is_clean R.is_open other_stores.items) t →
+        rows_in (shelves_of R.Rows stores.items) t
+        ≡ rows_in (shelves_of R.Rows other_stores.items) t →
         view t (first_watch setup.origin) events.now ≡ view t (first_watch other_setup.origin) other_events.now →
         AreBuilt (refused_by worlds.0.state) (patterns_in (view t (first_watch setup.origin) events.now)) →
         AreBuilt (refused_by worlds.1.state) (patterns_in (view t (first_watch other_setup.origin) other_events.now)) →
         outputs_of t (watch_all (first_watch setup.origin) events.now) (put_out worlds.0.state) ≡
         outputs_of t (watch_all (first_watch other_setup.origin) other_events.now) (put_out worlds.1.state)) }
+    ensures refused { IfErr result (λ why. FailsToOpen R.Rows stores.items why ⊎ FailsToOpen R.Rows other_stores.items why) }
 {
     let world = run_alone(alloc, setup, stores, events)?;
     let other = run_alone(alloc, other_setup, other_stores, other_events)?;

@@ -24,9 +24,9 @@ impl<R: Rows> Model for World<R> {
 
     ghost Value = { Whole };
 
-    ghost view = { λ w. record { state = w.state; shelves = shelves_of R.pairs R.is_clean R.is_open w.stores.items } };
+    ghost view = { λ w. record { state = w.state; shelves = shelves_of R.Rows w.stores.items } };
 
-    ghost invariant = { λ w. AreBacked w.state.instances (shelves_of R.pairs R.is_clean R.is_open w.stores.items) };
+    ghost invariant = { λ w. AreBacked w.state.instances (shelves_of R.Rows w.stores.items) };
 }
 
 // Written out, so that a crate which owns a world has no need to prove anew how each of its parts is dropped.
@@ -39,7 +39,7 @@ impl<R: Rows + Drop> Drop for World<R> {
 }
 
 impl<R: Rows + Drop> World<R> {
-    ghost use Rattle.am_world.specs.Opening.{IsOfServing};
+    ghost use Rattle.am_world.specs.Opening.{FailsToOpen};
     ghost use Rattle.am_world.specs.Shelves.{AreClean, NeverCleaner, rows_in, shelves_of};
     ghost use Rattle.am_world.specs.Simulation.{Opens};
 
@@ -52,9 +52,9 @@ impl<R: Rows + Drop> World<R> {
     pub fn open(alloc: Global, setup: Setup, mut stores: Vec<R>) -> Result<World<R>, OpenRefusal>
         requires { length stores.items ≡ 8 }
         ensures opens { IfOk result (λ world. AreClean world.shelves →
-            Opens setup.origin (rows_in (shelves_of R.pairs R.is_clean R.is_open stores.items)) world.state) }
-        ensures clean { IfOk result (λ world. NeverCleaner (shelves_of R.pairs R.is_clean R.is_open stores.items) world.shelves) }
-        ensures refused { IfErr result IsOfServing }
+            Opens setup.origin (rows_in (shelves_of R.Rows stores.items)) world.state) }
+        ensures clean { IfOk result (λ world. NeverCleaner (shelves_of R.Rows stores.items) world.shelves) }
+        ensures refused { IfErr result (FailsToOpen R.Rows stores.items) }
     {
         let state = State::open(alloc, setup, &mut stores)?;
         Ok(World { state, stores })
@@ -62,6 +62,7 @@ impl<R: Rows + Drop> World<R> {
 }
 
 impl<R: Rows> World<R> {
+    ghost use Rattle.am_world.specs.Leaving.{LeavesShelves};
     ghost use Rattle.am_world.specs.Places.{cause_at};
     ghost use Rattle.am_world.specs.Refusal.{refusal};
     ghost use Rattle.am_world.specs.Runs.{Forgets, Headline, Prefixes, Run};
@@ -70,7 +71,8 @@ impl<R: Rows> World<R> {
 
     /// The stores, in order of the instances' numbers, each at its last commit.
     pub fn into_stores(self) -> Vec<R>
-        ensures { shelves_of R.pairs R.is_clean R.is_open result.items ≡ self.shelves }
+        ensures shelves { shelves_of R.Rows result.items ≡ self.shelves }
+        ensures size { length result.items ≡ 8 }
     {
         let World { state, stores } = self;
         drop(state);
@@ -117,12 +119,13 @@ impl<R: Rows> World<R> {
 
     /// Handles one event. A refused one changes nothing. Where the system refuses memory, a store refuses a call, a count passes
     /// its greatest number, or a pattern that is in use gives no answer, the instance that was handling it stops, puts nothing
-    /// out, and one fault more is counted; its store stays at its last commit.
+    /// out, and one fault more is counted; its store stays at its last commit, which may have been the event's own.
     pub fn step(&mut self, alloc: Global, event: &Event) -> Result<(), Refused>
         ensures step { Step self.old.state event.now self.new.state }
         ensures refused { MatchOption (refusal self.old.state event.now) (IsOk result) (λ r. result ≡ Err r) }
         ensures err { OnErr result (self.new ≡ self.old) }
         ensures clean { NeverCleaner self.old.shelves self.new.shelves }
+        ensures left { LeavesShelves R.rejects self.old.state event.now self.new.state self.old.shelves self.new.shelves }
     {
         self.state.step(alloc, event, &mut self.stores)
     }

@@ -3,6 +3,7 @@
 use super::links::Direct;
 use super::{ended, opened, play_on, stores};
 use am_expect::{equal, holds};
+use am_incarnation::greatest_incarnation;
 use am_play::lines::LineReader;
 use am_play::writing::WholeWriter;
 use am_rows::StoreRefusal;
@@ -121,6 +122,25 @@ fn configurations_and_silences_stay(rt: HostRuntime) -> Result<(), Fail> {
     wanted.push_str(rows)?;
     wanted.push_str(NO_ALERTS)?;
     equal(std::str::from_utf8(&again)?, wanted.as_str(), "what stays")
+}
+
+/// The greatest incarnation of a row in the store of the instance that serves.
+fn greatest_in(alloc: Global, stores: &mut [TestStore]) -> Result<u32, Fail> {
+    let first = stores.first_mut().ok_or("no store")?;
+    let greatest = greatest_incarnation(alloc, first).ok().ok_or("refused")?;
+    Ok(greatest)
+}
+
+/// Rows have the incarnation in which they were stored, also once a later one has read them.
+#[test]
+fn the_greatest_incarnation_is_that_of_rows(rt: HostRuntime) -> Result<(), Fail> {
+    let alloc = rt.alloc();
+    let mut stores = stores(alloc)?;
+    equal(greatest_in(alloc, &mut stores)?, 0, "no rows")?;
+    let (_, mut stores) = played_over(alloc, 7, stores, STORED)?;
+    equal(greatest_in(alloc, &mut stores)?, 7, "stored")?;
+    let (_, mut stores) = played_over(alloc, 9, stores, READS)?;
+    equal(greatest_in(alloc, &mut stores)?, 7, "read")
 }
 
 /// The stores of the eight instances, of which the first refuses the call behind so many.

@@ -16,7 +16,7 @@ returns-clause-plays g c =
     let is_start : IsStart c.args.world.state start = record { begins = refl; connections = c.new.ensures; moment = refl; hook = refl } in (
       trace,
       fault_count end.world.state,
-      record { start = start; is_start = is_start; end = end; course = course; counted = refl; stores = c.into_stores.ensures },
+      record { start = start; is_start = is_start; end = end; course = course; counted = refl; stores = c.into_stores.ensures.shelves },
       Appends-kept _ _ _ _ c.in_ok-played.ensures.plays.2 c.flush.ensures.bytes,
       isolates g.L.Link.carries g.L.Link.answers start (g.S.Source.lines c.args.source)
           c.args.world.state is_start c.in_ok-played.played trace end course,

@@ -8,6 +8,7 @@ returns g c = record {
   steps = λ clean.
       (_, c.in_ok-world.ensures.opens (clean_before c.in_ok-world.world.shelves c.run.new.self.shelves c.run.ensures.clean clean), c.run.ensures.steps);
   alone = λ none clean once.
-      alone_opening c.args.setup.origin (rows_in (shelves_of g.R.Rows.pairs g.R.Rows.is_clean g.R.Rows.is_open c.args.stores.items)) _ c.args.events.now _
+      alone_opening c.args.setup.origin (rows_in (shelves_of g.R.Rows c.args.stores.items)) _ c.args.events.now _
       (c.in_ok-world.ensures.opens (clean_before c.in_ok-world.world.shelves c.run.new.self.shelves c.run.ensures.clean clean)) c.run.ensures.steps none once;
+  refused = tt;
 }

@@ -1,4 +1,5 @@
-use Rattle.std.proofs.Common.{◌∙◌, ℕ, List, sym, ap}
+use Rattle.std.proofs.Common.{◌∙◌, ℕ, List, ap, inl, inr, sym}
+use Rattle.std.proofs.lemmas.Result.{err_from_is_err_and}
 use Rattle.am_item.specs.declared.item.Item.{Item}
 use Rattle.am_world.specs.PrivateCluster.{opened, told_all}
 use Rattle.am_world.specs.Shelves.{rows_in, shelves_of}
@@ -8,8 +9,8 @@ use Rattle.am_world.proofs.theorem.run_both.Goals as goal
 
 pub returns : goal.returns
 returns g c =
-    let rows = rows_in (shelves_of g.R.Rows.pairs g.R.Rows.is_clean g.R.Rows.is_open c.args.stores.items) in
-    let other_rows = rows_in (shelves_of g.R.Rows.pairs g.R.Rows.is_clean g.R.Rows.is_open c.args.other_stores.items) in
+    let rows = rows_in (shelves_of g.R.Rows c.args.stores.items) in
+    let other_rows = rows_in (shelves_of g.R.Rows c.args.other_stores.items) in
     record {
       steps = c.in_ok-world.ensures.steps;
       other_steps = c.in_ok-other.ensures.steps;
@@ -19,4 +20,15 @@ returns g c =
           ∙ ap (λ (own : ℕ → List Item). told_all (opened c.args.other_setup.origin own t) (view t (first_watch c.args.setup.origin) c.args.events.now)) stored
           ∙ ap (told_all (opened c.args.other_setup.origin (other_rows t) t)) same
           ∙ sym ((c.in_ok-other.ensures.alone other_none other_clean other_once).tenants t other_built);
+      refused = tt;
     }
+
+pub returns-in_err-world-clause-refused : goal.returns-in_err-world-clause-refused
+returns-in_err-world-clause-refused g c =
+    let p = err_from_is_err_and c.from_residual.result c.from_residual.ensures.1 in
+    rw (p.1, p.2) (inl c.in_err-world.ensures.refused)
+
+pub returns-in_err-other-clause-refused : goal.returns-in_err-other-clause-refused
+returns-in_err-other-clause-refused g c =
+    let p = err_from_is_err_and c.from_residual-in_err-other.result c.from_residual-in_err-other.ensures.1 in
+    rw (p.1, p.2) (inr c.in_err-other.ensures.refused)

@@ -1,5 +1,6 @@
-use Rattle.std.proofs.Common.{◌≡◌, ◌∙◌, ◌+◌, ◌++◌, ◌∷◌, [], refl, take}
+use Rattle.std.proofs.Common.{◌≡◌, ◌∙◌, ◌+◌, ◌++◌, ◌∷◌, [], refl, rules, take}
 use Rattle.std.proofs.lemmas.List.{take_all, take_more}
+use Rattle.am_rows.proofs.Wearing.{caused_later, unworn, wears_then}
 use Rattle.am_replica.specs.Accepting.{accepted}
 use Rattle.am_replica.proofs.Accepted.{planned_accepted}
 use Rattle.am_pattern.proofs.AskingLemmas.{stays-refl, stays-trans}
@@ -17,6 +18,7 @@ loop-tenant-init g c = record {
   planned = all_blank c.args.self.now blank_planned c.requires.blank;
   ahead = λ t none. c.requires.blank t;
   held = λ clean. c.requires.blank;
+  wears = λ clean. unworn (g.R.Rows.medium c.args.store.now);
 }
 
 pub hold_rows-requires : goal.hold_rows-requires
@@ -43,7 +45,26 @@ loop-tenant-preserved g c =
           begun_more n (take i names) c.args.moment c.in_ok-rows.rows.items (g.R.Rows.pairs c.args.store.now) c.loop-tenant.self c.hold_rows.new.self
           (c.loop-tenant.invariant.held (c.rows_of.ensures.clean clean)) (fresh n names i c.requires.order c.loop-tenant-test.true c.tenant-item.is)
           (c.in_ok-rows.ensures.rows clean ∙ c.loop-tenant.invariant.keeps (c.rows_of.ensures.clean clean) n) c.in_ok-hold_rows.ensures.does;
+      wears = λ clean.
+          wears_then (g.R.Rows.medium c.args.store.now) (g.R.Rows.medium c.loop-tenant.store) (g.R.Rows.medium c.rows_of.new.self)
+          (c.loop-tenant.invariant.wears (c.rows_of.ensures.clean clean)) (c.rows_of.ensures.wears clean);
     })
 
 pub returns-clause-held : goal.returns-clause-held
 returns-clause-held g c = λ clean. rw (take_all c.loop-tenant.tenant-index c.args.names.now c.loop-tenant-test.false) at (c.loop-tenant.invariant.held clean)
+
+pub returns-in_err-rows-clause-fails : goal.returns-in_err-rows-clause-fails
+returns-in_err-rows-clause-fails g c = λ clean.
+    let caused = caused_later (g.R.Rows.medium c.args.store.now) (g.R.Rows.medium c.loop-tenant.store) (g.R.Rows.medium c.rows_of.new.self)
+    (c.loop-tenant.invariant.wears (c.rows_of.ensures.clean clean)) (c.rows_of.ensures.wears clean) _ (c.in_err-rows.ensures.fails clean) in
+    search rules
+
+pub returns-in_err-rows-clause-wears : goal.returns-in_err-rows-clause-wears
+returns-in_err-rows-clause-wears g c = λ clean.
+    wears_then (g.R.Rows.medium c.args.store.now) (g.R.Rows.medium c.loop-tenant.store) (g.R.Rows.medium c.rows_of.new.self)
+    (c.loop-tenant.invariant.wears (c.rows_of.ensures.clean clean)) (c.rows_of.ensures.wears clean)
+
+pub returns-in_err-hold_rows-clause-wears : goal.returns-in_err-hold_rows-clause-wears
+returns-in_err-hold_rows-clause-wears g c = λ clean.
+    wears_then (g.R.Rows.medium c.args.store.now) (g.R.Rows.medium c.loop-tenant.store) (g.R.Rows.medium c.rows_of.new.self)
+    (c.loop-tenant.invariant.wears (c.rows_of.ensures.clean clean)) (c.rows_of.ensures.wears clean)

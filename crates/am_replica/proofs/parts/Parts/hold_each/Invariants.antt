@@ -1,6 +1,7 @@
 use Rattle.std.proofs.Common.{◌≡◌, ℕ, false, true, List, take}
 use Rattle.std.specs.List.{list_any}
 use Rattle.am_pattern.specs.Asking.{Stays}
+use Rattle.am_rows.specs.Refusing.{Wears}
 use Rattle.am_rows.specs.Rows.{Keeps, rows_of}
 use Rattle.am_tenant.specs.Names.{same}
 use Rattle.am_replica.specs.Held.{local_of}
@@ -18,4 +19,5 @@ invariant-loop-tenant g l = record {
   planned : (t : List ℕ) → IsPlanned (local_of t l.self);
   ahead : (t : List ℕ) → list_any (same t) (take l.tenant-index l.names) ≡ false → local_of t l.self ≡ blank;
   held : g.R.Rows.is_clean l.store ≡ true → (t : List ℕ) → local_of t l.self ≡ begun (list_any (same t) (take l.tenant-index l.names)) l.moment (rows_of t (g.R.Rows.pairs l.fn.store));
+  wears : g.R.Rows.is_clean l.store ≡ true → Wears (g.R.Rows.medium l.fn.store) (g.R.Rows.medium l.store);
 }

@@ -7,7 +7,7 @@ use Rattle.am_replica.proofs.Kept.{retired_keeps}
 use Rattle.am_replica.proofs.Ticks.{all_tick, stops_retiring, stops_tick}
 use Rattle.am_rows.specs.Rows.{stored_in}
 use Rattle.am_replica.specs.Local.{Local}
-use Rattle.am_replica.proofs.StoredRows.{err_any, still_rows}
+use Rattle.am_replica.proofs.StoredRows.{never_doing, still_rows}
 use Rattle.am_replica.proofs.StoredTicks.{ok_from, stores_done}
 use Rattle.am_replica.proofs.parts.Parts.tick.Goals as goal
 
@@ -38,12 +38,18 @@ returns-clause-stores g c = λ clean stored.
     ok_from c.do_due.result _ _ (λ all done. stores_done here mid c.do_due.new.self all.items (g.R.Rows.pairs c.retire.new.store) planned done (c.in_ok-retire.ensures.stores clean stored)) c.do_due.ensures.done
 
 pub returns-clause-left : goal.returns-clause-left
-returns-clause-left g c = λ clean still stored.
-    err_any c.do_due.result (inr (λ t. c.in_ok-retire.ensures.stores clean stored t ∙ ap (λ (l : Local). stored_in l.held) (c.in_ok-retire.ensures.retired t)))
+returns-clause-left g c = λ clean stored. record {
+  rows = λ still. inr (λ t. c.in_ok-retire.ensures.stores clean stored t ∙ ap (λ (l : Local). stored_in l.held) (c.in_ok-retire.ensures.retired t));
+  cause = λ is. absurd (never_doing c.do_due.result (here_for c.args.instance c.args.incarnation c.args.moment c.args.limits.now) (λ t. local_of t c.retire.new.self) c.do_due.new.cache.refused c.do_due.ensures.fault is);
+}
 
 pub returns-in_err-retire-clause-left : goal.returns-in_err-retire-clause-left
-returns-in_err-retire-clause-left g c = λ clean still stored.
-    err_any _ (inl (still_rows (λ t. local_of t c.args.self.now) (g.R.Rows.pairs c.args.store.now) (g.R.Rows.pairs c.retire.new.store) stored (c.in_err-retire.ensures.left clean still)))
+returns-in_err-retire-clause-left g c = λ clean stored.
+    let p = err_from_is_err_and c.from_residual.result c.from_residual.ensures.1 in
+    rw (p.1, p.2) (record {
+      rows = λ still. inl (still_rows (λ t. local_of t c.args.self.now) (g.R.Rows.pairs c.args.store.now) (g.R.Rows.pairs c.retire.new.store) stored (c.in_err-retire.ensures.left clean still));
+      cause = λ is. inl (c.in_err-retire.ensures.cause clean is);
+    })
 
 pub returns-in_err-retire-clause-fault : goal.returns-in_err-retire-clause-fault
 returns-in_err-retire-clause-fault g c =

@@ -2,7 +2,7 @@ use Rattle.std.proofs.Common.{◌≡◌, true, ap, ◌∙◌}
 use Rattle.sqlite.specs.Held.{state}
 use Rattle.am_store.proofs.Calls.{clean_before}
 use Rattle.am_store.proofs.Removed.{each_store, removes_each}
-use Rattle.am_store.proofs.Shelves.{clean_is, cleaner, not_shut, stays}
+use Rattle.am_store.proofs.Shelves.{clean_is, cleaner, excused, not_shut, stays, worn}
 use Rattle.am_store.proofs.shelf.ShelfRows.drop_silences.Goals as goal
 
 pub returns-in-Ok-clause-clean : goal.returns-in-Ok-clause-clean
@@ -36,4 +36,23 @@ invariant_of-self g c =
       λ is_open clean.
           let is = c.self.invariant.1 opened (clean_before old new _ c.drop_silences.ensures.crash clean) in
           each_store c.args.silences.now old.now new.now is (c.in-Ok.ensures.ok clean is).made,
+      c.drop_silences.ensures.crash.limit ∙ c.self.invariant.2,
     )
+
+pub returns-in-Ok-clause-wears : goal.returns-in-Ok-clause-wears
+returns-in-Ok-clause-wears g c = λ clean.
+    rw (← c.self.view_is) (worn (state g.S.Store c.self.inside.conn) (state g.S.Store c.drop_silences.new.conn) _ c.drop_silences.ensures.crash clean)
+
+pub returns-in-Err-clause-wears : goal.returns-in-Err-clause-wears
+returns-in-Err-clause-wears g c = λ clean.
+    rw (← c.self.view_is) (worn (state g.S.Store c.self.inside.conn) (state g.S.Store c.drop_silences.new.conn) _ c.drop_silences.ensures.crash clean)
+
+pub returns-in-Err-clause-fails : goal.returns-in-Err-clause-fails
+returns-in-Err-clause-fails g c = λ clean.
+    let old = state g.S.Store c.self.inside.conn in
+    let new = state g.S.Store c.drop_silences.new.conn in
+    let opened : c.self.inside.is_open ≡ true = ap (λ v. v.1) c.self.view_is ∙ c.requires in
+    let is = c.self.invariant.1 opened (clean_is old (cleaner old new _ c.drop_silences.ensures.crash clean)) in
+    rw (← c.self.view_is)
+    (excused old new c.self.invariant.2 c.in-Err.error c.failure_of.result c.failure_of.ensures.memory.1 c.failure_of.ensures.database
+    (c.in-Err.ensures.fails (clean_is new clean) is))

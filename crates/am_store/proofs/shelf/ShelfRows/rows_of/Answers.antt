@@ -2,7 +2,7 @@ use Rattle.std.proofs.Common.{◌≡◌, true, ap, sym, subst, ◌∙◌}
 use Rattle.sqlite.specs.Held.{state}
 use Rattle.am_store.specs.Rows.{IsStore}
 use Rattle.am_store.proofs.Calls.{clean_before}
-use Rattle.am_store.proofs.Shelves.{clean_is, cleaner, reads_all, stays}
+use Rattle.am_store.proofs.Shelves.{caused, clean_is, cleaner, reads_all, stays, worn}
 use Rattle.am_store.proofs.shelf.ShelfRows.rows_of.Goals as goal
 
 pub returns-in-Ok-clause-clean : goal.returns-in-Ok-clause-clean
@@ -28,6 +28,7 @@ invariant_of-self g c =
       λ _ clean.
           let is = c.self.invariant.1 opened (clean_before old new _ (c.rows_of.ensures.rests (λ clean. c.self.invariant.1 (ap (λ v. v.1) c.self.view_is ∙ c.requires) clean)).survives clean) in
           subst IsStore (sym (c.in-Ok.ensures.same clean is)) is,
+      (c.rows_of.ensures.rests (λ clean. c.self.invariant.1 (ap (λ v. v.1) c.self.view_is ∙ c.requires) clean)).survives.limit ∙ c.self.invariant.2,
     )
 
 pub returns-in-Ok-clause-rows : goal.returns-in-Ok-clause-rows
@@ -37,3 +38,19 @@ returns-in-Ok-clause-rows g c = λ clean.
     let opened : c.self.inside.is_open ≡ true = ap (λ v. v.1) c.self.view_is ∙ c.requires in
     let is = c.self.invariant.1 opened (clean_is old (cleaner old new _ (c.rows_of.ensures.rests (λ clean. c.self.invariant.1 (ap (λ v. v.1) c.self.view_is ∙ c.requires) clean)).survives clean)) in
     rw (← c.self.view_is) (reads_all c.args.tenant.now old.now c.in-Ok.items.items is (c.in-Ok.ensures.rows (clean_is new clean) is) c.in-Ok.ensures.order c.in-Ok.ensures.stored)
+
+pub returns-in-Ok-clause-wears : goal.returns-in-Ok-clause-wears
+returns-in-Ok-clause-wears g c = λ clean.
+    rw (← c.self.view_is) (worn (state g.S.Store c.self.inside.conn) (state g.S.Store c.rows_of.new.conn) _ (c.rows_of.ensures.rests (λ clean. c.self.invariant.1 (ap (λ v. v.1) c.self.view_is ∙ c.requires) clean)).survives clean)
+
+pub returns-in-Err-clause-wears : goal.returns-in-Err-clause-wears
+returns-in-Err-clause-wears g c = λ clean.
+    rw (← c.self.view_is) (worn (state g.S.Store c.self.inside.conn) (state g.S.Store c.rows_of.new.conn) _ (c.rows_of.ensures.rests (λ clean. c.self.invariant.1 (ap (λ v. v.1) c.self.view_is ∙ c.requires) clean)).survives clean)
+
+pub returns-in-Err-clause-fails : goal.returns-in-Err-clause-fails
+returns-in-Err-clause-fails g c = λ clean.
+    let old = state g.S.Store c.self.inside.conn in
+    let new = state g.S.Store c.rows_of.new.conn in
+    let opened : c.self.inside.is_open ≡ true = ap (λ v. v.1) c.self.view_is ∙ c.requires in
+    let is = c.self.invariant.1 opened (clean_is old (cleaner old new _ (c.rows_of.ensures.rests (λ clean. c.self.invariant.1 (ap (λ v. v.1) c.self.view_is ∙ c.requires) clean)).survives clean)) in
+    rw (← c.self.view_is) (caused old new c.self.invariant.2 c.in-Err.failure (c.in-Err.ensures.fails (clean_is new clean) is))

@@ -2,7 +2,7 @@ use Rattle.std.proofs.Common.{◌≡◌, true, ap, sym, subst, ◌∙◌}
 use Rattle.sqlite.specs.Held.{state}
 use Rattle.am_store.specs.Rows.{IsStore}
 use Rattle.am_store.proofs.Calls.{clean_before}
-use Rattle.am_store.proofs.Shelves.{clean_is, cleaner, unnamed_empty, stays}
+use Rattle.am_store.proofs.Shelves.{caused, clean_is, cleaner, stays, unnamed_empty, worn}
 use Rattle.am_store.proofs.shelf.ShelfRows.tenants.Goals as goal
 
 pub returns-in-Ok-clause-clean : goal.returns-in-Ok-clause-clean
@@ -28,6 +28,7 @@ invariant_of-self g c =
       λ _ clean.
           let is = c.self.invariant.1 opened (clean_before old new _ (c.tenants.ensures.rests (λ clean. c.self.invariant.1 (ap (λ v. v.1) c.self.view_is ∙ c.requires) clean)).survives clean) in
           subst IsStore (sym (c.in-Ok.ensures.same clean is)) is,
+      (c.tenants.ensures.rests (λ clean. c.self.invariant.1 (ap (λ v. v.1) c.self.view_is ∙ c.requires) clean)).survives.limit ∙ c.self.invariant.2,
     )
 
 pub returns-in-Ok-clause-names : goal.returns-in-Ok-clause-names
@@ -37,3 +38,19 @@ returns-in-Ok-clause-names g c = λ clean t none.
     let opened : c.self.inside.is_open ≡ true = ap (λ v. v.1) c.self.view_is ∙ c.requires in
     let is = c.self.invariant.1 opened (clean_is old (cleaner old new _ (c.tenants.ensures.rests (λ clean. c.self.invariant.1 (ap (λ v. v.1) c.self.view_is ∙ c.requires) clean)).survives clean)) in
     rw (← c.self.view_is) (unnamed_empty t old.now is (sym (c.in-Ok.ensures.names (clean_is new clean) is t) ∙ none))
+
+pub returns-in-Ok-clause-wears : goal.returns-in-Ok-clause-wears
+returns-in-Ok-clause-wears g c = λ clean.
+    rw (← c.self.view_is) (worn (state g.S.Store c.self.inside.conn) (state g.S.Store c.tenants.new.conn) _ (c.tenants.ensures.rests (λ clean. c.self.invariant.1 (ap (λ v. v.1) c.self.view_is ∙ c.requires) clean)).survives clean)
+
+pub returns-in-Err-clause-wears : goal.returns-in-Err-clause-wears
+returns-in-Err-clause-wears g c = λ clean.
+    rw (← c.self.view_is) (worn (state g.S.Store c.self.inside.conn) (state g.S.Store c.tenants.new.conn) _ (c.tenants.ensures.rests (λ clean. c.self.invariant.1 (ap (λ v. v.1) c.self.view_is ∙ c.requires) clean)).survives clean)
+
+pub returns-in-Err-clause-fails : goal.returns-in-Err-clause-fails
+returns-in-Err-clause-fails g c = λ clean.
+    let old = state g.S.Store c.self.inside.conn in
+    let new = state g.S.Store c.tenants.new.conn in
+    let opened : c.self.inside.is_open ≡ true = ap (λ v. v.1) c.self.view_is ∙ c.requires in
+    let is = c.self.invariant.1 opened (clean_is old (cleaner old new _ (c.tenants.ensures.rests (λ clean. c.self.invariant.1 (ap (λ v. v.1) c.self.view_is ∙ c.requires) clean)).survives clean)) in
+    rw (← c.self.view_is) (caused old new c.self.invariant.2 c.in-Err.failure (c.in-Err.ensures.fails (clean_is new clean) is))

@@ -6,4 +6,4 @@ use Rattle.am_test_store.proofs.test_store.TestStoreRows.drop_silences.Goals as 
 pub returns-clause-dropped : goal.returns-clause-dropped
 returns-clause-dropped c = λ clean.
     drops_each c.args.silences.now c.args.self.now.pairs.items c.leave_others.new.pairs.items
-    (c.leave_others.ensures ∙ ap (λ ps. filter (λ p. not (is_among p.0 c.args.silences.now p.1)) ps.items) c.in_ok-begin.ensures)
+    (c.leave_others.ensures ∙ ap (λ ps. filter (λ p. not (is_among p.0 c.args.silences.now p.1)) ps.items) c.in_ok-begin.ensures.pairs)

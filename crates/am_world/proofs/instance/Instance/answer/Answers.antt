@@ -1,11 +1,13 @@
-use Rattle.std.proofs.Common.{◌≡◌, ◌∙◌, ◌++◌, ◌∷◌, [], ap, sym}
+use Rattle.std.proofs.Common.{◌≡◌, ◌∙◌, ◌++◌, ◌∷◌, [], None, ap, sym}
 use Rattle.am_replica.specs.Local.{Local}
 use Rattle.am_rows.specs.Rows.{stored_in}
 use Rattle.am_api.specs.Deciding.{decision_of}
 use Rattle.am_world.specs.declared.event.Output.TheVariants.{Reply}
 use Rattle.std.proofs.lemmas.Result.{err_from_is_err_and}
-use Rattle.am_world.specs.Places.{local_in}
+use Rattle.am_world.specs.Places.{here_of, local_in}
+use Rattle.am_world.specs.Reaction.{terms_with}
 use Rattle.am_world.proofs.Deciding.{stops_accepting}
+use Rattle.am_world.proofs.Leaves.{left_alone, left_decided, left_ending, memory_unrefused, none_refused, stores_some}
 use Rattle.am_world.proofs.instance.Instance.answer.Goals as goal
 
 pub accept-requires : goal.accept-requires
@@ -45,3 +47,51 @@ returns-clause-backed g c = record {
       c.in_ok-accept.ensures.stores clean
       (λ t. c.requires.backed.stores c.requires.up (c.accept.ensures.clean clean) t ∙ sym (ap (λ (l : Local). stored_in l.held) (c.decide.ensures.local t)));
 }
+
+pub returns-in_err-decided-clause-left : goal.returns-in_err-decided-clause-left
+unfolding local_in
+returns-in_err-decided-clause-left g c here is clean =
+    let p = err_from_is_err_and c.from_residual.result c.from_residual.ensures.1 in
+    rw (p.1, p.2) (left_alone (λ t. local_in t c.args.self.now) _ _ _ (g.R.Rows.medium c.args.store.now) (g.R.Rows.pairs c.args.store.now)
+    (c.requires.backed.stores c.requires.up clean) c.in_err-decided.ensures.unrefused)
+
+pub returns-in_err-bytes-clause-left : goal.returns-in_err-bytes-clause-left
+unfolding local_in
+returns-in_err-bytes-clause-left g c here is clean =
+    let p = err_from_is_err_and c.from_residual-in_err-bytes.result c.from_residual-in_err-bytes.ensures.1 in
+    rw (p.1, p.2) (left_alone (λ t. local_in t c.args.self.now) _ _ _ (g.R.Rows.medium c.args.store.now) (g.R.Rows.pairs c.args.store.now)
+    (c.requires.backed.stores c.requires.up clean) memory_unrefused)
+
+pub returns-in_err-accept-clause-left : goal.returns-in_err-accept-clause-left
+unfolding local_in
+returns-in_err-accept-clause-left g c here is clean =
+    let p = err_from_is_err_and c.from_residual-in_err-accept.result c.from_residual-in_err-accept.ensures.1 in
+    rw (p.1, p.2)
+    (left_decided c.args.self.now.cache.refused c.decide.new.self.cache.refused g.R.Rows.rejects c.args.request.now c.args.limits here c.args.moment c.args.connection
+    (λ t. local_in t c.args.self.now) (λ t. local_in t c.decide.new.self)
+    (here_of c.args.self.now c.args.moment (terms_with c.args.service_key.now c.args.limits c.args.request.now.tenant)) (decision_of c.in_ok-decided.decided) _
+    (g.R.Rows.medium c.args.store.now) (g.R.Rows.medium c.accept.new.store) (g.R.Rows.pairs c.accept.new.store) is c.decide.ensures.local c.in_ok-decided.ensures.decision
+    (stores_some _ c.accept.new.cache.refused c.in_ok-decided.decided.items.items (local_in c.args.request.now.tenant c.decide.new.self) c.in_err-accept.ensures.fault) (c.in_err-accept.ensures.left clean
+    (λ t. c.requires.backed.stores c.requires.up (c.accept.ensures.clean clean) t ∙ sym (ap (λ (l : Local). stored_in l.held) (c.decide.ensures.local t)))))
+
+pub returns-in_err-push-clause-left : goal.returns-in_err-push-clause-left
+unfolding local_in
+returns-in_err-push-clause-left g c here is clean =
+    let p = err_from_is_err_and c.from_residual-in_err-push.result c.from_residual-in_err-push.ensures.1 in
+    rw (p.1, p.2) (left_ending _ _ _ None _ _ _
+    (left_decided c.args.self.now.cache.refused c.decide.new.self.cache.refused g.R.Rows.rejects c.args.request.now c.args.limits here c.args.moment c.args.connection
+    (λ t. local_in t c.args.self.now) (λ t. local_in t c.decide.new.self)
+    (here_of c.args.self.now c.args.moment (terms_with c.args.service_key.now c.args.limits c.args.request.now.tenant)) (decision_of c.in_ok-decided.decided) None
+    (g.R.Rows.medium c.args.store.now) (g.R.Rows.medium c.accept.new.store) (g.R.Rows.pairs c.accept.new.store) is c.decide.ensures.local c.in_ok-decided.ensures.decision
+    (λ told. absurd (none_refused told)) (c.in_ok-accept.ensures.left clean
+    (λ t. c.requires.backed.stores c.requires.up (c.accept.ensures.clean clean) t ∙ sym (ap (λ (l : Local). stored_in l.held) (c.decide.ensures.local t))))) _ memory_unrefused)
+
+pub returns-clause-left : goal.returns-clause-left
+unfolding local_in
+returns-clause-left g c here is clean =
+    left_decided c.args.self.now.cache.refused c.decide.new.self.cache.refused g.R.Rows.rejects c.args.request.now c.args.limits here c.args.moment c.args.connection
+    (λ t. local_in t c.args.self.now) (λ t. local_in t c.decide.new.self)
+    (here_of c.args.self.now c.args.moment (terms_with c.args.service_key.now c.args.limits c.args.request.now.tenant)) (decision_of c.in_ok-decided.decided) None
+    (g.R.Rows.medium c.args.store.now) (g.R.Rows.medium c.accept.new.store) (g.R.Rows.pairs c.accept.new.store) is c.decide.ensures.local c.in_ok-decided.ensures.decision
+    (λ told. absurd (none_refused told)) (c.in_ok-accept.ensures.left clean
+    (λ t. c.requires.backed.stores c.requires.up (c.accept.ensures.clean clean) t ∙ sym (ap (λ (l : Local). stored_in l.held) (c.decide.ensures.local t))))

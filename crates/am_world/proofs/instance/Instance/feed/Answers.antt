@@ -1,7 +1,8 @@
 use Rattle.std.proofs.Common.{◌∙◌, ◌++◌, ◌∷◌, [], ap, refl, sym}
-use Rattle.std.proofs.lemmas.Result.{IfErr-weaker, on_ok_weaker}
+use Rattle.std.proofs.lemmas.Result.{IfErr-weaker, err_from_is_err_and, on_ok_weaker}
 use Rattle.am_world.specs.declared.event.Output.TheVariants.{Reply}
-use Rattle.am_world.specs.Places.{local_in}
+use Rattle.am_world.specs.Places.{here_of, local_in}
+use Rattle.am_world.proofs.Leaves.{left_alone, memory_unrefused, none_refused}
 use Rattle.am_world.specs.Reaction.{terms_of, terms_with}
 use Rattle.am_world.proofs.Deciding.{brings_ready, brings_refused, brings_waits}
 use Rattle.am_world.proofs.instance.Instance.feed.Goals as goal
@@ -53,3 +54,60 @@ returns-in_ok-push-in-Refused-clause-backed g c = record { opens = c.requires.ba
 pub returns-in_ok-push-in-Ready-clause-backed : goal.returns-in_ok-push-in-Ready-clause-backed
 unfolding local_in
 returns-in_ok-push-in-Ready-clause-backed g c = record { opens = c.requires.backed.opens; stores = c.requires.backed.stores }
+
+pub returns-in-Waits-clause-left : goal.returns-in-Waits-clause-left
+unfolding local_in
+returns-in-Waits-clause-left g c before here clean =
+    (left_alone (λ t. local_in t c.args.self.now) _ _ _ (g.R.Rows.medium c.args.store.now) (g.R.Rows.pairs c.args.store.now) (c.requires.backed.stores c.requires.up clean) none_refused)
+
+pub returns-in_ok-push-in-Refused-clause-left : goal.returns-in_ok-push-in-Refused-clause-left
+unfolding local_in
+returns-in_ok-push-in-Refused-clause-left g c before here clean =
+    (left_alone (λ t. local_in t c.args.self.now) _ _ _ (g.R.Rows.medium c.args.store.now) (g.R.Rows.pairs c.args.store.now) (c.requires.backed.stores c.requires.up clean) none_refused)
+
+pub returns-in_ok-push-in-Ready-clause-left : goal.returns-in_ok-push-in-Ready-clause-left
+unfolding local_in
+returns-in_ok-push-in-Ready-clause-left g c before here clean =
+    (left_alone (λ t. local_in t c.args.self.now) _ _ _ (g.R.Rows.medium c.args.store.now) (g.R.Rows.pairs c.args.store.now) (c.requires.backed.stores c.requires.up clean) none_refused)
+
+pub returns-in_err-feed-clause-left : goal.returns-in_err-feed-clause-left
+unfolding local_in
+returns-in_err-feed-clause-left g c before here clean =
+    let p = err_from_is_err_and c.from_residual.result c.from_residual.ensures.1 in
+    rw (p.1, p.2)
+    (left_alone (λ t. local_in t c.args.self.now) _ _ _ (g.R.Rows.medium c.args.store.now) (g.R.Rows.pairs c.args.store.now) (c.requires.backed.stores c.requires.up clean) memory_unrefused)
+
+pub returns-in_err-bytes-in-Refused-clause-left : goal.returns-in_err-bytes-in-Refused-clause-left
+unfolding local_in
+returns-in_err-bytes-in-Refused-clause-left g c before here clean =
+    let p = err_from_is_err_and c.from_residual-in_err-bytes-in-Refused.result c.from_residual-in_err-bytes-in-Refused.ensures.1 in
+    rw (p.1, p.2)
+    (left_alone (λ t. local_in t c.args.self.now) _ _ _ (g.R.Rows.medium c.args.store.now) (g.R.Rows.pairs c.args.store.now) (c.requires.backed.stores c.requires.up clean) memory_unrefused)
+
+pub returns-in_err-push-in-Refused-clause-left : goal.returns-in_err-push-in-Refused-clause-left
+unfolding local_in
+returns-in_err-push-in-Refused-clause-left g c before here clean =
+    let p = err_from_is_err_and c.from_residual-in_err-push-in-Refused.result c.from_residual-in_err-push-in-Refused.ensures.1 in
+    rw (p.1, p.2)
+    (left_alone (λ t. local_in t c.args.self.now) _ _ _ (g.R.Rows.medium c.args.store.now) (g.R.Rows.pairs c.args.store.now) (c.requires.backed.stores c.requires.up clean) memory_unrefused)
+
+pub returns-in_err-bytes-in-Ready-clause-left : goal.returns-in_err-bytes-in-Ready-clause-left
+unfolding local_in
+returns-in_err-bytes-in-Ready-clause-left g c before here clean =
+    let p = err_from_is_err_and c.from_residual-in_err-bytes-in-Ready.result c.from_residual-in_err-bytes-in-Ready.ensures.1 in
+    rw (p.1, p.2)
+    (left_alone (λ t. local_in t c.args.self.now) _ _ _ (g.R.Rows.medium c.args.store.now) (g.R.Rows.pairs c.args.store.now) (c.requires.backed.stores c.requires.up clean) memory_unrefused)
+
+pub returns-in_err-push-in-Ready-clause-left : goal.returns-in_err-push-in-Ready-clause-left
+unfolding local_in
+returns-in_err-push-in-Ready-clause-left g c before here clean =
+    let p = err_from_is_err_and c.from_residual-in_err-push-in-Ready.result c.from_residual-in_err-push-in-Ready.ensures.1 in
+    rw (p.1, p.2)
+    (left_alone (λ t. local_in t c.args.self.now) _ _ _ (g.R.Rows.medium c.args.store.now) (g.R.Rows.pairs c.args.store.now) (c.requires.backed.stores c.requires.up clean) memory_unrefused)
+
+pub returns-in-Request-clause-left : goal.returns-in-Request-clause-left
+unfolding local_in
+returns-in-Request-clause-left g c before here clean =
+    rw (← c.in_ok-feed.ensures.verdict before here, c.in-Request.is)
+    (c.answer.ensures.left (λ request. here_of c.args.self.now c.args.moment (terms_of c.args.service_key.now c.args.limits.now request.tenant))
+    (ap (λ limits. here_of c.args.self.now c.args.moment (terms_with c.args.service_key.now limits c.in-Request.request.tenant)) (sym c.of-limits.ensures)) clean)

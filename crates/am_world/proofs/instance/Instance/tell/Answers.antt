@@ -1,6 +1,7 @@
-use Rattle.std.proofs.Common.{◌∙◌, ◌++◌, ap}
+use Rattle.std.proofs.Common.{◌∙◌, ◌++◌, None, ap}
 use Rattle.std.proofs.lemmas.Result.{err_from_is_err_and}
 use Rattle.am_world.specs.Places.{local_in}
+use Rattle.am_world.proofs.Leaves.{left_ending, memory_unrefused}
 use Rattle.am_world.proofs.instance.Instance.tell.Goals as goal
 
 pub returns-clause-told : goal.returns-clause-told
@@ -26,3 +27,25 @@ returns-clause-backed g c = record {
   opens = λ up. c.in_ok-all.ensures.«open»;
   stores = λ up clean. c.in_ok-all.ensures.stores clean (c.requires.backed.stores c.requires.up (c.tick.ensures.clean clean));
 }
+
+pub returns-in_err-all-clause-left : goal.returns-in_err-all-clause-left
+unfolding local_in
+returns-in_err-all-clause-left g c clean =
+    let p = err_from_is_err_and c.from_residual.result c.from_residual.ensures.1 in
+    rw (p.1, p.2) (c.in_err-all.ensures.left clean (c.requires.backed.stores c.requires.up (c.tick.ensures.clean clean)))
+
+pub returns-in_err-notices-clause-left : goal.returns-in_err-notices-clause-left
+unfolding local_in
+returns-in_err-notices-clause-left g c clean =
+    let p = err_from_is_err_and c.from_residual-in_err-notices.result c.from_residual-in_err-notices.ensures.1 in
+    rw (p.1, p.2) (left_ending _ _ _ None _ _ _ (c.in_ok-all.ensures.left clean (c.requires.backed.stores c.requires.up (c.tick.ensures.clean clean))) _ memory_unrefused)
+
+pub returns-in_err-append-clause-left : goal.returns-in_err-append-clause-left
+unfolding local_in
+returns-in_err-append-clause-left g c clean =
+    let p = err_from_is_err_and c.from_residual-in_err-append.result c.from_residual-in_err-append.ensures.1 in
+    rw (p.1, p.2) (left_ending _ _ _ None _ _ _ (c.in_ok-all.ensures.left clean (c.requires.backed.stores c.requires.up (c.tick.ensures.clean clean))) _ memory_unrefused)
+
+pub returns-clause-left : goal.returns-clause-left
+unfolding local_in
+returns-clause-left g c clean = c.in_ok-all.ensures.left clean (c.requires.backed.stores c.requires.up (c.tick.ensures.clean clean))

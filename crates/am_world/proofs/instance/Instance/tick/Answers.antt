@@ -30,3 +30,12 @@ returns-in-Err-clause-backed g c = record {
   opens = λ up. absurd (let clash = sym up ∙ c.stop.ensures.up in cc);
   stores = λ up clean. absurd (let clash = sym up ∙ c.stop.ensures.up in cc);
 }
+
+pub returns-then-not-self-clause-left : goal.returns-then-not-self-clause-left
+returns-then-not-self-clause-left g c up = absurd (let clash = sym up ∙ c.if-not-self.true in cc)
+
+pub returns-in-Ok-clause-left : goal.returns-in-Ok-clause-left
+returns-in-Ok-clause-left g c up clean = rw (c.tell.ensures.up ∙ up) (c.in-Ok.ensures.left clean)
+
+pub returns-in-Err-clause-left : goal.returns-in-Err-clause-left
+returns-in-Err-clause-left g c up clean = rw (c.stop.ensures.up, c.stop.ensures.cause) (c.in-Err.ensures.left clean)

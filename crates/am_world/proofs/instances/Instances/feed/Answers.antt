@@ -1,6 +1,9 @@
 use Rattle.std.proofs.Common.{◌≡◌, ◌∙◌, ◌++◌, length, rules, sym, vec_len}
 use Rattle.std.proofs.lemmas.Result.{IfErr-weaker}
+use Rattle.am_http.specs.Verdict.{verdict}
+use Rattle.am_world.specs.Shelves.{shelf_of}
 use Rattle.am_world.proofs.Backed.{backed_of, backed_ok}
+use Rattle.am_world.proofs.Leaves.{taken_left_here}
 use Rattle.am_world.proofs.Working.{bytes_cause_here}
 use Rattle.am_world.specs.Reaction.{terms_of}
 use Rattle.am_world.proofs.InstancesLemmas.{at_number, bytes_exist, both_ok, bytes_here, changed_at, incarnation_here, number_of, refused_grown, takes_here, up_here, within}
@@ -86,3 +89,12 @@ returns-clause-incarnation g c =
     let change = changed_at c.self.inside.list.items c.place.result c.args.number c.feed.new.self c.self.invariant c.place.ensures exists (c.feed.ensures.number ∙ number_of c.args.number _ _ here) in
     rw (← c.self.view_is)
     (incarnation_here c.args.number _ c.feed.new.self change.here ∙ c.feed.ensures.incarnation ∙ sym (incarnation_here c.args.number _ _ here))
+
+pub returns-clause-left : goal.returns-clause-left
+returns-clause-left g c before is =
+    let exists = bytes_exist c.args.connection c.args.number _ c.self.invariant (rw (← c.self.view_is) at c.requires.reads) in
+    let here = at_number c.self.inside.list.items c.place.result c.args.number _ c.self.invariant c.place.ensures exists c.index_mut.ensures.value in
+    let read = sym (bytes_here c.args.connection c.args.number _ _ here) ∙ (rw (← c.self.view_is) at is) in
+    rw (← c.self.view_is)
+    (taken_left_here c.args.number c.self.inside.list.items _ g.R.Rows.rejects (verdict (before ++ c.args.piece.now)) (λ t. terms_of c.args.service_key.now c.args.limits.now t) c.args.moment c.args.connection
+    _ (shelf_of g.R.Rows c.args.store.now) (shelf_of g.R.Rows c.feed.new.store) here (number_of c.args.number _ _ here) (c.feed.ensures.left before read))

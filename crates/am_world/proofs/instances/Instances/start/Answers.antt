@@ -4,13 +4,14 @@ use Rattle.std.proofs.lemmas.List.{length-map}
 use Rattle.std.proofs.lemmas.Option.{slice_get-get_or}
 use Rattle.am_world.specs.Shelves.{IsStartedAt, Shelf, shelf_at, shelf_of}
 use Rattle.am_world.proofs.InstancesLemmas.{both_ok}
+use Rattle.am_world.proofs.Opened.{fails_at}
 use Rattle.am_world.proofs.Shelved.{backed_at, cleaner_at, shelf_is, shelf_put}
 use Rattle.am_world.proofs.instances.Instances.start.Goals as goal
 
 pub returns-clause-starts : goal.returns-clause-starts
 returns-clause-starts g c =
     let xs = c.args.stores.now in
-    let f = λ (r : g.row.R.Denot). shelf_of (g.R.Rows.pairs r) (g.R.Rows.is_clean r) (g.R.Rows.is_open r) in
+    let f = λ (r : g.row.R.Denot). shelf_of g.R.Rows r in
     let size : length xs ≡ 8 = sym (length-map xs f) ∙ c.requires.backed.size in
     let exists = c.requires.exists in
     let less : c.place.result < length xs = grind (arith, nat_tests) in
@@ -25,7 +26,7 @@ returns-clause-starts g c =
 pub returns-clause-clean : goal.returns-clause-clean
 returns-clause-clean g c =
     let xs = c.args.stores.now in
-    let f = λ (r : g.row.R.Denot). shelf_of (g.R.Rows.pairs r) (g.R.Rows.is_clean r) (g.R.Rows.is_open r) in
+    let f = λ (r : g.row.R.Denot). shelf_of g.R.Rows r in
     let size : length xs ≡ 8 = sym (length-map xs f) ∙ c.requires.backed.size in
     let exists = c.requires.exists in
     let less : c.place.result < length xs = grind (arith, nat_tests) in
@@ -37,7 +38,7 @@ returns-clause-clean g c =
 pub returns-clause-backed : goal.returns-clause-backed
 returns-clause-backed g c =
     let xs = c.args.stores.now in
-    let f = λ (r : g.row.R.Denot). shelf_of (g.R.Rows.pairs r) (g.R.Rows.is_clean r) (g.R.Rows.is_open r) in
+    let f = λ (r : g.row.R.Denot). shelf_of g.R.Rows r in
     let size : length xs ≡ 8 = sym (length-map xs f) ∙ c.requires.backed.size in
     let exists = c.requires.exists in
     let less : c.place.result < length xs = grind (arith, nat_tests) in
@@ -47,3 +48,15 @@ returns-clause-backed g c =
     both_ok c.start_at.result (λ starts backed.
     backed_at f xs c.args.self.now c.start_at.new.self c.place.result c.args.number c.start_at.new.store next c.requires.backed less c.start_at.ensures.others backed (λ down. starts.unread))
     c.start_at.ensures.starts c.start_at.ensures.backed
+
+pub returns-clause-fails : goal.returns-clause-fails
+returns-clause-fails g c =
+    let xs = c.args.stores.now in
+    let f = λ (r : g.row.R.Denot). shelf_of g.R.Rows r in
+    let size : length xs ≡ 8 = sym (length-map xs f) ∙ c.requires.backed.size in
+    let exists = c.requires.exists in
+    let less : c.place.result < length xs = grind (arith, nat_tests) in
+    let next : suc c.place.result ≡ c.args.number = omega arith in
+    let x = get_or xs c.place.result c.index-stores-place.result in
+    fails_at g.R.Rows xs c.place.result c.args.number x c.start_at.new.store next (slice_get-get_or xs c.place.result c.index-stores-place.result less)
+    c.start_at.result c.start_at.ensures.fails

@@ -25,8 +25,8 @@ pub returns-clause-starts : goal.returns-clause-starts
 returns-clause-starts g c =
     let here = at_number c.self.inside.list.items c.place.result c.args.number _ c.self.invariant c.place.ensures c.requires.exists c.index_mut.ensures.value in
     let change = changed_at c.self.inside.list.items c.place.result c.args.number c.start.new.self c.self.invariant c.place.ensures c.requires.exists (c.start.ensures.number ∙ number_of c.args.number _ _ here) in
-    let old = shelf_of (g.R.Rows.pairs c.args.store.now) (g.R.Rows.is_clean c.args.store.now) (g.R.Rows.is_open c.args.store.now) in
-    let new = shelf_of (g.R.Rows.pairs c.start.new.store) (g.R.Rows.is_clean c.start.new.store) (g.R.Rows.is_open c.start.new.store) in
+    let old = shelf_of g.R.Rows c.args.store.now in
+    let new = shelf_of g.R.Rows c.start.new.store in
     rw (← c.self.view_is)
     (started_here c.start.result c.args.number c.args.moment _ _ _ c.start.new.self old new here change (rw (← c.self.view_is) at c.requires.down)
     c.start.ensures.up c.start.ensures.held c.start.ensures.front c.start.ensures.incarnation c.start.ensures.refused)

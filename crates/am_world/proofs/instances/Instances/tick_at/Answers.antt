@@ -1,6 +1,9 @@
-use Rattle.std.proofs.Common.{◌≡◌, ◌∙◌, length, vec_len, rules}
-use Rattle.am_world.proofs.InstancesLemmas.{at_number, changed_at, number_of, within}
+use Rattle.std.proofs.Common.{◌≡◌, ◌∙◌, length, sym, vec_len, rules}
+use Rattle.am_world.proofs.InstancesLemmas.{at_number, changed_at, number_of, up_here, within}
+use Rattle.am_replica.specs.Retiring.{retired}
+use Rattle.am_world.specs.Shelves.{shelf_of}
 use Rattle.am_world.proofs.Backed.{backed_here, backed_of}
+use Rattle.am_world.proofs.Leaves.{shelf_left_here, stop_here}
 use Rattle.am_world.proofs.Working.{turn_here}
 use Rattle.am_world.proofs.instances.Instances.tick_at.Goals as goal
 
@@ -32,3 +35,11 @@ returns-clause-backed g c =
     let here = at_number c.self.inside.list.items c.place.result c.args.number _ c.self.invariant c.place.ensures c.requires.exists c.index_mut.ensures.value in
     let change = changed_at c.self.inside.list.items c.place.result c.args.number c.tick.new.self c.self.invariant c.place.ensures c.requires.exists (c.tick.ensures.number ∙ number_of c.args.number _ _ here) in
     backed_here c.args.number _ c.tick.new.self _ change.here c.tick.ensures.backed
+
+pub returns-clause-left : goal.returns-clause-left
+returns-clause-left g c up =
+    let here = at_number c.self.inside.list.items c.place.result c.args.number _ c.self.invariant c.place.ensures c.requires.exists c.index_mut.ensures.value in
+    let change = changed_at c.self.inside.list.items c.place.result c.args.number c.tick.new.self c.self.invariant c.place.ensures c.requires.exists (c.tick.ensures.number ∙ number_of c.args.number _ _ here) in
+    let is_up = sym (up_here c.args.number _ _ here) ∙ (rw (← c.self.view_is) at up) in
+    let left = shelf_left_here c.args.number _ _ (retired c.args.moment) ⊥ _ (shelf_of g.R.Rows c.args.store.now) (shelf_of g.R.Rows c.tick.new.store) here (c.tick.ensures.left is_up) in
+    rw (← c.self.view_is, stop_here c.args.number _ c.tick.new.self change.here) left

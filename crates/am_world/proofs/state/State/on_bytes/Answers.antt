@@ -1,8 +1,12 @@
-use Rattle.std.proofs.Common.{◌≡◌, ◌∙◌, ◌<◌, nat_lt, false, inl, inr, get_or, length, refl, suc, sym, arith}
+use Rattle.std.proofs.Common.{◌≡◌, ◌∙◌, ◌<◌, None, Some, ap, nat_lt, false, inl, inr, get_or, length, map, refl, suc, sym, arith}
 use Rattle.std.proofs.lemmas.Bool.{true≢false}
 use Rattle.std.proofs.lemmas.List.{length-map}
 use Rattle.std.proofs.lemmas.Option.{slice_get-get_or}
 use Rattle.am_world.specs.Shelves.{shelf_of}
+use Rattle.am_world.specs.declared.event.Event.TheVariants.{Bytes}
+use Rattle.am_world.specs.Leaving.{stop_for}
+use Rattle.am_world.specs.Places.{cause_at}
+use Rattle.am_world.proofs.Leaves.{piece_left, shelves_alone, stop_down, unrefused_up}
 use Rattle.am_world.proofs.Shelved.{backed_at, backed_down, cleaner_at, reads_up, shelf_here}
 use Rattle.std.proofs.lemmas.Bool.Decides.{nat_tests}
 use Rattle.am_world.specs.Moments.{last_moment}
@@ -44,7 +48,7 @@ feed-requires-clause-up g c = reads_up c.args.self.now.instances _ c.args.connec
 pub feed-requires-clause-backed : goal.feed-requires-clause-backed
 feed-requires-clause-backed g c =
     let xs = c.args.stores.now in
-    let f = λ (r : g.row.R.Denot). shelf_of (g.R.Rows.pairs r) (g.R.Rows.is_clean r) (g.R.Rows.is_open r) in
+    let f = λ (r : g.row.R.Denot). shelf_of g.R.Rows r in
     let size : length xs ≡ 8 = sym (length-map xs f) ∙ c.requires.size in
     let exists = c.in-Some.ensures.exists in
     let less : c.place.result < length xs = grind (arith, nat_tests) in
@@ -55,7 +59,7 @@ feed-requires-clause-backed g c =
 pub returns-in-Ok-clause-backed : goal.returns-in-Ok-clause-backed
 returns-in-Ok-clause-backed g c =
     let xs = c.args.stores.now in
-    let f = λ (r : g.row.R.Denot). shelf_of (g.R.Rows.pairs r) (g.R.Rows.is_clean r) (g.R.Rows.is_open r) in
+    let f = λ (r : g.row.R.Denot). shelf_of g.R.Rows r in
     let size : length xs ≡ 8 = sym (length-map xs f) ∙ c.requires.size in
     let exists = c.in-Some.ensures.exists in
     let less : c.place.result < length xs = grind (arith, nat_tests) in
@@ -68,7 +72,7 @@ returns-in-Ok-clause-backed g c =
 pub returns-in-Err-clause-backed : goal.returns-in-Err-clause-backed
 returns-in-Err-clause-backed g c =
     let xs = c.args.stores.now in
-    let f = λ (r : g.row.R.Denot). shelf_of (g.R.Rows.pairs r) (g.R.Rows.is_clean r) (g.R.Rows.is_open r) in
+    let f = λ (r : g.row.R.Denot). shelf_of g.R.Rows r in
     let size : length xs ≡ 8 = sym (length-map xs f) ∙ c.requires.size in
     let exists = c.in-Some.ensures.exists in
     let less : c.place.result < length xs = grind (arith, nat_tests) in
@@ -80,7 +84,7 @@ returns-in-Err-clause-backed g c =
 pub returns-in-Ok-clause-clean : goal.returns-in-Ok-clause-clean
 returns-in-Ok-clause-clean g c =
     let xs = c.args.stores.now in
-    let f = λ (r : g.row.R.Denot). shelf_of (g.R.Rows.pairs r) (g.R.Rows.is_clean r) (g.R.Rows.is_open r) in
+    let f = λ (r : g.row.R.Denot). shelf_of g.R.Rows r in
     let size : length xs ≡ 8 = sym (length-map xs f) ∙ c.requires.size in
     let exists = c.in-Some.ensures.exists in
     let less : c.place.result < length xs = grind (arith, nat_tests) in
@@ -90,9 +94,52 @@ returns-in-Ok-clause-clean g c =
 pub returns-in-Err-clause-clean : goal.returns-in-Err-clause-clean
 returns-in-Err-clause-clean g c =
     let xs = c.args.stores.now in
-    let f = λ (r : g.row.R.Denot). shelf_of (g.R.Rows.pairs r) (g.R.Rows.is_clean r) (g.R.Rows.is_open r) in
+    let f = λ (r : g.row.R.Denot). shelf_of g.R.Rows r in
     let size : length xs ≡ 8 = sym (length-map xs f) ∙ c.requires.size in
     let exists = c.in-Some.ensures.exists in
     let less : c.place.result < length xs = grind (arith, nat_tests) in
     let x = get_or xs c.place.result c.index-stores-place.result in
     cleaner_at f xs c.place.result x c.feed.new.store less (slice_get-get_or xs c.place.result c.index-stores-place.result less) c.feed.ensures.clean
+
+pub returns-then-moment-gt-LAST_MOMENT-clause-left : goal.returns-then-moment-gt-LAST_MOMENT-clause-left
+returns-then-moment-gt-LAST_MOMENT-clause-left g c =
+    shelves_alone g.R.Rows.rejects c.args.self.now (Bytes c.args.connection c.args.moment c.args.piece.now) c.args.self.now (map (shelf_of g.R.Rows) c.args.stores.now) c.requires
+    (unrefused_up c.args.self.now.instances c.args.self.now.instances (λ i. refl))
+
+pub returns-in_default-clause-left : goal.returns-in_default-clause-left
+returns-in_default-clause-left g c =
+    shelves_alone g.R.Rows.rejects c.args.self.now (Bytes c.args.connection c.args.moment c.args.piece.now) c.args.self.now (map (shelf_of g.R.Rows) c.args.stores.now) c.requires
+    (unrefused_up c.args.self.now.instances c.args.self.now.instances (λ i. refl))
+
+pub returns-in-Ok-clause-left : goal.returns-in-Ok-clause-left
+returns-in-Ok-clause-left g c =
+    let xs = c.args.stores.now in
+    let f = λ (r : g.row.R.Denot). shelf_of g.R.Rows r in
+    let size : length xs ≡ 8 = sym (length-map xs f) ∙ c.requires.size in
+    let exists = c.in-Some.ensures.exists in
+    let less : c.place.result < length xs = grind (arith, nat_tests) in
+    let next : suc c.place.result ≡ c.in-Some.reader = omega arith in
+    let x = get_or xs c.place.result c.index-stores-place.result in
+    let found = slice_get-get_or xs c.place.result c.index-stores-place.result less in
+    let read = some_where _ c.in-Some.ensures.reads in
+    let up = reads_up c.args.self.now.instances _ c.args.connection c.in-Some.reader c.requires c.in-Some.ensures.reads in
+    let now = c.in-Ok.ensures.takes read.0 read.1 in
+    piece_left f xs g.R.Rows.rejects c.args.self.now _ c.place.result c.in-Some.reader c.args.connection c.args.moment read.0 c.args.piece.now x c.feed.new.store _ _
+    c.effective-at.ensures c.as_slice.ensures next less found c.requires c.feed.ensures.others read.1 None
+    (ap (λ b. stop_for b (cause_at c.in-Some.reader c.feed.new.self)) (now.up ∙ up)) (c.in-Ok.ensures.left read.0 read.1)
+
+pub returns-in-Err-clause-left : goal.returns-in-Err-clause-left
+returns-in-Err-clause-left g c =
+    let xs = c.args.stores.now in
+    let f = λ (r : g.row.R.Denot). shelf_of g.R.Rows r in
+    let size : length xs ≡ 8 = sym (length-map xs f) ∙ c.requires.size in
+    let exists = c.in-Some.ensures.exists in
+    let less : c.place.result < length xs = grind (arith, nat_tests) in
+    let next : suc c.place.result ≡ c.in-Some.reader = omega arith in
+    let x = get_or xs c.place.result c.index-stores-place.result in
+    let found = slice_get-get_or xs c.place.result c.index-stores-place.result less in
+    let read = some_where _ c.in-Some.ensures.reads in
+    piece_left f xs g.R.Rows.rejects c.args.self.now c.stop.new.self c.place.result c.in-Some.reader c.args.connection c.args.moment read.0 c.args.piece.now x c.feed.new.store _ _
+    c.effective-at.ensures c.as_slice.ensures next less found c.requires
+    (elsewhere_then c.in-Some.reader _ _ _ c.feed.ensures.others c.stop.ensures.others) read.1 (Some c.in-Err.fault)
+    (stop_down c.in-Some.reader _ c.stop.ensures.down.up ∙ c.stop.ensures.cause) (c.in-Err.ensures.left read.0 read.1)

@@ -4,6 +4,7 @@ use Rattle.am_replica.specs.Local.{Local}
 use Rattle.am_rows.specs.Rows.{stored_in}
 use Rattle.am_world.proofs.Shelved.{backed_as, backed_stopped}
 use Rattle.am_world.proofs.Built.{keep_same}
+use Rattle.am_world.proofs.Leaves.{stop_down, unrefused_but, unrefused_up}
 use Rattle.am_world.proofs.Faults.{elsewhere_then, faulted_at}
 use Rattle.am_world.proofs.Kept.{kept_not_up, kept_open, itself, incarnation_all}
 use Rattle.am_world.proofs.state.State.on_open.Goals as goal
@@ -34,3 +35,14 @@ pub returns-in-Err-clause-backed : goal.returns-in-Err-clause-backed
 returns-in-Err-clause-backed c shelves backed =
     backed_stopped c.args.instance c.args.self.now.instances c.stop.new.self.instances shelves backed c.stop.ensures.down
     (elsewhere_then c.args.instance _ _ _ c.in-Err.ensures.others c.stop.ensures.others)
+
+pub returns-then-not-is_up-clause-unrefused : goal.returns-then-not-is_up-clause-unrefused
+returns-then-not-is_up-clause-unrefused c = unrefused_up c.args.self.now.instances c.args.self.now.instances (λ i. refl)
+
+pub returns-in-Ok-clause-unrefused : goal.returns-in-Ok-clause-unrefused
+returns-in-Ok-clause-unrefused c = unrefused_up c.args.self.now.instances c.begin.new.self c.in-Ok.ensures.roster.up
+
+pub returns-in-Err-clause-unrefused : goal.returns-in-Err-clause-unrefused
+returns-in-Err-clause-unrefused c =
+    unrefused_but c.args.instance c.args.self.now.instances c.stop.new.self.instances (elsewhere_then c.args.instance _ _ _ c.in-Err.ensures.others c.stop.ensures.others)
+    (λ is. let told = sym (stop_down c.args.instance c.stop.new.self.instances c.stop.ensures.down.up ∙ c.stop.ensures.cause) ∙ is in let clash = told in cc)

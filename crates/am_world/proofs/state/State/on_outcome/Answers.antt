@@ -1,9 +1,12 @@
 use Rattle.std.proofs.Common.{◌≡◌, ◌∙◌, nat_lt, false, inl, inr, refl, sym, arith}
 use Rattle.std.proofs.lemmas.Bool.Decides.{nat_tests}
 use Rattle.am_world.specs.Moments.{last_moment}
-use Rattle.am_world.specs.Reaction.{terms_of}
+use Rattle.am_replica.specs.Delivery.{outcome}
+use Rattle.am_world.specs.Places.{here_in, local_at}
+use Rattle.am_world.specs.Reaction.{in_replica, terms_of}
 use Rattle.am_world.proofs.Shelved.{backed_as, backed_stopped}
 use Rattle.am_world.proofs.Built.{keep_same}
+use Rattle.am_world.proofs.Leaves.{never_reacting, stop_down, unrefused_but, unrefused_up}
 use Rattle.am_world.proofs.Faults.{elsewhere_then, faulted_at}
 use Rattle.am_world.proofs.Kept.{incarnation_all, itself}
 use Rattle.am_world.proofs.KeptOutcome.{kept_outcome, kept_unawaited}
@@ -52,3 +55,22 @@ pub returns-in-Err-clause-backed : goal.returns-in-Err-clause-backed
 returns-in-Err-clause-backed c shelves backed =
     backed_stopped c.args.attempt.now.instance c.args.self.now.instances c.stop.new.self.instances shelves backed c.stop.ensures.down
     (elsewhere_then c.args.attempt.now.instance _ _ _ c.take_outcome.ensures.others c.stop.ensures.others)
+
+pub returns-then-moment-gt-LAST_MOMENT-clause-unrefused : goal.returns-then-moment-gt-LAST_MOMENT-clause-unrefused
+returns-then-moment-gt-LAST_MOMENT-clause-unrefused c = unrefused_up c.args.self.now.instances c.args.self.now.instances (λ i. refl)
+
+pub returns-then-not-is_awaiting-clause-unrefused : goal.returns-then-not-is_awaiting-clause-unrefused
+returns-then-not-is_awaiting-clause-unrefused c = unrefused_up c.args.self.now.instances c.args.self.now.instances (λ i. refl)
+
+pub returns-in-Ok-clause-unrefused : goal.returns-in-Ok-clause-unrefused
+returns-in-Ok-clause-unrefused c = unrefused_up c.args.self.now.instances c.take_outcome.new.self c.take_outcome.ensures.roster.up
+
+pub returns-in-Err-clause-unrefused : goal.returns-in-Err-clause-unrefused
+returns-in-Err-clause-unrefused c =
+    let i = c.args.attempt.now.instance in
+    let terms = terms_of c.args.self.now.service_key c.args.self.now.limits c.args.attempt.now.tenant in
+    unrefused_but i c.args.self.now.instances c.stop.new.self.instances (elsewhere_then i _ _ _ c.take_outcome.ensures.others c.stop.ensures.others)
+    (λ is. never_reacting
+    (outcome (in_replica (here_in c.effective-at.result terms i c.args.self.now.instances)) c.args.attempt.now.number c.args.tries c.args.status
+    (local_at c.args.attempt.now.tenant i c.args.self.now.instances)) c.in-Err.fault (c.in-Err.ensures.cause terms (sym c.of-limits.ensures))
+    (sym (stop_down i c.stop.new.self.instances c.stop.ensures.down.up ∙ c.stop.ensures.cause) ∙ is))

@@ -1,7 +1,7 @@
 use Rattle.std.proofs.Common.{◌≡◌, ◌∙◌, refl, rules}
 use Rattle.std.proofs.lemmas.List.{length-map}
 use Rattle.am_world.specs.Shelves.{rows_in, shelf_at, shelves_of}
-use Rattle.am_world.proofs.Opened.{follows_opening, local_open, none_backed, refused_open, roster_open, stands_opening, unread_open}
+use Rattle.am_world.proofs.Opened.{fails_to_open, follows_opening, local_open, none_backed, refused_open, roster_open, stands_opening, unread_open}
 use Rattle.am_world.proofs.state.State.open.Goals as goal
 
 pub start-requires-clause-backed : goal.start-requires-clause-backed
@@ -15,8 +15,8 @@ pub returns-in-Ok-clause-opens : goal.returns-in-Ok-clause-opens
 returns-in-Ok-clause-opens g c = λ clean.
     let zero : c.unwrap-opening.result ≡ 0 = search rules in
     let origin = c.args.setup.origin in
-    let old = shelves_of g.R.Rows.pairs g.R.Rows.is_clean g.R.Rows.is_open c.args.stores.now in
-    let new = shelves_of g.R.Rows.pairs g.R.Rows.is_clean g.R.Rows.is_open c.start.new.stores in
+    let old = shelves_of g.R.Rows c.args.stores.now in
+    let new = shelves_of g.R.Rows c.start.new.stores in
     let rows = rows_in old in
     let starts = rw zero at c.in-Ok.ensures.starts in
     let first = rw c.start-first.ensures at c.in_ok-instances.ensures.incarnation in
@@ -29,3 +29,6 @@ returns-in-Ok-clause-opens g c = λ clean.
       faults = refl;
       refused = refused_open origin rows _ _ (shelf_at 1 old) (shelf_at 1 new) c.in_ok-instances.ensures.down first starts c.start.ensures.others (clean 1 refl) (λ t. refl) c.in_ok-instances.ensures.refused;
     }
+
+pub returns-in-Err-clause-refused : goal.returns-in-Err-clause-refused
+returns-in-Err-clause-refused g c = rw c.of_store.ensures (fails_to_open g.R.Rows c.args.stores.now 1 c.in-Err.failure refl c.in-Err.ensures.fails)

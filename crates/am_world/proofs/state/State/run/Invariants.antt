@@ -6,6 +6,6 @@ use Rattle.am_world.proofs.state.State.run.Given as goal
 abbrev pub invariant-loop-event : goal.invariant-loop-event
 invariant-loop-event g l = record {
   ran : Run l.fn.self (take l.event-index l.events) l.self;
-  backed : AreBacked l.self.instances (shelves_of g.R.Rows.pairs g.R.Rows.is_clean g.R.Rows.is_open l.stores);
-  clean : NeverCleaner (shelves_of g.R.Rows.pairs g.R.Rows.is_clean g.R.Rows.is_open l.fn.stores) (shelves_of g.R.Rows.pairs g.R.Rows.is_clean g.R.Rows.is_open l.stores);
+  backed : AreBacked l.self.instances (shelves_of g.R.Rows l.stores);
+  clean : NeverCleaner (shelves_of g.R.Rows l.fn.stores) (shelves_of g.R.Rows l.stores);
 }
