@@ -1,7 +1,7 @@
 //! Frames written out by hand: each is read, and the message is written as the same bytes.
 use am_expect::equal;
 use am_text::Failure;
-use am_wire::{Message, decode, encode};
+use am_wire::{Message, decode, encode, spelled_len};
 use std::alloc::Global;
 use std::test::Fail;
 
@@ -14,11 +14,22 @@ fn code(alloc: Global, bytes: &[u8]) -> &'static str {
     }
 }
 
-// Nothing, where the message is written as these bytes.
+// Nothing, where the message is written as these bytes, it is told how many they are, and a share of it is written so too.
 fn rewritten(alloc: Global, message: &Message, bytes: &[u8]) -> &'static str {
-    match encode(alloc, message) {
-        Ok(written) if written.as_slice() == bytes => "",
+    let Ok(shared) = message.share() else {
+        return "not shared";
+    };
+    match encode(alloc, &shared) {
+        Ok(written) if written.as_slice() == bytes => measured(message, bytes),
         _ => "written otherwise",
+    }
+}
+
+// Nothing, where the message is told to have so many bytes.
+fn measured(message: &Message, bytes: &[u8]) -> &'static str {
+    match spelled_len(message) {
+        Some(length) if length as usize == bytes.len() => "",
+        _ => "of another length",
     }
 }
 
@@ -28,92 +39,122 @@ type Row = (&'static str, &'static [u8], &'static str);
 const FRAMES: &[Row] = &[
     (
         "get",
-        b"\0\0\0\x1a\x01\x01\x01\0\0\0\x01\x02\0\0\0\0\0\0\0\x01\x01a\0\0\0\0\0\0\0\x01",
+        b"\0\0\0\x22\x02\x01\x01\0\0\0\x01\x02\0\0\0\0\0\0\0\x01\0\0\0\0\0\0\0\0\x01a\0\0\0\0\0\0\0\x01",
         "",
     ),
     (
         "a length of one less",
-        b"\0\0\0\x19\x01\x01\x01\0\0\0\x01\x02\0\0\0\0\0\0\0\x01\x01a\0\0\0\0\0\0\0\x01",
+        b"\0\0\0!\x02\x01\x01\0\0\0\x01\x02\0\0\0\0\0\0\0\x01\0\0\0\0\0\0\0\0\x01a\0\0\0\0\0\0\0\x01",
         "Wi2",
     ),
     (
         "a length of one more",
-        b"\0\0\0\x1b\x01\x01\x01\0\0\0\x01\x02\0\0\0\0\0\0\0\x01\x01a\0\0\0\0\0\0\0\x01",
+        b"\0\0\0#\x02\x01\x01\0\0\0\x01\x02\0\0\0\0\0\0\0\x01\0\0\0\0\0\0\0\0\x01a\0\0\0\0\0\0\0\x01",
         "Wi1",
     ),
     (
-        "version 2",
-        b"\0\0\0\x1a\x02\x01\x01\0\0\0\x01\x02\0\0\0\0\0\0\0\x01\x01a\0\0\0\0\0\0\0\x01",
+        "a length of one more, and a byte more",
+        b"\0\0\0#\x02\x01\x01\0\0\0\x01\x02\0\0\0\0\0\0\0\x01\0\0\0\0\0\0\0\0\x01a\0\0\0\0\0\0\0\x01\0",
+        "Wi6",
+    ),
+    (
+        "version 1",
+        b"\0\0\0\x22\x01\x01\x01\0\0\0\x01\x02\0\0\0\0\0\0\0\x01\0\0\0\0\0\0\0\0\x01a\0\0\0\0\0\0\0\x01",
+        "Wi3",
+    ),
+    (
+        "the frame of version 1",
+        b"\0\0\0\x1a\x01\x01\x01\0\0\0\x01\x02\0\0\0\0\0\0\0\x01\x01a\0\0\0\0\0\0\0\x01",
+        "Wi3",
+    ),
+    (
+        "version 3",
+        b"\0\0\0\x22\x03\x01\x01\0\0\0\x01\x02\0\0\0\0\0\0\0\x01\0\0\0\0\0\0\0\0\x01a\0\0\0\0\0\0\0\x01",
         "Wi3",
     ),
     (
         "kind 8",
-        b"\0\0\0\x1a\x01\x08\x01\0\0\0\x01\x02\0\0\0\0\0\0\0\x01\x01a\0\0\0\0\0\0\0\x01",
+        b"\0\0\0\x22\x02\x08\x01\0\0\0\x01\x02\0\0\0\0\0\0\0\x01\0\0\0\0\0\0\0\0\x01a\0\0\0\0\0\0\0\x01",
         "Wi3",
     ),
     (
         "kind 0",
-        b"\0\0\0\x1a\x01\0\x01\0\0\0\x01\x02\0\0\0\0\0\0\0\x01\x01a\0\0\0\0\0\0\0\x01",
+        b"\0\0\0\x22\x02\0\x01\0\0\0\x01\x02\0\0\0\0\0\0\0\x01\0\0\0\0\0\0\0\0\x01a\0\0\0\0\0\0\0\x01",
         "Wi3",
     ),
     (
         "from instance 9",
-        b"\0\0\0\x1a\x01\x01\x09\0\0\0\x01\x02\0\0\0\0\0\0\0\x01\x01a\0\0\0\0\0\0\0\x01",
+        b"\0\0\0\x22\x02\x01\x09\0\0\0\x01\x02\0\0\0\0\0\0\0\x01\0\0\0\0\0\0\0\0\x01a\0\0\0\0\0\0\0\x01",
         "Wi5",
     ),
     (
         "to instance 0",
-        b"\0\0\0\x1a\x01\x01\x01\0\0\0\x01\0\0\0\0\0\0\0\0\x01\x01a\0\0\0\0\0\0\0\x01",
+        b"\0\0\0\x22\x02\x01\x01\0\0\0\x01\0\0\0\0\0\0\0\0\x01\0\0\0\0\0\0\0\0\x01a\0\0\0\0\0\0\0\x01",
         "Wi5",
     ),
     (
         "a tenant of no name",
-        b"\0\0\0\x1a\x01\x01\x01\0\0\0\x01\x02\0\0\0\0\0\0\0\x01\0a\0\0\0\0\0\0\0\x01",
+        b"\0\0\0\x22\x02\x01\x01\0\0\0\x01\x02\0\0\0\0\0\0\0\x01\0\0\0\0\0\0\0\0\0a\0\0\0\0\0\0\0\x01",
         "Wi4",
     ),
     (
         "a tenant of another character",
-        b"\0\0\0\x1a\x01\x01\x01\0\0\0\x01\x02\0\0\0\0\0\0\0\x01\x01|\0\0\0\0\0\0\0\x01",
+        b"\0\0\0\x22\x02\x01\x01\0\0\0\x01\x02\0\0\0\0\0\0\0\x01\0\0\0\0\0\0\0\0\x01|\0\0\0\0\0\0\0\x01",
         "Wi4",
     ),
     (
-        "a byte left behind the body",
-        b"\0\0\0\x1b\x01\x01\x01\0\0\0\x01\x02\0\0\0\0\0\0\0\x01\x01a\0\0\0\0\0\0\0\x01\0",
+        "a tenant of a space",
+        b"\0\0\0\x22\x02\x01\x01\0\0\0\x01\x02\0\0\0\0\0\0\0\x01\0\0\0\0\0\0\0\0\x01 \0\0\0\0\0\0\0\x01",
+        "Wi4",
+    ),
+    (
+        "a byte left behind the message",
+        b"\0\0\0\x22\x02\x01\x01\0\0\0\x01\x02\0\0\0\0\0\0\0\x01\0\0\0\0\0\0\0\0\x01a\0\0\0\0\0\0\0\x01\0",
         "Wi6",
     ),
     (
+        "an epoch",
+        b"\0\0\0\x22\x02\x01\x01\0\0\0\x01\x02\0\0\0\0\0\0\0\x01\x01\x02\x03\x04\x05\x06\x07\x08\x01a\0\0\0\0\0\0\0\x01",
+        "",
+    ),
+    (
         "answer",
-        b"\0\0\0\x22\x01\x02\x01\0\0\0\x01\x02\0\0\0\0\0\0\0\x01\x01a\0\0\0\0\0\0\0\x07\0\0\0\x02\0\0\0\0",
+        b"\0\0\0*\x02\x02\x01\0\0\0\x01\x02\0\0\0\0\0\0\0\x01\0\0\0\0\0\0\0\0\x01a\0\0\0\0\0\0\0\x07\0\0\0\x02\0\0\0\0",
         "",
     ),
     (
         "put",
-        b"\0\0\0\x1e\x01\x03\x01\0\0\0\x01\x02\0\0\0\0\0\0\0\x01\x01a\0\0\0\0\0\0\0\x07\0\0\0\0",
+        b"\0\0\0&\x02\x03\x01\0\0\0\x01\x02\0\0\0\0\0\0\0\x01\0\0\0\0\0\0\0\0\x01a\0\0\0\0\0\0\0\x07\0\0\0\0",
         "",
     ),
     (
         "acknowledgement",
-        b"\0\0\0\x1e\x01\x04\x01\0\0\0\x01\x02\0\0\0\0\0\0\0\x01\x01a\0\0\0\0\0\0\0\x07\0\0\0\x02",
+        b"\0\0\0&\x02\x04\x01\0\0\0\x01\x02\0\0\0\0\0\0\0\x01\0\0\0\0\0\0\0\0\x01a\0\0\0\0\0\0\0\x07\0\0\0\x02",
         "",
     ),
     (
         "ask",
-        b"\0\0\0\x1e\x01\x05\x01\0\0\0\x01\x02\0\0\0\0\0\0\0\x01\x01a\0\0\0\0\0\0\0\x03\0\0\0\x02",
+        b"\0\0\0\x1e\x02\x05\x01\0\0\0\x01\x02\0\0\0\0\0\0\0\x01\0\0\0\0\0\0\0\0\x01a\0\0\0\x02",
         "",
     ),
     (
+        "ask with an epoch in its body",
+        b"\0\0\0&\x02\x05\x01\0\0\0\x01\x02\0\0\0\0\0\0\0\x01\0\0\0\0\0\0\0\0\x01a\0\0\0\0\0\0\0\x03\0\0\0\x02",
+        "Wi6",
+    ),
+    (
         "state",
-        b"\0\0\0\x27\x01\x06\x01\0\0\0\x01\x02\0\0\0\0\0\0\0\x01\x01a\0\0\0\0\0\0\0\x03\0\0\0\x02\0\0\0\x40\x01\0\0\0\0",
+        b"\0\0\0'\x02\x06\x01\0\0\0\x01\x02\0\0\0\0\0\0\0\x01\0\0\0\0\0\0\0\0\x01a\0\0\0\x02\0\0\0@\x01\0\0\0\0",
         "",
     ),
     (
         "got",
-        b"\0\0\0\x22\x01\x07\x01\0\0\0\x01\x02\0\0\0\0\0\0\0\x01\x01a\0\0\0\0\0\0\0\x03\0\0\0\x02\0\0\0A",
+        b"\0\0\0\x22\x02\x07\x01\0\0\0\x01\x02\0\0\0\0\0\0\0\x01\0\0\0\0\0\0\0\0\x01a\0\0\0\x02\0\0\0A",
         "",
     ),
     (
         "a flag of 2",
-        b"\0\0\0\x27\x01\x06\x01\0\0\0\x01\x02\0\0\0\0\0\0\0\x01\x01a\0\0\0\0\0\0\0\x03\0\0\0\x02\0\0\0\x40\x02\0\0\0\0",
+        b"\0\0\0'\x02\x06\x01\0\0\0\x01\x02\0\0\0\0\0\0\0\x01\0\0\0\0\0\0\0\0\x01a\0\0\0\x02\0\0\0@\x02\0\0\0\0",
         "Wi5",
     ),
 ];
@@ -126,6 +167,24 @@ fn frame_is(alloc: Global, row: &Row) -> Result<(), Fail> {
 fn frames(rt: HostRuntime) -> Result<(), Fail> {
     for row in FRAMES {
         frame_is(rt.alloc(), row)?;
+    }
+    Ok(())
+}
+
+// The first frame: a `Get` of 38 bytes.
+fn first_frame() -> &'static [u8] {
+    match FRAMES.first() {
+        Some(row) => row.1,
+        None => b"",
+    }
+}
+
+#[test]
+fn no_beginning_is_a_frame(rt: HostRuntime) -> Result<(), Fail> {
+    let frame = first_frame();
+    equal(frame.len(), 38, "the bytes of a frame")?;
+    for (length, _) in frame.iter().enumerate() {
+        equal(code(rt.alloc(), &frame[..length]), "Wi1", "a beginning")?;
     }
     Ok(())
 }

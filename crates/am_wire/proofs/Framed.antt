@@ -4,7 +4,7 @@ use Rattle.std.proofs.lemmas.List.{drop_all, drop_at, take_all}
 use Rattle.byteorder.specs.Numbers.{length-bytes_high_first}
 use Rattle.am_wire.specs.Fields.{number_bytes}
 use Rattle.am_wire.specs.Messages.{inside, spelling}
-use Rattle.am_wire.specs.Values.{MessageValue}
+use Rattle.am_wire.specs.declared.message.Message.{Message}
 
 pub length-number_bytes : (n x : ℕ) → length (number_bytes n x) ≡ n
 unfolding number_bytes
@@ -14,17 +14,17 @@ length-number_bytes n x = length-bytes_high_first n x
 pub length-framed : (n : ℕ) (framed : List ℕ) → length (number_bytes 4 n ++ framed) ≡ 4 + length framed
 length-framed n framed = omega (arith, length-append (number_bytes 4 n) framed, length-number_bytes 4 n)
 
-pub length-spelling : (m : MessageValue) → length (spelling m) ≡ 4 + length (inside m)
+pub length-spelling : (m : Message) → length (spelling m) ≡ 4 + length (inside m)
 unfolding spelling
 length-spelling m = length-framed (length (inside m)) (inside m)
 
 -- what was written, one after the other
-pub both_written : (m : MessageValue) (none front items : List ℕ) → none ≡ [] → front ≡ none ++ number_bytes 4 0 → items ≡ front ++ inside m →
+pub both_written : (m : Message) (none front items : List ℕ) → none ≡ [] → front ≡ none ++ number_bytes 4 0 → items ≡ front ++ inside m →
     items ≡ number_bytes 4 0 ++ inside m
 both_written m none front items empty first second =
     second ∙ ap (λ (xs : List ℕ). xs ++ inside m) (first ∙ ap (λ (xs : List ℕ). xs ++ number_bytes 4 0) empty)
 
-module _ (m : MessageValue) (items : List ℕ) (written : items ≡ number_bytes 4 0 ++ inside m) where
+module _ (m : Message) (items : List ℕ) (written : items ≡ number_bytes 4 0 ++ inside m) where
   -- what was written before the length is known has the length of the spelling
   pub length-written : length items ≡ 4 + length (inside m)
   length-written = ap length written ∙ length-framed 0 (inside m)

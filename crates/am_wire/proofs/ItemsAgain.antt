@@ -11,13 +11,16 @@ use Rattle.am_match.specs.Spelling.{operator_number}
 use Rattle.am_match.proofs.NameLemmas.{all_in_name, IsAscii-all_in_name}
 use Rattle.am_item.specs.declared.entry.SentEntry.{SentEntry}
 use Rattle.am_item.specs.declared.item.Alert.{Alert}
+use Rattle.am_item.specs.declared.item.Item.{Item}
+use Rattle.am_item.specs.declared.item.Thing.{Thing}
+use Rattle.am_item.specs.declared.item.Thing.TheVariants as thing
+use Rattle.am_item.specs.declared.silence.Silence.{Silence}
 use Rattle.am_item.specs.declared.stamp.Stamp.{Stamp}
 use Rattle.am_wire.specs.declared.kinds.ThingKind.{ThingKind}
 use Rattle.am_wire.specs.declared.kinds.ThingKind.TheVariants as kind
 use Rattle.am_wire.specs.Fields.{Chain, flag_at, number_bytes, text_bytes}
 use Rattle.am_wire.specs.LabelFields.{label_sets_bytes, labels_bytes}
 use Rattle.am_wire.specs.ItemFields.{AreMatchers, IsAlert, IsEntry, IsItem, IsSilence, IsStamp, IsThing, alert_at, alert_bytes, configuration_at, configuration_bytes, entry_at, entry_bytes, item_at, item_bytes, items_at, items_bytes, kind_of_thing, matcher_at, matcher_bytes, matcher_name_at, matchers_at, matchers_bytes, operator_at, silence_at, silence_bytes, stamp_at, stamp_bytes, thing_at, thing_bytes, thing_kind_at, thing_number}
-use Rattle.am_wire.specs.Values.{ItemValue, SilenceValue, ThingValue, ConfigurationValue, SilenceThing, AlertValue, EntryValue}
 use Rattle.am_wire.proofs.FieldsAgain.{bytes_again, instance_again, length-several, moment_again, number_again, several_again, short_back, short_front, text_again}
 use Rattle.am_wire.proofs.LabelsAgain.{annotations_again, label_sets_again, set_again}
 
@@ -71,7 +74,7 @@ unfolding configuration_at configuration_bytes flag_at
 configuration_again None rest is short = refl
 configuration_again (Some text) rest is short = rw (text_again text rest is (omega (arith, short))) refl
 
-silence_again : (s : SilenceValue) (rest : List ℕ) → IsSilence s → length (silence_bytes s) < 2 ^ 32 → silence_at (silence_bytes s ++ rest) ≡ Ok (s, rest)
+silence_again : (s : Silence) (rest : List ℕ) → IsSilence s → length (silence_bytes s) < 2 ^ 32 → silence_at (silence_bytes s ++ rest) ≡ Ok (s, rest)
 unfolding silence_at silence_bytes
 silence_again s rest is short =
     let five : List ℕ = text_bytes s.comment ++ matchers_bytes s.matchers in
@@ -146,15 +149,15 @@ thing_kind_again kind.Silence rest = refl
 thing_kind_again kind.Alert rest = refl
 thing_kind_again kind.SentEntry rest = refl
 
-thing_again : (thing : ThingValue) (rest : List ℕ) → IsThing thing → length (thing_bytes thing) < 2 ^ 32 →
-    thing_at (kind_of_thing thing) (thing_bytes thing ++ rest) ≡ Ok (thing, rest)
+thing_again : (x : Thing) (rest : List ℕ) → IsThing x → length (thing_bytes x) < 2 ^ 32 →
+    thing_at (kind_of_thing x) (thing_bytes x ++ rest) ≡ Ok (x, rest)
 unfolding thing_at
-thing_again (ConfigurationValue text) rest is short = rw (configuration_again text rest is short) refl
-thing_again (SilenceThing silence) rest is short = rw (silence_again silence rest is short) refl
-thing_again (AlertValue alert) rest is short = rw (alert_again alert rest is short) refl
-thing_again (EntryValue entry) rest is short = rw (entry_again entry rest is short) refl
+thing_again (thing.Configuration text) rest is short = rw (configuration_again text rest is short) refl
+thing_again (thing.Silence silence) rest is short = rw (silence_again silence rest is short) refl
+thing_again (thing.Alert alert) rest is short = rw (alert_again alert rest is short) refl
+thing_again (thing.SentEntry entry) rest is short = rw (entry_again entry rest is short) refl
 
-item_again : (item : ItemValue) (rest : List ℕ) → IsItem item → length (item_bytes item) < 2 ^ 32 → item_at (item_bytes item ++ rest) ≡ Ok (item, rest)
+item_again : (item : Item) (rest : List ℕ) → IsItem item → length (item_bytes item) < 2 ^ 32 → item_at (item_bytes item ++ rest) ≡ Ok (item, rest)
 unfolding item_at item_bytes
 item_again item rest is short =
     let behind : length (stamp_bytes item.stamp ++ thing_bytes item.thing) < 2 ^ 32 = omega (arith, short) in
@@ -165,11 +168,11 @@ item_again item rest is short =
       thing_again item.thing rest is.thing (short_back (stamp_bytes item.stamp) (thing_bytes item.thing) behind),
     ) refl
 
-some_item : (item : ItemValue) → 1 ≤ length (item_bytes item)
+some_item : (item : Item) → 1 ≤ length (item_bytes item)
 unfolding item_bytes
 some_item item = omega arith
 
-pub items_again : (items : List ItemValue) (rest : List ℕ) → All IsItem items → length (items_bytes items) < 2 ^ 32 →
+pub items_again : (items : List Item) (rest : List ℕ) → All IsItem items → length (items_bytes items) < 2 ^ 32 →
     items_at (items_bytes items ++ rest) ≡ Ok (items, rest)
 unfolding items_at items_bytes
 items_again items rest all short =

@@ -4,6 +4,7 @@ pub mod Rising
 pub mod Written
 pub mod Tenants
 pub mod Framed
+pub mod Counted
 pub mod FieldsAgain
 pub mod LabelsAgain
 pub mod ItemsAgain

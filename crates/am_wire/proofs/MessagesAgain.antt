@@ -11,8 +11,11 @@ use Rattle.am_wire.specs.declared.kinds.BodyKind.TheVariants as kind
 use Rattle.am_wire.specs.declared.refusal.WireRefusal.TheVariants.{BytesLeft, CutShort, FieldPastEnd}
 use Rattle.am_wire.specs.Fields.{Reading, bytes_at, flag_bytes, number_at, number_bytes}
 use Rattle.am_wire.specs.ItemFields.{items_bytes}
-use Rattle.am_wire.specs.Messages.{IsBody, IsMessage, Spells, ack_at, answer_at, ask_at, body_at, body_bytes, body_kind_at, body_number, frame_at, get_at, got_at, inside, kind_of_body, message_at, message_of, put_at, spelling, state_at, tenant_at, version_at}
-use Rattle.am_wire.specs.Values.{ItemValue, BodyValue, MessageValue, GetValue, AnswerValue, PutValue, AckValue, AskValue, StateValue, GotValue}
+use Rattle.am_wire.specs.Messages.{IsBody, IsMessage, Spells, ack_at, answer_at, ask_at, body_at, body_bytes, body_kind_at, body_number, frame_at, get_at, got_at, inside, kind_of_body, message_at, message_of, message_version, put_at, spelling, state_at, tenant_at, version_at}
+use Rattle.am_item.specs.declared.item.Item.{Item}
+use Rattle.am_wire.specs.declared.message.Body.{Body}
+use Rattle.am_wire.specs.declared.message.Body.TheVariants.{Get, Answer, Put, Ack, Ask, State, Got}
+use Rattle.am_wire.specs.declared.message.Message.{Message}
 use Rattle.am_wire.proofs.FieldsAgain.{bytes_again, flag_again, instance_again, number_again, short_back}
 use Rattle.am_wire.proofs.Framed.{length-number_bytes}
 use Rattle.am_wire.proofs.ItemsAgain.{items_again}
@@ -31,9 +34,9 @@ body_kind_again kind.Ask rest = refl
 body_kind_again kind.State rest = refl
 body_kind_again kind.Got rest = refl
 
-answer_again : (operation incarnation : ℕ) (items : List ItemValue) (rest : List ℕ) → IsBody (AnswerValue operation incarnation items) →
-    length (body_bytes (AnswerValue operation incarnation items)) < 2 ^ 32 →
-    answer_at (body_bytes (AnswerValue operation incarnation items) ++ rest) ≡ Ok (AnswerValue operation incarnation items, rest)
+answer_again : (operation incarnation : ℕ) (items : List Item) (rest : List ℕ) → IsBody (Answer operation incarnation items) →
+    length (body_bytes (Answer operation incarnation items)) < 2 ^ 32 →
+    answer_at (body_bytes (Answer operation incarnation items) ++ rest) ≡ Ok (Answer operation incarnation items, rest)
 unfolding answer_at body_bytes
 answer_again operation incarnation items rest is short =
     let short_items = short_back (number_bytes 4 incarnation) (items_bytes items) (short_back (number_bytes 8 operation) (number_bytes 4 incarnation ++ items_bytes items) short) in
@@ -46,9 +49,9 @@ answer_again operation incarnation items rest is short =
       items_again items rest is.2 short_items,
     ) refl
 
-put_again : (operation : ℕ) (items : List ItemValue) (rest : List ℕ) → IsBody (PutValue operation items) →
-    length (body_bytes (PutValue operation items)) < 2 ^ 32 →
-    put_at (body_bytes (PutValue operation items) ++ rest) ≡ Ok (PutValue operation items, rest)
+put_again : (operation : ℕ) (items : List Item) (rest : List ℕ) → IsBody (Put operation items) →
+    length (body_bytes (Put operation items)) < 2 ^ 32 →
+    put_at (body_bytes (Put operation items) ++ rest) ≡ Ok (Put operation items, rest)
 unfolding put_at body_bytes
 put_again operation items rest is short =
     ap put_at (append_assoc (number_bytes 8 operation) (items_bytes items) rest)
@@ -57,65 +60,56 @@ put_again operation items rest is short =
       items_again items rest is.1 (short_back (number_bytes 8 operation) (items_bytes items) short),
     ) refl
 
-state_again : (epoch incarnation place : ℕ) (is_last : Bool) (items : List ItemValue) (rest : List ℕ) → IsBody (StateValue epoch incarnation place is_last items) →
-    length (body_bytes (StateValue epoch incarnation place is_last items)) < 2 ^ 32 →
-    state_at (body_bytes (StateValue epoch incarnation place is_last items) ++ rest) ≡ Ok (StateValue epoch incarnation place is_last items, rest)
+state_again : (incarnation place : ℕ) (is_last : Bool) (items : List Item) (rest : List ℕ) → IsBody (State incarnation place is_last items) →
+    length (body_bytes (State incarnation place is_last items)) < 2 ^ 32 →
+    state_at (body_bytes (State incarnation place is_last items) ++ rest) ≡ Ok (State incarnation place is_last items, rest)
 unfolding state_at body_bytes
-state_again epoch incarnation place is_last items rest is short =
+state_again incarnation place is_last items rest is short =
     let three : List ℕ = flag_bytes is_last ++ items_bytes items in
     let two : List ℕ = number_bytes 4 place ++ three in
     let short_items = short_back (flag_bytes is_last) (items_bytes items) (short_back (number_bytes 4 place) three
-    (short_back (number_bytes 4 incarnation) two (short_back (number_bytes 8 epoch) (number_bytes 4 incarnation ++ two) short))) in
+    (short_back (number_bytes 4 incarnation) two short)) in
     let last : List ℕ = items_bytes items ++ rest in
-    let regrouped : (number_bytes 8 epoch ++ (number_bytes 4 incarnation ++ two)) ++ rest ≡
-    number_bytes 8 epoch ++ (number_bytes 4 incarnation ++ (number_bytes 4 place ++ (flag_bytes is_last ++ last))) = simp append_assoc in
+    let regrouped : (number_bytes 4 incarnation ++ two) ++ rest ≡
+    number_bytes 4 incarnation ++ (number_bytes 4 place ++ (flag_bytes is_last ++ last)) = simp append_assoc in
     ap state_at regrouped
     ∙ rw (
-      number_again 8 epoch (number_bytes 4 incarnation ++ (number_bytes 4 place ++ (flag_bytes is_last ++ last))) is.0,
-      number_again 4 incarnation (number_bytes 4 place ++ (flag_bytes is_last ++ last)) is.1,
-      number_again 4 place (flag_bytes is_last ++ last) is.2,
+      number_again 4 incarnation (number_bytes 4 place ++ (flag_bytes is_last ++ last)) is.0,
+      number_again 4 place (flag_bytes is_last ++ last) is.1,
       flag_again is_last last,
-      items_again items rest is.3 short_items,
+      items_again items rest is.2 short_items,
     ) refl
 
-body_again : (body : BodyValue) (rest : List ℕ) → IsBody body → length (body_bytes body) < 2 ^ 32 →
+body_again : (body : Body) (rest : List ℕ) → IsBody body → length (body_bytes body) < 2 ^ 32 →
     body_at (kind_of_body body) (body_bytes body ++ rest) ≡ Ok (body, rest)
 unfolding body_at body_bytes get_at ack_at ask_at got_at
-body_again (GetValue operation) rest is short = rw (number_again 8 operation rest is) refl
-body_again (AnswerValue operation incarnation items) rest is short = answer_again operation incarnation items rest is short
-body_again (PutValue operation items) rest is short = put_again operation items rest is short
-body_again (AckValue operation incarnation) rest is short =
+body_again (Get operation) rest is short = rw (number_again 8 operation rest is) refl
+body_again (Answer operation incarnation items) rest is short = answer_again operation incarnation items rest is short
+body_again (Put operation items) rest is short = put_again operation items rest is short
+body_again (Ack operation incarnation) rest is short =
     ap ack_at (append_assoc (number_bytes 8 operation) (number_bytes 4 incarnation) rest)
     ∙ rw (number_again 8 operation (number_bytes 4 incarnation ++ rest) is.0, number_again 4 incarnation rest is.1) refl
-body_again (AskValue epoch incarnation) rest is short =
-    ap ask_at (append_assoc (number_bytes 8 epoch) (number_bytes 4 incarnation) rest)
-    ∙ rw (number_again 8 epoch (number_bytes 4 incarnation ++ rest) is.0, number_again 4 incarnation rest is.1) refl
-body_again (StateValue epoch incarnation place is_last items) rest is short =
-    state_again epoch incarnation place is_last items rest is short
-body_again (GotValue epoch incarnation place) rest is short =
-    let regrouped : (number_bytes 8 epoch ++ (number_bytes 4 incarnation ++ number_bytes 4 place)) ++ rest ≡
-    number_bytes 8 epoch ++ (number_bytes 4 incarnation ++ (number_bytes 4 place ++ rest)) = simp append_assoc in
-    ap got_at regrouped
-    ∙ rw (
-      number_again 8 epoch (number_bytes 4 incarnation ++ (number_bytes 4 place ++ rest)) is.0,
-      number_again 4 incarnation (number_bytes 4 place ++ rest) is.1,
-      number_again 4 place rest is.2,
-    ) refl
+body_again (Ask incarnation) rest is short = rw (number_again 4 incarnation rest is) refl
+body_again (State incarnation place is_last items) rest is short = state_again incarnation place is_last items rest is short
+body_again (Got incarnation place) rest is short =
+    ap got_at (append_assoc (number_bytes 4 incarnation) (number_bytes 4 place) rest)
+    ∙ rw (number_again 4 incarnation (number_bytes 4 place ++ rest) is.0, number_again 4 place rest is.1) refl
 
-version_again : (rest : List ℕ) → version_at (1 ∷ rest) ≡ Ok (1, rest)
+version_again : (rest : List ℕ) → version_at (message_version ∷ rest) ≡ Ok (message_version, rest)
 unfolding version_at
 version_again rest = refl
 
-message_again : (m : MessageValue) → IsMessage m → length (inside m) < 2 ^ 32 → message_at (inside m) ≡ Ok (m, [])
+message_again : (m : Message) → IsMessage m → length (inside m) < 2 ^ 32 → message_at (inside m) ≡ Ok (m, [])
 unfolding message_at inside
 message_again m is short =
     let body : List ℕ = body_bytes m.body in
     let named : List ℕ = length m.tenant ∷ (m.tenant ++ body) in
-    let counted : List ℕ = number_bytes 8 m.count ++ named in
+    let dated : List ℕ = number_bytes 8 m.epoch ++ named in
+    let counted : List ℕ = number_bytes 8 m.count ++ dated in
     let one : length (number_bytes 4 m.incarnation ++ m.to ∷ counted) < 2 ^ 32 = omega (arith, short) in
     let two = short_back (number_bytes 4 m.incarnation) (m.to ∷ counted) one in
     let three : length counted < 2 ^ 32 = omega (arith, two) in
-    let four = short_back (number_bytes 8 m.count) named three in
+    let four = short_back (number_bytes 8 m.epoch) named (short_back (number_bytes 8 m.count) dated three) in
     let five : length (m.tenant ++ body) < 2 ^ 32 = omega (arith, four) in
     let whole : body_at (kind_of_body m.body) body ≡ Ok (m.body, []) =
     ap (body_at (kind_of_body m.body)) (sym (append-nil body)) ∙ body_again m.body [] is.body (short_back m.tenant body five) in
@@ -125,19 +119,20 @@ message_again m is short =
       instance_again m.from (number_bytes 4 m.incarnation ++ m.to ∷ counted) is.from,
       number_again 4 m.incarnation (m.to ∷ counted) is.incarnation,
       instance_again m.to counted is.to,
-      number_again 8 m.count named is.count,
+      number_again 8 m.count dated is.count,
+      number_again 8 m.epoch named is.epoch,
       tenant_again m.tenant body is.tenant,
       whole,
     ) refl
 
 -- the stated length finds the message, whatever follows
-frame_again : (m : MessageValue) (rest : List ℕ) → length (inside m) < 2 ^ 32 → frame_at (spelling m ++ rest) ≡ Ok (inside m, rest)
+frame_again : (m : Message) (rest : List ℕ) → length (inside m) < 2 ^ 32 → frame_at (spelling m ++ rest) ≡ Ok (inside m, rest)
 unfolding frame_at spelling
 frame_again m rest short =
     ap frame_at (append_assoc (number_bytes 4 (length (inside m))) (inside m) rest)
     ∙ rw (number_again 4 (length (inside m)) (inside m ++ rest) short, bytes_again (length (inside m)) (inside m) rest refl) refl
 
-pub message_of_spelling : (m : MessageValue) → IsMessage m → length (inside m) < 2 ^ 32 → message_of (spelling m) ≡ Ok m
+pub message_of_spelling : (m : Message) → IsMessage m → length (inside m) < 2 ^ 32 → message_of (spelling m) ≡ Ok m
 unfolding message_of
 message_of_spelling m is short =
     let framed : frame_at (spelling m) ≡ Ok (inside m, []) = ap frame_at (sym (append-nil (spelling m))) ∙ frame_again m [] short in
@@ -151,7 +146,7 @@ bytes_cut n bytes short = elim (leb_tells n (length bytes)) [
   | inr past ↦ rw past.0 refl
 ]
 
-frame_cut : (m : MessageValue) (k : ℕ) → length (inside m) < 2 ^ 32 → k < length (spelling m) → frame_at (take k (spelling m)) ≡ Err CutShort
+frame_cut : (m : Message) (k : ℕ) → length (inside m) < 2 ^ 32 → k < length (spelling m) → frame_at (take k (spelling m)) ≡ Err CutShort
 unfolding frame_at spelling number_at
 frame_cut m k short lt = elim (cases_lt k 4) [
   | inl few ↦
@@ -167,10 +162,10 @@ frame_cut m k short lt = elim (cases_lt k 4) [
       ap frame_at parted ∙ rw (number_again 4 n (take (k - 4) (inside m)) short, bytes_cut n (take (k - 4) (inside m)) past) refl
 ]
 
-pub spelling_read : (m : MessageValue) (bytes : List ℕ) → Spells bytes m → message_of bytes ≡ Ok m
+pub spelling_read : (m : Message) (bytes : List ℕ) → Spells bytes m → message_of bytes ≡ Ok m
 spelling_read m bytes spells = ap message_of spells.bytes_are ∙ message_of_spelling m spells.valid spells.short
 
-pub spelling_cut : (m : MessageValue) (bytes : List ℕ) (k : ℕ) → Spells bytes m → k < length bytes → message_of (take k bytes) ≡ Err CutShort
+pub spelling_cut : (m : Message) (bytes : List ℕ) (k : ℕ) → Spells bytes m → k < length bytes → message_of (take k bytes) ≡ Err CutShort
 unfolding message_of
 spelling_cut m bytes k spells lt =
     ap (λ (xs : List ℕ). message_of (take k xs)) spells.bytes_are
@@ -180,7 +175,7 @@ spelling_cut m bytes k spells lt =
 some_length : (n : ℕ) → (suc n == 0) ≡ false
 some_length n = ⊎_elim (λ same. absurd (omega (arith, same.1))) (λ apart. apart.0) (eqb_tells (suc n) 0)
 
-pub spelling_more : (m : MessageValue) (bytes behind : List ℕ) (byte : ℕ) → Spells bytes m → message_of (bytes ++ byte ∷ behind) ≡ Err BytesLeft
+pub spelling_more : (m : Message) (bytes behind : List ℕ) (byte : ℕ) → Spells bytes m → message_of (bytes ++ byte ∷ behind) ≡ Err BytesLeft
 unfolding message_of
 spelling_more m bytes behind byte spells =
     ap (λ (xs : List ℕ). message_of (xs ++ byte ∷ behind)) spells.bytes_are
@@ -196,7 +191,7 @@ done_first {A} x y xs ys e =
     let pair : p ≡ q = cc in
     (ap (λ (r : A × List ℕ). r.0) pair, ap (λ (r : A × List ℕ). r.1) pair)
 
-pub spellings_apart : (m k : MessageValue) (a b x y : List ℕ) → Spells a m → Spells b k → a ++ x ≡ b ++ y → (m ≡ k) × (a ≡ b) × (x ≡ y)
+pub spellings_apart : (m k : Message) (a b x y : List ℕ) → Spells a m → Spells b k → a ++ x ≡ b ++ y → (m ≡ k) × (a ≡ b) × (x ≡ y)
 spellings_apart m k a b x y first second e =
     let whole : spelling m ++ x ≡ spelling k ++ y =
     ap (λ (xs : List ℕ). xs ++ x) (sym first.bytes_are) ∙ e ∙ ap (λ (xs : List ℕ). xs ++ y) second.bytes_are in

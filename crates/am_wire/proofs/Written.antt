@@ -1,14 +1,12 @@
 -- Things that are written one after another.
 use Rattle.std.proofs.Common.{◌≡◌, ℕ, ◌<◌, All, length, get_or, subst, List, [], ◌∷◌, ◌++◌, sym, ap, ◌∙◌, append_assoc, append-nil}
 use Rattle.std.specs.List.{flat_map}
-use Rattle.std.proofs.lemmas.List.{get_or-map, length-map}
 use Rattle.am_text.specs.declared.failure.Failure.{Failure}
 use Rattle.am_text.specs.declared.failure.Failure.TheVariants.{Refused, OutOfMemory}
 use Rattle.am_item.specs.declared.item.Item.{Item}
 use Rattle.am_wire.specs.declared.refusal.EncodeRefusal.{EncodeRefusal}
 use Rattle.am_wire.specs.ItemFields.{IsItem}
 use Rattle.am_wire.specs.Refusals.{IsBadBy}
-use Rattle.am_wire.specs.Values.{item_value, item_values}
 use Rattle.std.proofs.lemmas.Grind.{flat_map-append}
 
 -- one more was written
@@ -21,7 +19,7 @@ written_more bytes_of start before after xs x so_far here =
 
 -- a reason for which no list of these is right
 pub bad_among : (failure : Failure EncodeRefusal) (items : List Item) (i : ℕ) (item : Item) → i < length items → item ≡ get_or items i item →
-    IsBadBy (¬ IsItem (item_value item)) failure → IsBadBy (¬ All IsItem (item_values items)) failure
+    IsBadBy (¬ IsItem item) failure → IsBadBy (¬ All IsItem items) failure
 bad_among OutOfMemory items i item lt at bad = tt
 bad_among (Refused refusal) items i item lt at bad =
-    (bad.0, λ all. bad.1 (subst IsItem (get_or-map item_value items i item (item_value item) lt ∙ ap item_value (sym at)) (all i (item_value item) (rw length-map lt))))
+    (bad.0, λ all. bad.1 (subst IsItem (sym at) (all i item lt)))

@@ -11,13 +11,16 @@ use Rattle.am_match.specs.Spelling.{operator_number}
 use Rattle.am_ring.specs.Instances.{is_instance}
 use Rattle.am_item.specs.declared.entry.SentEntry.{SentEntry}
 use Rattle.am_item.specs.declared.item.Alert.{Alert}
+use Rattle.am_item.specs.declared.item.Item.{Item}
+use Rattle.am_item.specs.declared.item.Thing.{Thing}
+use Rattle.am_item.specs.declared.item.Thing.TheVariants as thing
+use Rattle.am_item.specs.declared.silence.Silence.{Silence}
 use Rattle.am_item.specs.declared.stamp.Stamp.{Stamp}
 use Rattle.am_wire.specs.declared.kinds.ThingKind.{ThingKind}
 use Rattle.am_wire.specs.declared.kinds.ThingKind.TheVariants as kind
 use Rattle.am_wire.specs.declared.refusal.WireRefusal.TheVariants.{BadValue}
 use Rattle.am_wire.specs.Fields.{Reading, byte_at, bytes_at, flag_at, instance_at, moment_at, number_at, number_bytes, several, text_at, text_bytes}
 use Rattle.am_wire.specs.LabelFields.{AreSetFields, IsAnnotationsField, IsSetField, label_sets_at, label_sets_bytes, labels_at, labels_bytes}
-use Rattle.am_wire.specs.Values.{ItemValue, SilenceValue, ThingValue, ConfigurationValue, SilenceThing, AlertValue, EntryValue}
 
 -- ---- as they are spelled
 
@@ -38,7 +41,7 @@ unfoldable pub configuration_bytes : Option (List ℕ) → List ℕ
 configuration_bytes None = 0 ∷ []
 configuration_bytes (Some text) = 1 ∷ text_bytes text
 
-unfoldable pub silence_bytes : SilenceValue → List ℕ
+unfoldable pub silence_bytes : Silence → List ℕ
 silence_bytes s =
     s.id ++ (number_bytes 8 s.starts_at ++ (number_bytes 8 s.ends_at ++ (number_bytes 8 s.kept_until
     ++ (text_bytes s.created_by ++ (text_bytes s.comment ++ matchers_bytes s.matchers)))))
@@ -54,11 +57,11 @@ entry_bytes e =
     ++ (label_sets_bytes e.firing ++ label_sets_bytes e.resolved)))
 
 -- a thing, whose kind is known
-abbrev pub thing_bytes : ThingValue → List ℕ
-thing_bytes (ConfigurationValue text) = configuration_bytes text
-thing_bytes (SilenceThing silence) = silence_bytes silence
-thing_bytes (AlertValue alert) = alert_bytes alert
-thing_bytes (EntryValue entry) = entry_bytes entry
+abbrev pub thing_bytes : Thing → List ℕ
+thing_bytes (thing.Configuration text) = configuration_bytes text
+thing_bytes (thing.Silence silence) = silence_bytes silence
+thing_bytes (thing.Alert alert) = alert_bytes alert
+thing_bytes (thing.SentEntry entry) = entry_bytes entry
 
 -- the number of a kind
 abbrev pub thing_number : ThingKind → ℕ
@@ -67,18 +70,18 @@ thing_number kind.Silence = 2
 thing_number kind.Alert = 3
 thing_number kind.SentEntry = 4
 
-abbrev pub kind_of_thing : ThingValue → ThingKind
-kind_of_thing (ConfigurationValue text) = kind.Configuration
-kind_of_thing (SilenceThing silence) = kind.Silence
-kind_of_thing (AlertValue alert) = kind.Alert
-kind_of_thing (EntryValue entry) = kind.SentEntry
+abbrev pub kind_of_thing : Thing → ThingKind
+kind_of_thing (thing.Configuration text) = kind.Configuration
+kind_of_thing (thing.Silence silence) = kind.Silence
+kind_of_thing (thing.Alert alert) = kind.Alert
+kind_of_thing (thing.SentEntry entry) = kind.SentEntry
 
 -- the kind, the stamp and the thing
-unfoldable pub item_bytes : ItemValue → List ℕ
+unfoldable pub item_bytes : Item → List ℕ
 item_bytes item = thing_number (kind_of_thing item.thing) ∷ (stamp_bytes item.stamp ++ thing_bytes item.thing)
 
 -- items behind their number
-unfoldable pub items_bytes : List ItemValue → List ℕ
+unfoldable pub items_bytes : List Item → List ℕ
 items_bytes items = number_bytes 4 (length items) ++ flat_map item_bytes items
 
 -- ---- which may be
@@ -95,7 +98,7 @@ pub record AreMatchers (ms : List MatcherText) : Type 0 where
   pub each : All IsMatcher ms
   pub few : length ms < 2 ^ 16
 
-pub record IsSilence (s : SilenceValue) : Type 0 where
+pub record IsSilence (s : Silence) : Type 0 where
   pub id : length s.id ≡ 16
   pub starts_at : s.starts_at ≤ greatest_moment
   pub ends_at : s.ends_at ≤ greatest_moment
@@ -119,13 +122,13 @@ pub record IsEntry (e : SentEntry) : Type 0 where
   pub firing : AreSetFields e.firing
   pub resolved : AreSetFields e.resolved
 
-abbrev pub IsThing : ThingValue → Type 0
-IsThing (ConfigurationValue text) = IfSome text IsUtf8
-IsThing (SilenceThing silence) = IsSilence silence
-IsThing (AlertValue alert) = IsAlert alert
-IsThing (EntryValue entry) = IsEntry entry
+abbrev pub IsThing : Thing → Type 0
+IsThing (thing.Configuration text) = IfSome text IsUtf8
+IsThing (thing.Silence silence) = IsSilence silence
+IsThing (thing.Alert alert) = IsAlert alert
+IsThing (thing.SentEntry entry) = IsEntry entry
 
-pub record IsItem (item : ItemValue) : Type 0 where
+pub record IsItem (item : Item) : Type 0 where
   pub stamp : IsStamp item.stamp
   pub thing : IsThing item.thing
 
@@ -170,7 +173,7 @@ configuration_at bytes = do
   (is_present, behind) ← flag_at bytes
   if is_present then (text_at behind >>= λ read. Ok (Some read.0, read.1)) else Ok (None, behind)
 
-unfoldable pub silence_at : List ℕ → Reading SilenceValue
+unfoldable pub silence_at : List ℕ → Reading Silence
 silence_at bytes = do
   (id, after_id) ← bytes_at 16 bytes
   (starts_at, after_start) ← moment_at after_id
@@ -239,28 +242,28 @@ thing_kind_at bytes = do
       else (if byte == 4 then Ok (kind.SentEntry, rest) else Err BadValue)))
 
 -- a thing of this kind
-unfoldable pub thing_at : ThingKind → List ℕ → Reading ThingValue
+unfoldable pub thing_at : ThingKind → List ℕ → Reading Thing
 thing_at kind.Configuration bytes = do
   (text, rest) ← configuration_at bytes
-  Ok (ConfigurationValue text, rest)
+  Ok (thing.Configuration text, rest)
 thing_at kind.Silence bytes = do
   (silence, rest) ← silence_at bytes
-  Ok (SilenceThing silence, rest)
+  Ok (thing.Silence silence, rest)
 thing_at kind.Alert bytes = do
   (alert, rest) ← alert_at bytes
-  Ok (AlertValue alert, rest)
+  Ok (thing.Alert alert, rest)
 thing_at kind.SentEntry bytes = do
   (entry, rest) ← entry_at bytes
-  Ok (EntryValue entry, rest)
+  Ok (thing.SentEntry entry, rest)
 
-unfoldable pub item_at : List ℕ → Reading ItemValue
+unfoldable pub item_at : List ℕ → Reading Item
 item_at bytes = do
   (its_kind, after_kind) ← thing_kind_at bytes
   (stamp, behind) ← stamp_at after_kind
-  (thing, rest) ← thing_at its_kind behind
-  Ok (record { stamp = stamp; thing = thing }, rest)
+  (what, rest) ← thing_at its_kind behind
+  Ok (record { stamp = stamp; thing = what }, rest)
 
-unfoldable pub items_at : List ℕ → Reading (List ItemValue)
+unfoldable pub items_at : List ℕ → Reading (List Item)
 items_at bytes = do
   (n, behind) ← number_at 4 bytes
   several (λ before. item_at) n None behind

@@ -2,8 +2,6 @@
 pub mod Refusals
 -- lists of bytes
 pub mod Bytes
--- what clauses see of items and messages
-pub mod Values
 -- numbers and texts, and things one after another
 pub mod Fields
 -- labels, and sets of label sets
@@ -12,3 +10,5 @@ pub mod LabelFields
 pub mod ItemFields
 -- messages
 pub mod Messages
+-- lengths
+pub mod Lengths

@@ -4,10 +4,10 @@ ghost use Rattle.std.specs.Prelude.{◌≡◌, ◌<◌, ◌^◌, ◌++◌, ◌�
 ghost use Rattle.am_tenant.specs.Names.{is_tenant_name};
 ghost use Rattle.am_text.specs.Outcome.{Gives};
 ghost use Rattle.am_wire.specs.Fields.{number_bytes};
-ghost use Rattle.am_wire.specs.Messages.{IsBody, IsMessage, Spells, ack_at, answer_at, ask_at, body_at, body_bytes, body_kind_at, body_number, frame_at, get_at, got_at, inside, kind_of_body, message_at, message_of, put_at, state_at, tenant_at, version_at};
-ghost use Rattle.am_wire.specs.Values.{MessageValue, body_value, message_value};
+ghost use Rattle.am_wire.specs.Messages.{IsBody, IsMessage, Spells, ack_at, answer_at, ask_at, body_at, body_bytes, body_kind_at, body_number, frame_at, get_at, got_at, inside, kind_of_body, message_at, message_of, message_version, put_at, state_at, tenant_at, version_at};
+ghost use Rattle.am_wire.specs.declared.message.Message.{Message};
 
-use crate::kinds::BodyKind;
+use crate::kinds::{BodyKind, VERSION};
 use crate::message::{Body, Message};
 use crate::reader::Reader;
 use crate::refusal::WireRefusal;
@@ -19,10 +19,10 @@ impl<'a> Reader<'a> {
     #[tactic(auto, unfolding(crate::specs::Messages::version_at))]
     fn version(&mut self) -> Result<u8, Failure<WireRefusal>>
         ensures read { Gives (λ version. (version, self.new)) result (version_at self.old) }
-        ensures found { IfOk result (λ version. self.old ≡ 1 ∷ self.new) }
+        ensures found { IfOk result (λ _. self.old ≡ message_version ∷ self.new) }
     {
         match self.byte()? {
-            1 => Ok(1),
+            VERSION => Ok(VERSION),
             _ => Err(Failure::Refused(WireRefusal::UnknownKind)),
         }
     }
@@ -60,10 +60,10 @@ impl<'a> Reader<'a> {
 
     #[tactic(auto, unfolding(crate::specs::Messages::get_at, crate::specs::Messages::body_bytes))]
     fn get(&mut self) -> Result<Body, Failure<WireRefusal>>
-        ensures read { Gives (λ body. (body_value body, self.new)) result (get_at self.old) }
-        ensures kind { IfOk result (λ body. kind_of_body (body_value body) ≡ BodyKind.Get) }
-        ensures found { IfOk result (λ body. self.old ≡ body_bytes (body_value body) ++ self.new) }
-        ensures valid { IfOk result (λ body. IsBody (body_value body)) }
+        ensures read { Gives (λ body. (body, self.new)) result (get_at self.old) }
+        ensures kind { IfOk result (λ body. kind_of_body body ≡ BodyKind.Get) }
+        ensures found { IfOk result (λ body. self.old ≡ body_bytes body ++ self.new) }
+        ensures valid { IfOk result (λ body. IsBody body) }
     {
         let operation = self.u64()?;
         Ok(Body::Get { operation })
@@ -71,14 +71,14 @@ impl<'a> Reader<'a> {
 
     #[tactic(auto, unfolding(crate::specs::Messages::answer_at, crate::specs::Messages::body_bytes))]
     fn answer(&mut self, alloc: Global) -> Result<Body, Failure<WireRefusal>>
-        ensures read { Gives (λ body. (body_value body, self.new)) result (answer_at self.old) }
-        ensures kind { IfOk result (λ body. kind_of_body (body_value body) ≡ BodyKind.Answer) }
-        ensures found { IfOk result (λ body. self.old ≡ body_bytes (body_value body) ++ self.new) }
-        ensures valid { IfOk result (λ body. IsBody (body_value body)) }
+        ensures read { Gives (λ body. (body, self.new)) result (answer_at self.old) }
+        ensures kind { IfOk result (λ body. kind_of_body body ≡ BodyKind.Answer) }
+        ensures found { IfOk result (λ body. self.old ≡ body_bytes body ++ self.new) }
+        ensures valid { IfOk result (λ body. IsBody body) }
     {
         let operation = self.u64()?;
         let incarnation = self.u32()?;
-        let items = self.items(alloc)?;
+        let items = self.shared_items(alloc)?;
         Ok(Body::Answer {
             operation,
             incarnation,
@@ -88,22 +88,22 @@ impl<'a> Reader<'a> {
 
     #[tactic(auto, unfolding(crate::specs::Messages::put_at, crate::specs::Messages::body_bytes))]
     fn put(&mut self, alloc: Global) -> Result<Body, Failure<WireRefusal>>
-        ensures read { Gives (λ body. (body_value body, self.new)) result (put_at self.old) }
-        ensures kind { IfOk result (λ body. kind_of_body (body_value body) ≡ BodyKind.Put) }
-        ensures found { IfOk result (λ body. self.old ≡ body_bytes (body_value body) ++ self.new) }
-        ensures valid { IfOk result (λ body. IsBody (body_value body)) }
+        ensures read { Gives (λ body. (body, self.new)) result (put_at self.old) }
+        ensures kind { IfOk result (λ body. kind_of_body body ≡ BodyKind.Put) }
+        ensures found { IfOk result (λ body. self.old ≡ body_bytes body ++ self.new) }
+        ensures valid { IfOk result (λ body. IsBody body) }
     {
         let operation = self.u64()?;
-        let items = self.items(alloc)?;
+        let items = self.shared_items(alloc)?;
         Ok(Body::Put { operation, items })
     }
 
     #[tactic(auto, unfolding(crate::specs::Messages::ack_at, crate::specs::Messages::body_bytes))]
     fn ack(&mut self) -> Result<Body, Failure<WireRefusal>>
-        ensures read { Gives (λ body. (body_value body, self.new)) result (ack_at self.old) }
-        ensures kind { IfOk result (λ body. kind_of_body (body_value body) ≡ BodyKind.Ack) }
-        ensures found { IfOk result (λ body. self.old ≡ body_bytes (body_value body) ++ self.new) }
-        ensures valid { IfOk result (λ body. IsBody (body_value body)) }
+        ensures read { Gives (λ body. (body, self.new)) result (ack_at self.old) }
+        ensures kind { IfOk result (λ body. kind_of_body body ≡ BodyKind.Ack) }
+        ensures found { IfOk result (λ body. self.old ≡ body_bytes body ++ self.new) }
+        ensures valid { IfOk result (λ body. IsBody body) }
     {
         let operation = self.u64()?;
         let incarnation = self.u32()?;
@@ -115,30 +115,27 @@ impl<'a> Reader<'a> {
 
     #[tactic(auto, unfolding(crate::specs::Messages::ask_at, crate::specs::Messages::body_bytes))]
     fn ask(&mut self) -> Result<Body, Failure<WireRefusal>>
-        ensures read { Gives (λ body. (body_value body, self.new)) result (ask_at self.old) }
-        ensures kind { IfOk result (λ body. kind_of_body (body_value body) ≡ BodyKind.Ask) }
-        ensures found { IfOk result (λ body. self.old ≡ body_bytes (body_value body) ++ self.new) }
-        ensures valid { IfOk result (λ body. IsBody (body_value body)) }
+        ensures read { Gives (λ body. (body, self.new)) result (ask_at self.old) }
+        ensures kind { IfOk result (λ body. kind_of_body body ≡ BodyKind.Ask) }
+        ensures found { IfOk result (λ body. self.old ≡ body_bytes body ++ self.new) }
+        ensures valid { IfOk result (λ body. IsBody body) }
     {
-        let epoch = self.u64()?;
         let incarnation = self.u32()?;
-        Ok(Body::Ask { epoch, incarnation })
+        Ok(Body::Ask { incarnation })
     }
 
     #[tactic(auto, unfolding(crate::specs::Messages::state_at, crate::specs::Messages::body_bytes))]
     fn state(&mut self, alloc: Global) -> Result<Body, Failure<WireRefusal>>
-        ensures read { Gives (λ body. (body_value body, self.new)) result (state_at self.old) }
-        ensures kind { IfOk result (λ body. kind_of_body (body_value body) ≡ BodyKind.State) }
-        ensures found { IfOk result (λ body. self.old ≡ body_bytes (body_value body) ++ self.new) }
-        ensures valid { IfOk result (λ body. IsBody (body_value body)) }
+        ensures read { Gives (λ body. (body, self.new)) result (state_at self.old) }
+        ensures kind { IfOk result (λ body. kind_of_body body ≡ BodyKind.State) }
+        ensures found { IfOk result (λ body. self.old ≡ body_bytes body ++ self.new) }
+        ensures valid { IfOk result (λ body. IsBody body) }
     {
-        let epoch = self.u64()?;
         let incarnation = self.u32()?;
         let place = self.u32()?;
         let is_last = self.flag()?;
-        let items = self.items(alloc)?;
+        let items = self.shared_items(alloc)?;
         Ok(Body::State {
-            epoch,
             incarnation,
             place,
             is_last,
@@ -148,28 +145,23 @@ impl<'a> Reader<'a> {
 
     #[tactic(auto, unfolding(crate::specs::Messages::got_at, crate::specs::Messages::body_bytes))]
     fn got(&mut self) -> Result<Body, Failure<WireRefusal>>
-        ensures read { Gives (λ body. (body_value body, self.new)) result (got_at self.old) }
-        ensures kind { IfOk result (λ body. kind_of_body (body_value body) ≡ BodyKind.Got) }
-        ensures found { IfOk result (λ body. self.old ≡ body_bytes (body_value body) ++ self.new) }
-        ensures valid { IfOk result (λ body. IsBody (body_value body)) }
+        ensures read { Gives (λ body. (body, self.new)) result (got_at self.old) }
+        ensures kind { IfOk result (λ body. kind_of_body body ≡ BodyKind.Got) }
+        ensures found { IfOk result (λ body. self.old ≡ body_bytes body ++ self.new) }
+        ensures valid { IfOk result (λ body. IsBody body) }
     {
-        let epoch = self.u64()?;
         let incarnation = self.u32()?;
         let place = self.u32()?;
-        Ok(Body::Got {
-            epoch,
-            incarnation,
-            place,
-        })
+        Ok(Body::Got { incarnation, place })
     }
 
     // What a message of this kind says.
     #[tactic(auto, unfolding(crate::specs::Messages::body_at))]
     fn body(&mut self, alloc: Global, kind: BodyKind) -> Result<Body, Failure<WireRefusal>>
-        ensures read { Gives (λ body. (body_value body, self.new)) result (body_at kind self.old) }
-        ensures kind { IfOk result (λ body. kind_of_body (body_value body) ≡ kind) }
-        ensures found { IfOk result (λ body. self.old ≡ body_bytes (body_value body) ++ self.new) }
-        ensures valid { IfOk result (λ body. IsBody (body_value body)) }
+        ensures read { Gives (λ body. (body, self.new)) result (body_at kind self.old) }
+        ensures kind { IfOk result (λ body. kind_of_body body ≡ kind) }
+        ensures found { IfOk result (λ body. self.old ≡ body_bytes body ++ self.new) }
+        ensures valid { IfOk result (λ body. IsBody body) }
     {
         match kind {
             BodyKind::Get => self.get(),
@@ -185,9 +177,9 @@ impl<'a> Reader<'a> {
     // A message behind its length.
     #[tactic(auto, unfolding(crate::specs::Messages::message_at, crate::specs::Messages::inside))]
     fn message(&mut self, alloc: Global) -> Result<Message, Failure<WireRefusal>>
-        ensures read { Gives (λ message. (message_value message, self.new)) result (message_at self.old) }
-        ensures found { IfOk result (λ message. self.old ≡ inside (message_value message) ++ self.new) }
-        ensures valid { IfOk result (λ message. IsMessage (message_value message)) }
+        ensures read { Gives (λ message. (message, self.new)) result (message_at self.old) }
+        ensures found { IfOk result (λ message. self.old ≡ inside message ++ self.new) }
+        ensures valid { IfOk result (λ message. IsMessage message) }
     {
         self.version()?;
         let kind = self.body_kind()?;
@@ -195,6 +187,7 @@ impl<'a> Reader<'a> {
         let incarnation = self.u32()?;
         let to = self.instance()?;
         let count = self.u64()?;
+        let epoch = self.u64()?;
         let tenant = self.tenant()?;
         let body = self.body(alloc, kind)?;
         Ok(Message {
@@ -202,6 +195,7 @@ impl<'a> Reader<'a> {
             incarnation,
             to,
             count,
+            epoch,
             tenant,
             body,
         })
@@ -222,8 +216,8 @@ impl<'a> Reader<'a> {
 
 #[tactic(auto, unfolding(crate::specs::Messages::message_of, crate::specs::Messages::spelling))]
 fn read_all(alloc: Global, bytes: &[u8]) -> Result<Message, Failure<WireRefusal>>
-    ensures read { Gives message_value result (message_of bytes.now) }
-    ensures spells { IfOk result (λ message. Spells bytes.now (message_value message)) }
+    ensures read { Gives (λ message. message) result (message_of bytes.now) }
+    ensures spells { IfOk result (λ message. Spells bytes.now message) }
 {
     let mut input = Reader::new(bytes);
     let mut framed = Reader::new(input.frame()?);
@@ -240,15 +234,15 @@ fn read_all(alloc: Global, bytes: &[u8]) -> Result<Message, Failure<WireRefusal>
 /// # Errors
 /// What is met first from left to right, in the order of the fields: [`WireRefusal::CutShort`] where the bytes end
 /// before the length that they state, [`WireRefusal::FieldPastEnd`] where a field runs past it,
-/// [`WireRefusal::UnknownKind`] for a version other than 1 or a kind other than 1 to 7, [`WireRefusal::BadTenant`] for
+/// [`WireRefusal::UnknownKind`] for a version other than 2 or a kind other than 1 to 7, [`WireRefusal::BadTenant`] for
 /// what is no tenant name, [`WireRefusal::BadValue`] for any other value that isn't allowed, and
 /// [`WireRefusal::BytesLeft`] where bytes are left behind the body or behind the stated length.
 pub fn decode(alloc: Global, bytes: &[u8]) -> Result<Message, Failure<WireRefusal>>
-    ensures read { Gives message_value result (message_of bytes.now) }
+    ensures read { Gives (λ message. message) result (message_of bytes.now) }
 
     // What is read is what the bytes spell, and what they spell is read, unless memory runs out.
-    ensures spells { IfOk result (λ message. Spells bytes.now (message_value message)) }
-    ensures spelled { (m : MessageValue) → Spells bytes.now m → Gives message_value result (Ok m) }
+    ensures spells { IfOk result (λ message. Spells bytes.now message) }
+    ensures spelled { (m : Message) → Spells bytes.now m → Gives (λ message. message) result (Ok m) }
 {
     read_all(alloc, bytes)
 }

@@ -5,9 +5,8 @@ ghost use Rattle.am_text.specs.Outcome.{ForRefused};
 ghost use Rattle.am_wire.specs.Fields.{flag_bytes};
 ghost use Rattle.am_wire.specs.Messages.{IsBody, IsMessage, IsRefusalOf, Spells, body_bytes, inside};
 ghost use Rattle.am_wire.specs.Refusals.{IsBadBy};
-ghost use Rattle.am_wire.specs.Values.{body_value, message_value};
 
-use crate::kinds::body_number;
+use crate::kinds::{VERSION, body_number};
 use crate::message::{Body, Message};
 use crate::refusal::EncodeRefusal;
 use crate::write_fields::{push_u32, push_u64};
@@ -18,9 +17,9 @@ use std::alloc::Global;
 
 #[tactic(auto, unfolding(crate::specs::Messages::body_bytes))]
 fn push_body(out: &mut Vec<u8>, body: &Body) -> Result<(), Failure<EncodeRefusal>>
-    ensures bytes { OnOk result (out.new.items ≡ out.old.items ++ body_bytes (body_value body.now)) }
-    ensures valid { OnOk result (IsBody (body_value body.now)) }
-    ensures refused { IfErr result (IsBadBy (¬ IsBody (body_value body.now))) }
+    ensures bytes { OnOk result (out.new.items ≡ out.old.items ++ body_bytes body.now) }
+    ensures valid { OnOk result (IsBody body.now) }
+    ensures refused { IfErr result (IsBadBy (¬ IsBody body.now)) }
 {
     match body {
         Body::Get { operation } => push_u64(out, *operation)?,
@@ -31,11 +30,11 @@ fn push_body(out: &mut Vec<u8>, body: &Body) -> Result<(), Failure<EncodeRefusal
         } => {
             push_u64(out, *operation)?;
             push_u32(out, *incarnation)?;
-            push_items(out, items)?;
+            push_items(out, items.as_slice())?;
         }
         Body::Put { operation, items } => {
             push_u64(out, *operation)?;
-            push_items(out, items)?;
+            push_items(out, items.as_slice())?;
         }
         Body::Ack {
             operation,
@@ -44,29 +43,19 @@ fn push_body(out: &mut Vec<u8>, body: &Body) -> Result<(), Failure<EncodeRefusal
             push_u64(out, *operation)?;
             push_u32(out, *incarnation)?;
         }
-        Body::Ask { epoch, incarnation } => {
-            push_u64(out, *epoch)?;
-            push_u32(out, *incarnation)?;
-        }
+        Body::Ask { incarnation } => push_u32(out, *incarnation)?,
         Body::State {
-            epoch,
             incarnation,
             place,
             is_last,
             items,
         } => {
-            push_u64(out, *epoch)?;
             push_u32(out, *incarnation)?;
             push_u32(out, *place)?;
             out.push(u8::from(*is_last))?;
-            push_items(out, items)?;
+            push_items(out, items.as_slice())?;
         }
-        Body::Got {
-            epoch,
-            incarnation,
-            place,
-        } => {
-            push_u64(out, *epoch)?;
+        Body::Got { incarnation, place } => {
             push_u32(out, *incarnation)?;
             push_u32(out, *place)?;
         }
@@ -77,17 +66,18 @@ fn push_body(out: &mut Vec<u8>, body: &Body) -> Result<(), Failure<EncodeRefusal
 // A message behind its length.
 #[tactic(auto, unfolding(crate::specs::Messages::inside))]
 fn push_message(out: &mut Vec<u8>, message: &Message) -> Result<(), Failure<EncodeRefusal>>
-    ensures bytes { OnOk result (out.new.items ≡ out.old.items ++ inside (message_value message.now)) }
-    ensures valid { OnOk result (IsMessage (message_value message.now)) }
-    ensures refused { IfErr result (IsBadBy (¬ IsMessage (message_value message.now))) }
+    ensures bytes { OnOk result (out.new.items ≡ out.old.items ++ inside message.now) }
+    ensures valid { OnOk result (IsMessage message.now) }
+    ensures refused { IfErr result (IsBadBy (¬ IsMessage message.now)) }
 {
     let tenant = message.tenant.as_bytes();
-    out.push(1)?;
+    out.push(VERSION)?;
     out.push(body_number(&message.body))?;
     out.push(message.from.number())?;
     push_u32(out, message.incarnation)?;
     out.push(message.to.number())?;
     push_u64(out, message.count)?;
+    push_u64(out, message.epoch)?;
     out.push(tenant.len() as u8)?;
     out.extend_from_slice(tenant)?;
     push_body(out, &message.body)?;
@@ -100,9 +90,9 @@ fn push_message(out: &mut Vec<u8>, message: &Message) -> Result<(), Failure<Enco
 /// [`EncodeRefusal::BadItem`] where the message has a value that isn't allowed, else [`EncodeRefusal::TooLong`] where it
 /// has more than 2^32 - 1 bytes.
 pub fn encode(alloc: Global, message: &Message) -> Result<Octets, Failure<EncodeRefusal>>
-    ensures spells { IfOk result (λ bytes. Spells bytes (message_value message.now)) }
+    ensures spells { IfOk result (λ bytes. Spells bytes message.now) }
     ensures short { IfOk result (λ bytes. length bytes < 2 ^ 32) }
-    ensures refused { IfErr result (λ failure. ForRefused failure (IsRefusalOf (message_value message.now))) }
+    ensures refused { IfErr result (λ failure. ForRefused failure (IsRefusalOf message.now)) }
 {
     let mut bytes = Vec::new(alloc);
     push_u32(&mut bytes, 0)?;

@@ -1,12 +1,14 @@
-//! The kinds of things and of messages, by their numbers.
+//! The version of messages, and the kinds of things and of messages, by their numbers.
 
 ghost use Rattle.std.specs.Prelude.{◌≡◌};
 ghost use Rattle.am_wire.specs.ItemFields.{kind_of_thing, thing_number};
 ghost use Rattle.am_wire.specs.Messages.{body_number, kind_of_body};
-ghost use Rattle.am_wire.specs.Values.{body_value, thing_value};
 
 use crate::message::Body;
 use am_item::Thing;
+
+/// The version of all messages. It changes with how any of them is spelled.
+pub(crate) const VERSION: u8 = 2;
 
 /// The kind of a thing that an item holds.
 #[derive(Drop)]
@@ -19,7 +21,7 @@ pub(crate) enum ThingKind {
 
 /// The number of a thing's kind, 1 to 4.
 pub(crate) fn thing_number(thing: &Thing) -> u8
-    ensures { result ≡ thing_number (kind_of_thing (thing_value thing.now)) }
+    ensures { result ≡ thing_number (kind_of_thing thing.now) }
 {
     match thing {
         Thing::Configuration(_) => 1,
@@ -43,7 +45,7 @@ pub(crate) enum BodyKind {
 
 /// The number of a body's kind, 1 to 7.
 pub(crate) fn body_number(body: &Body) -> u8
-    ensures { result ≡ body_number (kind_of_body (body_value body.now)) }
+    ensures { result ≡ body_number (kind_of_body body.now) }
 {
     match body {
         Body::Get { .. } => 1,

@@ -5,19 +5,19 @@ ghost use Rattle.am_match.specs.Matchers.{MatcherText};
 ghost use Rattle.am_match.specs.Spelling.{spelling as spelled_matchers};
 ghost use Rattle.am_wire.specs.ItemFields.{matchers_bytes};
 ghost use Rattle.am_wire.specs.Messages.{Spells, message_of};
-ghost use Rattle.am_wire.specs.Values.{MessageValue};
+ghost use Rattle.am_wire.specs.declared.message.Message.{Message};
 
 use crate::refusal::WireRefusal;
 
 /// A message has at most one spelling, and no spelling begins another. A spelling is read, a proper beginning of it is
 /// cut short, and what stands behind it is left over.
 pub fn spellings()
-    ensures one { (m : MessageValue) (a b : List ℕ) → Spells a m → Spells b m → a ≡ b }
-    ensures apart { (m k : MessageValue) (a b x y : List ℕ) → Spells a m → Spells b k → a ++ x ≡ b ++ y → (m ≡ k) × (a ≡ b) × (x ≡ y) }
-    ensures read { (m : MessageValue) (bytes : List ℕ) → Spells bytes m → message_of bytes ≡ Ok m }
-    ensures cut { (m : MessageValue) (bytes : List ℕ) (k : ℕ) → Spells bytes m → k < length bytes →
+    ensures one { (m : Message) (a b : List ℕ) → Spells a m → Spells b m → a ≡ b }
+    ensures apart { (m k : Message) (a b x y : List ℕ) → Spells a m → Spells b k → a ++ x ≡ b ++ y → (m ≡ k) × (a ≡ b) × (x ≡ y) }
+    ensures read { (m : Message) (bytes : List ℕ) → Spells bytes m → message_of bytes ≡ Ok m }
+    ensures cut { (m : Message) (bytes : List ℕ) (k : ℕ) → Spells bytes m → k < length bytes →
         message_of (take k bytes) ≡ Err WireRefusal.CutShort }
-    ensures more { (m : MessageValue) (bytes behind : List ℕ) (byte : ℕ) → Spells bytes m →
+    ensures more { (m : Message) (bytes behind : List ℕ) (byte : ℕ) → Spells bytes m →
         message_of (bytes ++ byte ∷ behind) ≡ Err WireRefusal.BytesLeft }
 {}
 

@@ -3,8 +3,10 @@
 
 mod decoding;
 mod encoding;
+mod items;
 mod kinds;
 pub mod laws;
+mod lengths;
 mod message;
 mod read_items;
 mod read_labels;
@@ -16,5 +18,7 @@ mod write_labels;
 
 pub use decoding::decode;
 pub use encoding::encode;
+pub use items::Items;
+pub use lengths::{item_len, spelled_len};
 pub use message::{Body, Message};
 pub use refusal::{EncodeRefusal, WireRefusal};

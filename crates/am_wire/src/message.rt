@@ -1,8 +1,11 @@
 //! Messages between instances.
 
-use am_item::Item;
+ghost use Rattle.std.specs.Prelude.{◌≡◌, IfOk};
+
+use crate::items::Items;
 use am_ring::Instance;
 use am_tenant::TenantName;
+use std::alloc::AllocError;
 
 /// A message about one tenant. Tenant, sender, incarnation, receiver and count are its name.
 #[derive(Drop)]
@@ -15,13 +18,16 @@ pub struct Message {
     pub to: Instance,
     /// Which of the tenant's messages it is at that instance and incarnation, from 1 on.
     pub count: u64,
+    /// Of a `Get`, an `Answer`, an `Ack`, and a `Put` that an operation sends, the epoch in which that started; of
+    /// any other, the epoch of the ring that the sender knew.
+    pub epoch: u64,
     /// Whom it is about.
     pub tenant: TenantName,
     /// What it says.
     pub body: Body,
 }
 
-/// What a message says.
+/// What a message says. An operation is a number of the one who asks, a place one in the list of a `State`.
 #[derive(Drop)]
 pub enum Body {
     /// The best items are asked for.
@@ -36,14 +42,14 @@ pub enum Body {
         /// The incarnation of the `Get` that this answers.
         incarnation: u32,
         /// The items, ordered by key.
-        items: Vec<Item>,
+        items: Items,
     },
     /// Items to accept.
     Put {
         /// The sender's operation that has them accepted; 0 wants no `Ack`.
         operation: u64,
         /// The items as they were decided.
-        items: Vec<Item>,
+        items: Items,
     },
     /// Items were accepted.
     Ack {
@@ -54,15 +60,11 @@ pub enum Body {
     },
     /// A replica that isn't settled wants the receiver's items.
     Ask {
-        /// The sender's epoch.
-        epoch: u64,
         /// The sender's incarnation.
         incarnation: u32,
     },
     /// A piece of the list of items that a settled replica holds.
     State {
-        /// The sender's epoch.
-        epoch: u64,
         /// The receiver's incarnation.
         incarnation: u32,
         /// The place of the first item in the whole list, from 0 on.
@@ -70,15 +72,79 @@ pub enum Body {
         /// Whether the list ends with this piece.
         is_last: bool,
         /// The items, ordered by key.
-        items: Vec<Item>,
+        items: Items,
     },
     /// Pieces have come.
     Got {
-        /// The sender's epoch.
-        epoch: u64,
         /// The incarnation of the sender of the `State`.
         incarnation: u32,
         /// The place after the last item of all that came without a gap.
         place: u32,
     },
+}
+
+impl Message {
+    /// The same message, with the same items. It takes no memory; an error says that they are held as often as can be
+    /// counted.
+    pub fn share(&self) -> Result<Message, AllocError>
+        ensures { IfOk result (λ shared. shared ≡ self.now) }
+    {
+        let body = self.body.share()?;
+        Ok(Message {
+            from: self.from,
+            incarnation: self.incarnation,
+            to: self.to,
+            count: self.count,
+            epoch: self.epoch,
+            tenant: self.tenant,
+            body,
+        })
+    }
+}
+
+impl Body {
+    // The same, with the same items.
+    fn share(&self) -> Result<Body, AllocError>
+        ensures { IfOk result (λ shared. shared ≡ self.now) }
+    {
+        match *self {
+            Body::Get { operation } => Ok(Body::Get { operation }),
+            Body::Answer {
+                operation,
+                incarnation,
+                ref items,
+            } => Ok(Body::Answer {
+                operation,
+                incarnation,
+                items: items.share()?,
+            }),
+            Body::Put {
+                operation,
+                ref items,
+            } => Ok(Body::Put {
+                operation,
+                items: items.share()?,
+            }),
+            Body::Ack {
+                operation,
+                incarnation,
+            } => Ok(Body::Ack {
+                operation,
+                incarnation,
+            }),
+            Body::Ask { incarnation } => Ok(Body::Ask { incarnation }),
+            Body::State {
+                incarnation,
+                place,
+                is_last,
+                ref items,
+            } => Ok(Body::State {
+                incarnation,
+                place,
+                is_last,
+                items: items.share()?,
+            }),
+            Body::Got { incarnation, place } => Ok(Body::Got { incarnation, place }),
+        }
+    }
 }

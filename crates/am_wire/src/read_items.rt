@@ -8,8 +8,8 @@ ghost use Rattle.am_match.specs.Spelling.{operator_number};
 ghost use Rattle.am_text.specs.Outcome.{Gives};
 ghost use Rattle.am_wire.specs.Fields.{bytes_at, several, text_bytes};
 ghost use Rattle.am_wire.specs.ItemFields.{AreMatchers, IsAlert, IsEntry, IsItem, IsSilence, IsStamp, IsThing, alert_at, alert_bytes, configuration_at, configuration_bytes, entry_at, entry_bytes, item_at, item_bytes, items_at, items_bytes, kind_of_thing, matcher_at, matcher_bytes, matcher_name_at, matchers_at, matchers_bytes, operator_at, silence_at, silence_bytes, stamp_at, stamp_bytes, thing_at, thing_bytes, thing_kind_at, thing_number};
-ghost use Rattle.am_wire.specs.Values.{item_value, item_values, silence_value, thing_value};
 
+use crate::items::Items;
 use crate::kinds::ThingKind;
 use crate::reader::Reader;
 use crate::refusal::WireRefusal;
@@ -135,9 +135,9 @@ impl<'a> Reader<'a> {
 
     #[tactic(auto, unfolding(crate::specs::ItemFields::silence_at, crate::specs::ItemFields::silence_bytes))]
     fn silence(&mut self, alloc: Global) -> Result<Silence, Failure<WireRefusal>>
-        ensures read { Gives (λ silence. (silence_value silence, self.new)) result (silence_at self.old) }
-        ensures found { IfOk result (λ silence. self.old ≡ silence_bytes (silence_value silence) ++ self.new) }
-        ensures valid { IfOk result (λ silence. IsSilence (silence_value silence)) }
+        ensures read { Gives (λ silence. (silence, self.new)) result (silence_at self.old) }
+        ensures found { IfOk result (λ silence. self.old ≡ silence_bytes silence ++ self.new) }
+        ensures valid { IfOk result (λ silence. IsSilence silence) }
     {
         let id = self.silence_id()?;
         let starts_at = self.moment()?;
@@ -216,10 +216,10 @@ impl<'a> Reader<'a> {
     // A thing of this kind.
     #[tactic(auto, unfolding(crate::specs::ItemFields::thing_at))]
     fn thing(&mut self, alloc: Global, kind: ThingKind) -> Result<Thing, Failure<WireRefusal>>
-        ensures read { Gives (λ thing. (thing_value thing, self.new)) result (thing_at kind self.old) }
-        ensures kind { IfOk result (λ thing. kind_of_thing (thing_value thing) ≡ kind) }
-        ensures found { IfOk result (λ thing. self.old ≡ thing_bytes (thing_value thing) ++ self.new) }
-        ensures valid { IfOk result (λ thing. IsThing (thing_value thing)) }
+        ensures read { Gives (λ thing. (thing, self.new)) result (thing_at kind self.old) }
+        ensures kind { IfOk result (λ thing. kind_of_thing thing ≡ kind) }
+        ensures found { IfOk result (λ thing. self.old ≡ thing_bytes thing ++ self.new) }
+        ensures valid { IfOk result (λ thing. IsThing thing) }
     {
         match kind {
             ThingKind::Configuration => Ok(Thing::Configuration(self.configuration(alloc)?)),
@@ -231,9 +231,9 @@ impl<'a> Reader<'a> {
 
     #[tactic(auto, unfolding(crate::specs::ItemFields::item_at, crate::specs::ItemFields::item_bytes))]
     fn item(&mut self, alloc: Global) -> Result<Item, Failure<WireRefusal>>
-        ensures read { Gives (λ item. (item_value item, self.new)) result (item_at self.old) }
-        ensures found { IfOk result (λ item. self.old ≡ item_bytes (item_value item) ++ self.new) }
-        ensures valid { IfOk result (λ item. IsItem (item_value item)) }
+        ensures read { Gives (λ item. (item, self.new)) result (item_at self.old) }
+        ensures found { IfOk result (λ item. self.old ≡ item_bytes item ++ self.new) }
+        ensures valid { IfOk result (λ item. IsItem item) }
     {
         let kind = self.thing_kind()?;
         let stamp = self.stamp()?;
@@ -246,10 +246,10 @@ impl<'a> Reader<'a> {
         alloc: Global,
         count: u32,
     ) -> Result<Vec<Item>, Failure<WireRefusal>>
-        ensures read { Gives (λ items. (item_values items.items, self.new)) result (several (λ before. item_at) count None self.old) }
-        ensures found { IfOk result (λ items. self.old ≡ flat_map item_bytes (item_values items.items) ++ self.new) }
-        ensures valid { IfOk result (λ items. All IsItem (item_values items.items)) }
-        ensures length { IfOk result (λ items. length (item_values items.items) ≡ count) }
+        ensures read { Gives (λ items. (items.items, self.new)) result (several (λ before. item_at) count None self.old) }
+        ensures found { IfOk result (λ items. self.old ≡ flat_map item_bytes items.items ++ self.new) }
+        ensures valid { IfOk result (λ items. All IsItem items.items) }
+        ensures length { IfOk result (λ items. length items.items ≡ count) }
     {
         let mut items = Vec::new(alloc);
         for _ in 0..count {
@@ -259,15 +259,25 @@ impl<'a> Reader<'a> {
         Ok(items)
     }
 
-    /// Items.
+    // Items.
     #[tactic(auto, unfolding(crate::specs::ItemFields::items_at, crate::specs::ItemFields::items_bytes))]
-    pub fn items(&mut self, alloc: Global) -> Result<Vec<Item>, Failure<WireRefusal>>
-        ensures read { Gives (λ items. (item_values items.items, self.new)) result (items_at self.old) }
-        ensures found { IfOk result (λ items. self.old ≡ items_bytes (item_values items.items) ++ self.new) }
-        ensures valid { IfOk result (λ items. All IsItem (item_values items.items)) }
+    fn items(&mut self, alloc: Global) -> Result<Vec<Item>, Failure<WireRefusal>>
+        ensures read { Gives (λ items. (items.items, self.new)) result (items_at self.old) }
+        ensures found { IfOk result (λ items. self.old ≡ items_bytes items.items ++ self.new) }
+        ensures valid { IfOk result (λ items. All IsItem items.items) }
     {
         let count = self.u32()?;
         let items = self.several_items(alloc, count)?;
         Ok(items)
+    }
+
+    /// Items that may be shared.
+    pub fn shared_items(&mut self, alloc: Global) -> Result<Items, Failure<WireRefusal>>
+        ensures read { Gives (λ items. (items, self.new)) result (items_at self.old) }
+        ensures found { IfOk result (λ items. self.old ≡ items_bytes items ++ self.new) }
+        ensures valid { IfOk result (λ items. All IsItem items) }
+    {
+        let items = self.items(alloc)?;
+        Ok(Items::from_vec(alloc, items)?)
     }
 }

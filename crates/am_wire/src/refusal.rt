@@ -13,7 +13,7 @@ pub enum WireRefusal {
     CutShort,
     /// A field runs past the stated length.
     FieldPastEnd,
-    /// The version isn't 1, or the kind isn't one of 1 to 7.
+    /// The version isn't 2, or the kind isn't one of 1 to 7.
     UnknownKind,
     /// The tenant's name is none.
     BadTenant,

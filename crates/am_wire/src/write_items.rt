@@ -6,7 +6,6 @@ ghost use Rattle.am_match.specs.Matchers.{IsMatcher};
 ghost use Rattle.am_match.specs.Spelling.{operator_number};
 ghost use Rattle.am_wire.specs.ItemFields.{AreMatchers, IsAlert, IsEntry, IsItem, IsSilence, IsStamp, IsThing, alert_bytes, configuration_bytes, entry_bytes, item_bytes, items_bytes, matcher_bytes, matchers_bytes, silence_bytes, stamp_bytes, thing_bytes};
 ghost use Rattle.am_wire.specs.Refusals.{IsBadBy};
-ghost use Rattle.am_wire.specs.Values.{item_value, item_values, silence_value, thing_value};
 
 use crate::kinds::thing_number;
 use crate::refusal::EncodeRefusal;
@@ -88,9 +87,9 @@ fn push_configuration(out: &mut Vec<u8>, text: &Option<Text>) -> Result<(), Allo
 
 #[tactic(auto, unfolding(crate::specs::ItemFields::silence_bytes))]
 fn push_silence(out: &mut Vec<u8>, silence: &Silence) -> Result<(), Failure<EncodeRefusal>>
-    ensures bytes { OnOk result (out.new.items ≡ out.old.items ++ silence_bytes (silence_value silence.now)) }
-    ensures valid { OnOk result (IsSilence (silence_value silence.now)) }
-    ensures refused { IfErr result (IsBadBy (¬ IsSilence (silence_value silence.now))) }
+    ensures bytes { OnOk result (out.new.items ≡ out.old.items ++ silence_bytes silence.now) }
+    ensures valid { OnOk result (IsSilence silence.now) }
+    ensures refused { IfErr result (IsBadBy (¬ IsSilence silence.now)) }
 {
     out.extend_from_slice(silence.id.as_bytes())?;
     push_moment(out, silence.starts_at)?;
@@ -132,9 +131,9 @@ fn push_entry(out: &mut Vec<u8>, entry: &SentEntry) -> Result<(), Failure<Encode
 }
 
 fn push_thing(out: &mut Vec<u8>, thing: &Thing) -> Result<(), Failure<EncodeRefusal>>
-    ensures bytes { OnOk result (out.new.items ≡ out.old.items ++ thing_bytes (thing_value thing.now)) }
-    ensures valid { OnOk result (IsThing (thing_value thing.now)) }
-    ensures refused { IfErr result (IsBadBy (¬ IsThing (thing_value thing.now))) }
+    ensures bytes { OnOk result (out.new.items ≡ out.old.items ++ thing_bytes thing.now) }
+    ensures valid { OnOk result (IsThing thing.now) }
+    ensures refused { IfErr result (IsBadBy (¬ IsThing thing.now)) }
 {
     match thing {
         Thing::Configuration(text) => push_configuration(out, text)?,
@@ -147,9 +146,9 @@ fn push_thing(out: &mut Vec<u8>, thing: &Thing) -> Result<(), Failure<EncodeRefu
 
 #[tactic(auto, unfolding(crate::specs::ItemFields::item_bytes))]
 fn push_item(out: &mut Vec<u8>, item: &Item) -> Result<(), Failure<EncodeRefusal>>
-    ensures bytes { OnOk result (out.new.items ≡ out.old.items ++ item_bytes (item_value item.now)) }
-    ensures valid { OnOk result (IsItem (item_value item.now)) }
-    ensures refused { IfErr result (IsBadBy (¬ IsItem (item_value item.now))) }
+    ensures bytes { OnOk result (out.new.items ≡ out.old.items ++ item_bytes item.now) }
+    ensures valid { OnOk result (IsItem item.now) }
+    ensures refused { IfErr result (IsBadBy (¬ IsItem item.now)) }
 {
     out.push(thing_number(&item.thing))?;
     push_stamp(out, &item.stamp)?;
@@ -158,9 +157,9 @@ fn push_item(out: &mut Vec<u8>, item: &Item) -> Result<(), Failure<EncodeRefusal
 }
 
 fn push_all(out: &mut Vec<u8>, items: &[Item]) -> Result<(), Failure<EncodeRefusal>>
-    ensures bytes { OnOk result (out.new.items ≡ out.old.items ++ flat_map item_bytes (item_values items.now)) }
-    ensures valid { OnOk result (All IsItem (item_values items.now)) }
-    ensures refused { IfErr result (IsBadBy (¬ All IsItem (item_values items.now))) }
+    ensures bytes { OnOk result (out.new.items ≡ out.old.items ++ flat_map item_bytes items.now) }
+    ensures valid { OnOk result (All IsItem items.now) }
+    ensures refused { IfErr result (IsBadBy (¬ All IsItem items.now)) }
 {
     for item in items {
         push_item(out, item)?;
@@ -171,9 +170,9 @@ fn push_all(out: &mut Vec<u8>, items: &[Item]) -> Result<(), Failure<EncodeRefus
 /// Items.
 #[tactic(auto, unfolding(crate::specs::ItemFields::items_bytes))]
 pub fn push_items(out: &mut Vec<u8>, items: &[Item]) -> Result<(), Failure<EncodeRefusal>>
-    ensures bytes { OnOk result (out.new.items ≡ out.old.items ++ items_bytes (item_values items.now)) }
-    ensures valid { OnOk result (All IsItem (item_values items.now)) }
-    ensures refused { IfErr result (IsBadBy (¬ All IsItem (item_values items.now))) }
+    ensures bytes { OnOk result (out.new.items ≡ out.old.items ++ items_bytes items.now) }
+    ensures valid { OnOk result (All IsItem items.now) }
+    ensures refused { IfErr result (IsBadBy (¬ All IsItem items.now)) }
 {
     push_length(out, items.len())?;
     push_all(out, items)?;

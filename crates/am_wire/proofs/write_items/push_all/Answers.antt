@@ -1,9 +1,8 @@
 use Rattle.std.proofs.Common.{◌≡◌, ◌+◌, ◌++◌, ◌∷◌, [], ◌∙◌, length, take, arith}
 use Rattle.std.proofs.Math.Seq.{take-length}
-use Rattle.std.proofs.lemmas.List.{map_push, take_more}
+use Rattle.std.proofs.lemmas.List.{take_more}
 use Rattle.std.proofs.lemmas.List.Elements.{All-push}
 use Rattle.am_wire.specs.ItemFields.{IsItem, item_bytes}
-use Rattle.am_wire.specs.Values.{item_value, item_values}
 use Rattle.std.proofs.lemmas.Result.{err_from_is_err_and}
 use Rattle.am_wire.proofs.Written.{bad_among, written_more}
 use Rattle.am_wire.proofs.write_items.push_all.Goals as goal
@@ -14,9 +13,9 @@ loop-item-preserved c =
     let xs = c.args.items.now in
     let m = c.item-item.result in
     let more : take (i + 1) xs ≡ take i xs ++ m ∷ [] = take_more xs i m c.loop-item-test.true ∙ rw (← c.item-item.is) in
-    rw (more, map_push item_value (take i xs) m) (
-      written_more item_bytes c.args.out.now.items _ _ (item_values (take i xs)) (item_value m) c.loop-item.invariant.0 c.in_ok-push_item.ensures.bytes,
-      All-push IsItem (item_values (take i xs)) (item_value m) c.loop-item.invariant.1 c.in_ok-push_item.ensures.valid,
+    rw (more) (
+      written_more item_bytes c.args.out.now.items _ _ (take i xs) m c.loop-item.invariant.0 c.in_ok-push_item.ensures.bytes,
+      All-push IsItem (take i xs) m c.loop-item.invariant.1 c.in_ok-push_item.ensures.valid,
     )
 
 pub returns-clause-valid : goal.returns-clause-valid

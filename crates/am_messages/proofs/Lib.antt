@@ -1,0 +1,3 @@
+pub mod Orders
+pub mod Timed
+pub mod Dropping

@@ -1,0 +1,4 @@
+-- names of messages
+pub mod Names
+-- messages that were sent
+pub mod Posted

@@ -1,0 +1,3 @@
+pub mod Numbered
+pub mod Targets
+pub mod Seen

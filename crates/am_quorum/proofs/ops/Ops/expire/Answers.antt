@@ -1,0 +1,26 @@
+use Rattle.std.proofs.Common.{refl, sym, ap, ◌∙◌}
+use Rattle.am_quorum.specs.Dockets.{Docket, expired_in}
+use Rattle.am_quorum.specs.Operations.{late, operation_at}
+use Rattle.am_quorum.proofs.Seen.{each_none, each_written, no_own, own_docket}
+use Rattle.am_quorum.proofs.ops.Ops.expire.Goals as goal
+
+pub returns-in_default-clause-operation : goal.returns-in_default-clause-operation
+returns-in_default-clause-operation c =
+    rw (← c.self.view_is) (sym (ap (λ (d : Docket). late c.args.now (operation_at c.args.number d.operations))
+    (no_own c.self.inside.incarnation c.self.inside.dockets c.args.tenant.now c.in_default.ensures.value)))
+
+pub returns-in_default-clause-each : goal.returns-in_default-clause-each
+returns-in_default-clause-each c =
+    rw (c.get_mut.follows.holds-at-none, ← c.self.view_is)
+    (each_none c.self.inside.incarnation c.self.inside.dockets c.args.tenant.now (expired_in c.args.number c.args.now) c.in_default.ensures.value refl)
+
+pub returns-clause-operation : goal.returns-clause-operation
+returns-clause-operation c =
+    rw (← c.self.view_is) (c.expire.ensures.operation ∙ sym (ap (λ (d : Docket). late c.args.now (operation_at c.args.number d.operations))
+    (own_docket c.self.inside.incarnation c.self.inside.dockets c.args.tenant.now c.in-Some.docket.now c.in-Some.ensures.value)))
+
+pub returns-clause-each : goal.returns-clause-each
+returns-clause-each c =
+    let now = c.expire.new.self in
+    rw (← c.self.view_is) (each_written c.self.inside.incarnation c.self.inside.dockets (c.get_mut.follows.lender now) c.args.tenant.now (expired_in c.args.number c.args.now)
+    c.in-Some.docket.now now c.in-Some.ensures.value (c.get_mut.follows.holds now) c.expire.ensures.docket)

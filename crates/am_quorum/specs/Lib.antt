@@ -1,0 +1,4 @@
+-- the open operations of a tenant
+pub mod Operations
+-- .. with how many it has had
+pub mod Dockets
