@@ -1,0 +1,25 @@
+//! Settling: how an instance comes to hold what a tenant's other replicas hold, for all tenants.
+#![tactic(auto)]
+
+mod again;
+mod cutting;
+mod peer;
+mod piece;
+mod progress;
+mod refresh;
+mod sent_list;
+mod settling;
+mod shared_item;
+mod spans;
+mod stayed;
+mod tenants;
+
+pub use again::Again;
+pub use cutting::{MOST_BYTES, MOST_ITEMS};
+pub use peer::Peer;
+pub use piece::Piece;
+pub use progress::{AGAIN_AFTER, Push};
+pub use settling::Settling;
+pub use shared_item::SharedItem;
+pub use spans::{Reach, Span};
+pub use stayed::has_stayed;
