@@ -40,7 +40,7 @@ use Rattle.am_cluster.specs.Reactions.{Reaction, Replies, Said, Sends, Tells, ea
 use Rattle.am_cluster.specs.Retiring.{retired}
 use Rattle.am_cluster.specs.RingChanges.{are_same, dropped, end_push, go_on, go_on_or_drop, just_opened, other_restarted, push_if_settled, push_or_ask, ring_learned}
 use Rattle.am_cluster.specs.Sending.{send, send_all, send_in}
-use Rattle.am_cluster.specs.Settling.{Push, in_new_epoch, lacking, list_for as sent_list_for, now_settled, to_push, with_list, with_push}
+use Rattle.am_cluster.specs.Settling.{Push, in_new_epoch, lacking, sent_list_for, now_settled, to_push, with_list, with_push}
 use Rattle.am_cluster.specs.Ticking.{due_keys, handled, is_flush_due, muted_of, send_again, ticked}
 use Rattle.am_cluster.specs.Transfers.{answer_ask, ask, asked, asks_first, begin_push, forced, push, send_state, take_got, take_state}
 

@@ -11,3 +11,5 @@ pub mod Listed
 pub mod StatePieces
 pub mod StateTurns
 pub mod OneList
+pub mod Still
+pub mod Steady

@@ -43,10 +43,6 @@ if_same false x y z e d = d
 then_stays : (f g : Local → Reaction) (l : Local) → f l ≡ stays l → g l ≡ stays l → (f >> g) l ≡ stays l
 then_stays f g l e d = ap (λ r. in_turn r g) e ∙ d
 
-never : (b : Bool) → (b && false) ≡ false
-never true = refl
-never false = refl
-
 never_three : (b c : Bool) → (b && (c && false)) ≡ false
 never_three true true = refl
 never_three true false = refl
@@ -76,8 +72,8 @@ unfolding just_opened
 just_opened_blank here = refl
 
 pub opened_blank : (here : Here) → opened_with here [] ≡ blank
-unfolding opened_with
-opened_blank here = ap (λ t. if t then accepted here.moment [] blank else blank) (never (is_replica_here here))
+unfolding opened_with accepted
+opened_blank here = if_same (is_replica_here here) (accepted here.moment [] blank) blank blank refl refl
 
 restart_blank : (r i : ℕ) (here : Here) → at_restart r i here blank ≡ stays blank
 restart_blank r i here =

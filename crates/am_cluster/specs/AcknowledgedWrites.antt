@@ -1,5 +1,6 @@
--- Writes that were acknowledged stay: what the words of that claim mean, over what happens to one tenant.
-use Rattle.std.specs.Prelude.{◌≡◌, ◌⊎◌, ◌<◌, ℕ, ◌+◌, Bool, true, false, IsTrue, ◌&&◌, not, ◌==◌, Contains, IfSome, List, [], ◌∷◌, ◌++◌, Option, Some, None, is_some, if◌then◌else◌}
+-- Writes that were acknowledged stay: what the words of that claim mean, over what happens to one tenant. It is claimed of
+-- the cluster as it is opened, where its stores have earlier rows alone.
+use Rattle.std.specs.Prelude.{◌≡◌, ◌⊎◌, ◌<◌, ℕ, ◌+◌, Bool, true, false, IsTrue, ◌&&◌, not, ◌==◌, Contains, IfSome, List, [], ◌∷◌, ◌++◌, length, Option, Some, None, is_some, if◌then◌else◌}
 use Rattle.std.specs.List.{list_any, list_all}
 use Rattle.std.specs.Ordering.{is_lt}
 use Rattle.am_http.specs.declared.request.Request.{Request}
@@ -7,7 +8,7 @@ use Rattle.am_item.specs.Key.{has_key, key_of}
 use Rattle.am_item.specs.Retirement.{is_retired}
 use Rattle.am_item.specs.Stamp.{stamp_cmp}
 use Rattle.am_item.specs.declared.item.Item.{Item}
-use Rattle.am_ring.specs.Instances.{is_among}
+use Rattle.am_ring.specs.Instances.{in_order, is_among}
 use Rattle.am_rows.specs.Rows.{is_stored}
 use Rattle.am_cluster.specs.Courses.{after, after_all, refusal_of}
 use Rattle.am_cluster.specs.Deciding.{Deciding, deciding_at, written_at}
@@ -15,7 +16,7 @@ use Rattle.am_cluster.specs.Happening.{Happening, Asked, Changed, Delivered, For
 use Rattle.am_cluster.specs.Local.{is_settled}
 use Rattle.am_cluster.specs.Origins.{Origin}
 use Rattle.am_cluster.specs.Peers.{peer}
-use Rattle.am_cluster.specs.Pieces.{Piece, reach_of}
+use Rattle.am_cluster.specs.Pieces.{reach_of}
 use Rattle.am_cluster.specs.PrivateCluster.{PrivateCluster, here_at, opened, stored_at}
 use Rattle.am_cluster.specs.RingChanges.{are_same}
 use Rattle.am_cluster.specs.Rings.{newest_epoch}
@@ -125,15 +126,15 @@ pub record IsOutlived (p : PrivateCluster) (hs : List Happening) (item : Item) :
 abbrev pub IsWritten : PrivateCluster → (before : List Happening) → Happening → Item → Type 0
 IsWritten p before ack item = Contains (written_at (after_all p before) ack) item
 
--- the operation that is decided is the one that a request starts which comes behind these happenings: it has the number that is
--- then the next one at the instance, in the incarnation of the instance then
+-- the operation that is decided is the one that a request starts which comes behind these happenings: it has the
+-- number that is then the next one at the instance, in the incarnation of the instance then
 abbrev pub IsStartedBy : PrivateCluster → (before : List Happening) → (instance : ℕ) → Deciding → Type 0
 IsStartedBy p before i d =
     (d.here.instance ≡ i) × (d.here.incarnation ≡ (after_all p before).roster.incarnation i)
     × (d.operation.number ≡ ((after_all p before).at i).ledger.operations + 1)
 
--- The claim: where a write of an item was acknowledged, and later a request came, and later still that was decided, the list on
--- which it was decided has the item or a greater one of its key, unless the item was outlived by then.
+-- The claim: where a write of an item was acknowledged, and later a request came, and later still that was decided,
+-- the list on which it was decided has the item or a greater one of its key, unless the item was outlived by then.
 abbrev pub WritesStay : PrivateCluster → List Happening → Type 0
 WritesStay p hs =
     (before between meanwhile rest : List Happening) (ack decides : Happening) (connection i moment : ℕ) (request : Request)
@@ -151,20 +152,21 @@ CalmWritesStay p hs = IsTrue (is_calm p hs) → WritesStay p hs
 
 -- ---- the same over a stop
 
--- The stop of all instances behind these happenings, and a new start: it falls while all three are ready; the ring is as it stood,
--- with the same service key; and no incarnation is used again.
+-- The stop of all instances behind these happenings, and a new start: it falls while all three are ready; the ring is
+-- as it stood, in whatever order it is given, with the same service key; and no incarnation is used again.
 pub record IsRestart (p : PrivateCluster) (hs : List Happening) (origin : Origin) : Type 0 where
   pub ready : IsTrue (are_ready (after_all p hs))
   pub service_key : origin.setting.service_key ≡ p.service_key
-  pub ring : origin.setting.ring ≡ ring_now (after_all p hs).roster
+  pub ring : in_order origin.setting.ring ≡ ring_now (after_all p hs).roster
   pub unused : (i : ℕ) → (after_all p hs).roster.incarnation i < origin.setting.first
 
 -- the cluster as it is opened from the stores that were left
 abbrev pub reopened : PrivateCluster → List Happening → Origin → PrivateCluster
 reopened p hs origin = opened origin p.tenant (stored_at (after_all p hs))
 
--- The claim: where a write of a silence or a configuration was acknowledged before the stop, the list of every decision behind it
--- has the item or a greater one of its key, unless the item was outlived before the stop or by then.
+-- The claim: where a write of a silence or a configuration was acknowledged before the stop, the list of every
+-- decision behind it has the item or a greater one of its key, unless the item was outlived before the stop or by
+-- then.
 abbrev pub StoredWritesStay : PrivateCluster → List Happening → Origin → List Happening → Type 0
 StoredWritesStay p hs origin more =
     (before rest done left : List Happening) (ack decides : Happening) (item : Item)
@@ -184,8 +186,8 @@ CalmStoredWritesStay p hs origin more =
 
 -- ---- what keeps it so
 
--- of any two settled replicas that go by rings of one epoch, one at least holds each item whose write was acknowledged, unless it
--- was outlived
+-- of any two settled replicas that go by rings of one epoch, one at least holds each item whose write was
+-- acknowledged, unless it was outlived
 abbrev pub HoldersRemain : PrivateCluster → List Happening → Type 0
 HoldersRemain p hs =
     (before rest : List Happening) (ack : Happening) (item : Item) (i j : ℕ)
@@ -197,7 +199,21 @@ HoldersRemain p hs =
     → (after_all p hs).roster.known i ≡ (after_all p hs).roster.known j
     → (IsTrue (is_holder (after_all p hs) item i) ⊎ IsTrue (is_holder (after_all p hs) item j)) ⊎ IsOutlived p hs item
 
--- the complete State of this name came at its receiver
+-- .. of what is calm
+abbrev pub CalmHoldersRemain : PrivateCluster → List Happening → Type 0
+CalmHoldersRemain p hs = IsTrue (is_calm p hs) → HoldersRemain p hs
+
+-- the item was held by the sender of a State when this was first sent, while these happenings came
+pub record WasListed (p : PrivateCluster) (hs : List Happening) (name : StateName) (item : Item) : Type 0 where
+  pub before : List Happening
+  pub sends : Happening
+  pub later : List Happening
+  pub all : hs ≡ before ++ sends ∷ later
+  pub unsent : pieces_sent name (after_all p before).sent ≡ []
+  pub sent : 0 < length (pieces_sent name (after (after_all p before) sends).sent)
+  pub held : Contains ((after_all p before).at name.from).held item
+
+-- the State of this name came whole at its receiver
 abbrev pub is_whole_at : PrivateCluster → StateName → Bool
 is_whole_at p name =
     (reach_of (spans_from (peer name.from name.incarnation) (p.at name.to).settling)).is_complete
@@ -207,17 +223,16 @@ pub record IsPresent (p : PrivateCluster) (name : StateName) : Type 0 where
   pub incarnation : name.to_incarnation ≡ p.roster.incarnation name.to
   pub epoch : name.epoch ≡ p.roster.known name.to
 
--- An instance that settles by a message holds then each item of the States that came whole, which is what their senders held when
--- they first sent them: itself or a greater one of its key, unless it was outlived.
+-- An instance that is settled from what happens on has then, of each State that came whole, each item that the sender
+-- held when the State was first sent: itself or a greater one of its key, unless it was outlived.
 abbrev pub SettledHaveAll : PrivateCluster → List Happening → Type 0
 SettledHaveAll p hs =
-    (before rest : List Happening) (from k to count moment : ℕ) (name : StateName) (piece : Piece) (item : Item)
-    → hs ≡ before ++ Delivered from k to count moment ∷ rest
+    (before rest : List Happening) (settles : Happening) (name : StateName) (item : Item)
+    → hs ≡ before ++ settles ∷ rest
     → is_settled_at (after_all p before) name.to ≡ false
-    → IsTrue (is_settled_at (after_all p (before ++ Delivered from k to count moment ∷ [])) name.to)
-    → IsPresent (after_all p (before ++ Delivered from k to count moment ∷ [])) name
-    → IsTrue (is_whole_at (after_all p (before ++ Delivered from k to count moment ∷ [])) name)
-    → Contains (pieces_sent name (after_all p before).sent) piece
-    → Contains piece.items item
-    → IsTrue (has ((after_all p (before ++ Delivered from k to count moment ∷ [])).at name.to).held item)
-    ⊎ IsOutlived p (before ++ Delivered from k to count moment ∷ []) item
+    → IsTrue (is_settled_at (after (after_all p before) settles) name.to)
+    → IsPresent (after (after_all p before) settles) name
+    → IsTrue (is_whole_at (after (after_all p before) settles) name)
+    → WasListed p before name item
+    → IsTrue (has ((after (after_all p before) settles).at name.to).held item)
+    ⊎ IsOutlived p (before ++ settles ∷ []) item

@@ -14,9 +14,9 @@ use Rattle.am_cluster.specs.Transfers.{answer_ask, asks_first, take_got, take_st
 
 -- ---- what becomes of it
 
--- the instance is meant: by an Answer or Ack that names its incarnation, wherever its operation is open; and at a replica by
--- every other message, but for a State that names another incarnation of its receiver, and a Got that names another incarnation
--- of the State's sender or comes from another one than that to which the State now goes
+-- the instance is meant: by an Answer or Ack that names its incarnation, wherever its operation is open; and at a
+-- replica by every other message, but for a State that names another incarnation of its receiver, and a Got that
+-- names another incarnation of the State's sender or comes from another one than that to which the State now goes
 abbrev pub is_meant : Here → Message → Body → Local → Bool
 is_meant here message (Answer operation incarnation items) local = incarnation == here.incarnation
 is_meant here message (Ack operation incarnation) local = incarnation == here.incarnation

@@ -1,4 +1,5 @@
--- What becomes of notices: the first try of an attempt, its outcome, the next try, and what records that a webhook was told.
+-- What becomes of notices: the first try of an attempt, its outcome, the next try, and what records that a webhook
+-- was told.
 use Rattle.std.specs.Prelude.{ℕ, Bool, List, [], ◌∷◌, Option}
 use Rattle.am_item.specs.declared.entry.EntryKey.{EntryKey}
 use Rattle.am_item.specs.declared.item.Item.{Item}

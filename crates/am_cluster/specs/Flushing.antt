@@ -15,8 +15,8 @@ use Rattle.am_cluster.specs.Reactions.{Reaction, each}
 abbrev pub begun : Here → Group → Local → Local
 begun here group local = with_replica (replica_begun (replica_here here) group (replica_local here local)) local
 
--- a group is flushed, where these label sets are muted: that is noted, and the webhooks of its receiver are told, in their
--- order, of what they weren't told before
+-- a group is flushed, where these label sets are muted: that is noted, and the webhooks of its receiver are told, in
+-- their order, of what they weren't told before
 unfoldable pub flushed : Here → (muted : List (List Label)) → Group → Local → Reaction
 flushed here muted group local =
     each (told here)

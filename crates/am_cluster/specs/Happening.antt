@@ -11,8 +11,8 @@ pub data Happening : Type 0 where
   Limited : (limits : TenantLimits) → Happening
   -- the clock was told this moment
   Ticked : (moment : ℕ) → Happening
-  -- a try of the attempt of this number at the instance, in this incarnation, came to an end, at an event with this moment of
-  -- its own: with the status of an answer, or without one
+  -- a try of the attempt of this number at the instance, in this incarnation, came to an end, at an event with this
+  -- moment of its own: with the status of an answer, or without one
   Tried : (instance incarnation number tries moment : ℕ) (status : Option ℕ) → Happening
   -- the tenant's message of this name reached its receiver, at an event with this moment of its own
   Delivered : (from incarnation to count moment : ℕ) → Happening

@@ -5,9 +5,9 @@ use Rattle.am_ring.specs.Instances.{is_among}
 use Rattle.am_cluster.specs.Origins.{TenantLimits}
 use Rattle.am_cluster.specs.Peers.{Peer, peer}
 
--- whose it is; its number and its incarnation; the moment; the tenant's limits; of the ring that it knows the epoch and the
--- tenant's three replicas, in order of position; whether it has stayed: it was never joined or restarted, and was one of the
--- three under every ring that it has known; and the present incarnation of every instance
+-- whose it is; its number and its incarnation; the moment; the tenant's limits; of the ring that it knows the epoch
+-- and the tenant's three replicas, in order of position; whether it has stayed: it was never joined or restarted, and
+-- was one of the three under every ring that it has known; and the present incarnation of every instance
 pub record Here : Type 0 where
   pub tenant : List ℕ
   pub instance : ℕ

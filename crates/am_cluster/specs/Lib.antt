@@ -12,8 +12,6 @@ pub mod Refused
 pub mod Roster
 -- messages
 pub mod Messages
--- messages as bytes
-pub mod Spelling
 -- open operations
 pub mod Operations
 -- the pieces of a State
@@ -72,3 +70,5 @@ pub mod SentFacts
 pub mod AcknowledgedWrites
 -- tenants whom nothing has named
 pub mod Unnamed
+-- clusters whose ring stays as it was opened
+pub mod Steady

@@ -9,17 +9,17 @@ use Rattle.am_cluster.specs.Here.{Here}
 use Rattle.am_cluster.specs.Operations.{Operation}
 use Rattle.am_cluster.specs.Settling.{Settling, untouched}
 
--- what it has counted of the tenant, and how far the tenant's words are drawn. (The attempts are counted at their desk.) All
--- this stays where the instance stops being a replica, and begins anew with an incarnation
+-- what it has counted of the tenant, and how far the tenant's words are drawn. (The attempts are counted at their
+-- desk.) All this stays where the instance stops being a replica, and begins anew with an incarnation
 pub record Ledger : Type 0 where
   pub stamps : ℕ
   pub messages : ℕ
   pub operations : ℕ
   pub drawn : ℕ
 
--- the best of the items that it accepted; of each alert among them the moment since which it is held; the last flush of each
--- group; how many notices it gave in the last minute in which it gave one; the open attempts; the open operations; how it
--- settles; and the ledger
+-- the best of the items that it accepted; of each alert among them the moment since which it is held; the last flush
+-- of each group; how many notices it gave in the last minute in which it gave one; the open attempts; the open
+-- operations; how it settles; and the ledger
 pub record Local : Type 0 where
   pub held : List Item
   pub sinces : List (List Label × ℕ)

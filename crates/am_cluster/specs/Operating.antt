@@ -1,5 +1,6 @@
--- Operations: a request goes to the three replicas, is decided at the second answer, and is replied to at the second Ack.
-use Rattle.std.specs.Prelude.{ℕ, ◌+◌, ◌&&◌, nat_le, nat_lt, ◌==◌, Bool, true, false, sum_by, codes, List, [], ◌∷◌, ◌++◌, length, filter, Option, Some, None, if◌then◌else◌}
+-- Operations: a request goes to the three replicas, is decided at the second answer, and is replied to at the second
+-- Ack.
+use Rattle.std.specs.Prelude.{ℕ, ◌+◌, ◌&&◌, nat_le, nat_lt, ◌==◌, Bool, true, false, sum_by, codes, List, [], ◌∷◌, ◌++◌, length, filter, Option, Some, None, option_map, if◌then◌else◌}
 use Rattle.am_alert.specs.Made.{counts_fit, greatest_count}
 use Rattle.am_alert.specs.declared.maker.Maker.{Maker}
 use Rattle.am_api.specs.Decision.{decided}
@@ -16,6 +17,9 @@ use Rattle.am_item.specs.declared.item.Thing.{Thing}
 use Rattle.am_item.specs.declared.item.Thing.TheVariants as thing
 use Rattle.am_words.specs.Words.{generator_of}
 use Rattle.rand_chacha.specs.ChaCha.{ChaCha}
+pub use Rattle.am_quorum.specs.Operations.{reply_for}
+use Rattle.am_quorum.specs.Operations.{lists_for}
+use Rattle.am_quorum.specs.declared.operation.Decide.{Decide as Lists}
 use Rattle.am_cluster.specs.Accepting.{counted}
 use Rattle.am_cluster.specs.Here.{Here}
 use Rattle.am_cluster.specs.Local.{Ledger, Local, with_operations}
@@ -75,8 +79,8 @@ replicas_changed local = each (finish (unavailable (codes "Q2"))) local.operatio
 
 -- ---- the decision
 
--- what decides on a request: a function of what the instance goes by, the request, the list of the two answers, and what the
--- instance has
+-- what decides on a request: a function of what the instance goes by, the request, the list of the two answers, and
+-- what the instance has
 abbrev pub Decide : Type 0
 Decide = Here → Request → List Item → Local → Decision
 
@@ -141,20 +145,18 @@ stamp decision local =
 abbrev pub wait_with : (reply : List ℕ) → Operation → Local → Reaction
 wait_with reply operation local = stays (at_stage (Decided reply None) operation local)
 
--- It is decided. Without items the reply goes out; otherwise the items go to the three, in the operation's epoch. (The three are
--- those with which it started: where they change, it is over.)
+-- It is decided. Without items the reply goes out; otherwise the items go to the three, in the operation's epoch.
+-- (The three are those with which it started: where they change, it is over.)
 unfoldable pub carry_out : Here → Operation → Decision → Local → Reaction
 carry_out here operation decision local =
     let bytes : List ℕ = reply decision.status decision.body in
     (stamp decision >> (if length decision.items == 0 then finish bytes operation
     else (wait_with bytes operation >> send_all operation.epoch here here.three (Put operation.number decision.items)))) local
 
--- the list on which an operation is decided, once this answer comes: the best of two answers, which are of different replicas
+-- the list on which an operation is decided, once this answer comes: the best of two answers, which are of different
+-- replicas
 abbrev pub list_for : Stage → Answered → Option (List Item)
-list_for (Undecided None) answer = None
-list_for (Undecided (Some first)) answer =
-    if first.from == answer.from then None else Some (merged first.items answer.items)
-list_for (Decided reply first) answer = None
+list_for stage answer = option_map (λ (lists : Lists). merged lists.first lists.second) (lists_for stage answer)
 
 -- an answer that doesn't decide: the first one is kept, and no other one adds anything
 abbrev pub first_answer : Operation → Stage → Answered → Local → Local
@@ -175,12 +177,6 @@ answered decide here number epoch answer local =
     (operation_of number epoch local.operations) local
 
 -- ---- Acks
-
--- the reply of an operation, once this replica has acknowledged: where it is the second one that did
-abbrev pub reply_for : Stage → (from : ℕ) → Option (List ℕ)
-reply_for (Undecided first) from = None
-reply_for (Decided reply None) from = None
-reply_for (Decided reply (Some first)) from = if first == from then None else Some reply
 
 -- an Ack that lets no reply out: the first one is kept, and no other one adds anything
 abbrev pub first_ack : Operation → Stage → (from : ℕ) → Local → Local

@@ -13,8 +13,8 @@ pub record TenantLimits : Type 0 where
 abbrev pub unset_limits : TenantLimits
 unset_limits = record { usual = default_limits; alert_bytes = None }
 
--- what every tenant's cluster starts from: the service's key, the ring and the first incarnation; and the limits of a tenant
--- until others are set for it
+-- what every tenant's cluster starts from: the service's key, the ring and the first incarnation; and the limits of a
+-- tenant until others are set for it
 pub record Origin : Type 0 where
   pub setting : Setting
   pub limits : TenantLimits

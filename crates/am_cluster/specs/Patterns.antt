@@ -12,8 +12,8 @@ use Rattle.am_cluster.specs.Deciding.{Deciding, deciding_at, decision_of}
 use Rattle.am_cluster.specs.Happening.{Happening, Asked, Changed, Delivered, Forced, Limited, Lost, Ticked, Tried}
 use Rattle.am_cluster.specs.PrivateCluster.{PrivateCluster}
 
--- where the request is accepted, which is that something is stored or the reply is no refusal, a regex was built of each pattern
--- that it brings
+-- where the request is accepted, which is that something is stored or the reply is no refusal, a regex was built of
+-- each pattern that it brings
 abbrev pub AcceptsBuilt : Request → Decision → Type 0
 AcceptsBuilt request d = (0 < length d.items) ⊎ (d.status < 400) → All HasRegex (patterns_of_request request)
 

@@ -1,8 +1,8 @@
 -- A State is one list, sent in pieces: how it is cut, what was sent of it, and how far it came.
 use Rattle.std.specs.Prelude.{ℕ, ◌+◌, ◌^◌, Bool, true, false, ◌&&◌, ◌||◌, not, ◌==◌, nat_le, nat_lt, fold, max, List, [], ◌∷◌, ◌++◌, length, filter, sum_by, if◌then◌else◌}
 use Rattle.am_item.specs.declared.item.Item.{Item}
+use Rattle.am_wire.specs.ItemFields.{item_bytes}
 use Rattle.am_cluster.specs.Peers.{ByNumber}
-use Rattle.am_cluster.specs.Spelling.{bytes_of_item}
 
 -- ---- how a list is cut
 
@@ -21,7 +21,7 @@ abbrev pub most_bytes : ℕ
 most_bytes = 2 ^ 16
 
 abbrev pub size_of : Item → ℕ
-size_of item = length (bytes_of_item item)
+size_of item = length (item_bytes item)
 
 -- a piece that holds these takes one item more
 abbrev pub takes : List Item → Item → Bool
@@ -59,8 +59,8 @@ pieces_from place pieces = filter (λ (p : Piece). nat_le place p.place) pieces
 
 -- ---- what was sent
 
--- the list of a State: what was held when it was first sent to this incarnation of its receiver in this epoch; the greatest
--- place that a Got named of it; and whether one named its end
+-- the list of a State: what was held when it was first sent to this incarnation of its receiver in this epoch; the
+-- greatest place that a Got named of it; and whether one named its end
 pub record SentList : Type 0 where
   pub items : List Item
   pub reached : ℕ
@@ -77,7 +77,8 @@ named_at place list = record list {
   is_ended = list.is_ended || place == length list.items;
 }
 
--- what goes out: the pieces from the greatest place that a Got named; to one who asks after the end was named, all of them
+-- what goes out: the pieces from the greatest place that a Got named; to one who asks after the end was named, all of
+-- them
 abbrev pub pieces_to_send : (is_asked : Bool) → SentList → List Piece
 pieces_to_send is_asked list = pieces_from (if is_asked && list.is_ended then 0 else list.reached) (cut list.items)
 

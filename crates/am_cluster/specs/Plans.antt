@@ -1,5 +1,5 @@
--- What an instance has planned of a tenant. Nothing of it is stored: it is computed from what is held, by the configuration that
--- is in use and by the position of the instance, whenever something is asked of it.
+-- What an instance has planned of a tenant. Nothing of it is stored: it is computed from what is held, by the
+-- configuration that is in use and by the position of the instance, whenever something is asked of it.
 use Rattle.std.specs.Prelude.{ℕ, List, [], map, Option, Some, None, if◌then◌else◌}
 use Rattle.am_agenda.specs.Plan.{Plan}
 use Rattle.am_config.specs.Configuration.{Configuration}

@@ -1,11 +1,13 @@
--- The private cluster of one tenant: what all instances would have if no other tenant were there, and how they react. There is no
--- queue, table, index or cache in it.
-use Rattle.std.specs.Prelude.{ℕ, Bool, true, List, [], ◌∷◌, ◌++◌, map, if◌then◌else◌}
+-- The private cluster of one tenant: what all instances would have if no other tenant were there, and how they react.
+-- There is no queue, table, index or cache in it.
+use Rattle.std.specs.Prelude.{◌≡◌, ℕ, ◌<◌, Bool, true, Contains, List, [], ◌∷◌, ◌++◌, map, if◌then◌else◌}
 use Rattle.std.specs.List.{flat_map, list_all}
+use Rattle.am_item.specs.Key.{key_of}
 use Rattle.am_item.specs.declared.item.Item.{Item}
 use Rattle.am_ring.specs.Replicas.{replicas}
 use Rattle.am_rows.specs.Rows.{stored_in}
 use Rattle.am_setup.specs.Setup.{numbers}
+use Rattle.am_wire.specs.Messages.{spelling}
 use Rattle.am_cluster.specs.Events.{Notice, Output, Reply, Send}
 use Rattle.am_cluster.specs.Here.{Here}
 use Rattle.am_cluster.specs.Local.{Local, blank}
@@ -14,10 +16,10 @@ use Rattle.am_cluster.specs.Reactions.{Reaction, Replies, Said, Sends, Tells, st
 use Rattle.am_cluster.specs.RingChanges.{opened as opened_with}
 use Rattle.am_cluster.specs.Roster.{Roster, has_stayed, opened_roster, put_at, three_at}
 use Rattle.am_cluster.specs.Sent.{Sent, sent_at}
-use Rattle.am_cluster.specs.Spelling.{spelling}
 
--- whose it is, the tenant's three replicas by ring, in order of position, and the service's key, which never change; the moment of the last tick; the tenant's limits; the instances; by
--- number what each has while it is up, and what its store keeps while it isn't; and all messages that were sent
+-- whose it is, the tenant's three replicas by ring, in order of position, and the service's key, which never change;
+-- the moment of the last tick; the tenant's limits; the instances; by number what each has while it is up, and what
+-- its store keeps while it isn't; and all messages that were sent
 pub record PrivateCluster : Type 0 where
   pub tenant : List ℕ
   pub replicas_by : (ring : List ℕ) → List ℕ
@@ -29,8 +31,8 @@ pub record PrivateCluster : Type 0 where
   pub rows : ℕ → List Item
   pub sent : List Sent
 
--- what comes of something that happens: the cluster afterwards, what it put out, in order, and whether no count passed the
--- greatest and no message was too long
+-- what comes of something that happens: the cluster afterwards, what it put out, in order, and whether no count
+-- passed the greatest and no message was too long
 pub record Course : Type 0 where
   pub cluster : PrivateCluster
   pub outputs : List Output
@@ -114,7 +116,15 @@ with_opened i p = record p {
 
 -- ---- its start
 
--- before any instance is opened, where the tenant's replicas are so by ring, with these rows of the tenant in the stores
+-- what stores may have of the tenant before the opening: each row was stamped in an incarnation before the first one,
+-- and rows of one key and stamp are the same, whichever stores have them
+pub record AreEarlier (first : ℕ) (rows : ℕ → List Item) : Type 0 where
+  pub earlier : (i : ℕ) (item : Item) → Contains (rows i) item → item.stamp.incarnation < first
+  pub same : (i j : ℕ) (x y : Item) → Contains (rows i) x → Contains (rows j) y → key_of x ≡ key_of y → x.stamp ≡ y.stamp
+      → x ≡ y
+
+-- before any instance is opened, where the tenant's replicas are so by ring, with these rows of the tenant in the
+-- stores
 abbrev pub unopened : (replicas_by : List ℕ → List ℕ) → Origin → (tenant : List ℕ) → (rows : ℕ → List Item) → PrivateCluster
 unopened replicas_by origin tenant rows = record {
   tenant = tenant;

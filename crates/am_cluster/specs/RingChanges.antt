@@ -1,5 +1,5 @@
 -- What an instance does where it is opened, where it goes on to another ring, and where another one was restarted.
-use Rattle.std.specs.Prelude.{ℕ, Bool, ◌&&◌, not, List, length, ◌==◌, if◌then◌else◌}
+use Rattle.std.specs.Prelude.{ℕ, Bool, ◌&&◌, not, List, if◌then◌else◌}
 use Rattle.std.specs.List.{list_all}
 use Rattle.am_item.specs.declared.item.Item.{Item}
 use Rattle.am_outlet.specs.Attempts.{cleared}
@@ -16,8 +16,7 @@ use Rattle.am_cluster.specs.Transfers.{asks_first, begin_push}
 
 -- a replica accepts the rows that it finds in its store where it is opened; any other instance drops them
 unfoldable pub opened : Here → (rows : List Item) → Local
-opened here rows =
-    if is_replica_here here && not (length rows == 0) then accepted here.moment rows blank else blank
+opened here rows = if is_replica_here here then accepted here.moment rows blank else blank
 
 -- a replica that was joined or restarted asks, where it holds an item
 unfoldable pub just_opened : Here → Local → Reaction
@@ -50,8 +49,8 @@ go_on_or_drop here before local =
     if is_replica_here here then go_on here before local
     else stays (if is_among here.instance before then dropped local else local)
 
--- the instance goes by another ring from now on, and the three were these before: where they are others now, its open operations
--- are answered so; then it sends
+-- the instance goes by another ring from now on, and the three were these before: where they are others now, its open
+-- operations are answered so; then it sends
 unfoldable pub ring_learned : Here → (before : List ℕ) → Local → Reaction
 ring_learned here before local =
     (only_if (not (are_same before here.three)) replicas_changed >> go_on_or_drop here before) local
@@ -67,8 +66,8 @@ abbrev pub push_if_settled : Here → (restarted : ℕ) → Local → Reaction
 push_if_settled here r local =
     only_if (is_replica_here here && (is_settled here local && holds_any local)) (begin_push here r) local
 
--- another instance was restarted: where this one knows it as one of the three, its open operations are answered that the replicas
--- changed; then it sends
+-- another instance was restarted: where this one knows it as one of the three, its open operations are answered that
+-- the replicas changed; then it sends
 unfoldable pub other_restarted : Here → (restarted : ℕ) → Local → Reaction
 other_restarted here r local =
     only_if (is_among r here.three) (replicas_changed >> (end_push r >> push_if_settled here r)) local

@@ -103,7 +103,8 @@ with_opened_in rings i roster = record {
   first = roster.first;
 }
 
--- the roster after such an event: a join and a leave make a ring, which one that joins knows at once and the others learn later
+-- the roster after such an event: a join and a leave make a ring, which one that joins knows at once and the others
+-- learn later
 unfoldable pub roster_after : RingEvent → Roster → Roster
 roster_after (Joins i) roster =
     with_opened_in (roster.rings ++ with_instance i (ring_now roster) ∷ []) i roster

@@ -1,11 +1,11 @@
 -- Messages that an instance sends: each takes the tenant's next count there.
 use Rattle.std.specs.Prelude.{ℕ, ◌+◌, ◌-◌, ◌^◌, ◌&&◌, nat_le, length, List, [], ◌∷◌}
 use Rattle.am_alert.specs.Made.{greatest_count}
+use Rattle.am_wire.specs.Messages.{spelling}
 use Rattle.am_cluster.specs.Here.{Here}
 use Rattle.am_cluster.specs.Local.{Local}
 use Rattle.am_cluster.specs.Messages.{Body, Message}
 use Rattle.am_cluster.specs.Reactions.{Reaction, Sends, each}
-use Rattle.am_cluster.specs.Spelling.{spelling}
 
 -- a whole message has at most so many bytes, those of its length with them
 abbrev pub longest_message : ℕ

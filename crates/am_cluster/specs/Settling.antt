@@ -1,4 +1,5 @@
--- How far an instance has come in holding what the tenant's other replicas hold, and what it sends them so that they do.
+-- How far an instance has come in holding what the tenant's other replicas hold, and what it sends them so that they
+-- do.
 use Rattle.std.specs.Prelude.{ℕ, Bool, true, false, ◌&&◌, ◌||◌, not, ◌==◌, List, [], filter, Option, None, is_some, option_map, unwrap_or, if◌then◌else◌}
 use Rattle.std.specs.List.{list_any, list_all}
 use Rattle.std.specs.Option.{option_map_or}
@@ -12,9 +13,9 @@ pub record Push : Type 0 where
   pub incarnation : ℕ
   pub last : ℕ
 
--- Whether the instance became settled in its incarnation, by the States of both others or by force. The rest is of the epoch
--- that it knows: of the States that came, by sender and place, the spans; of its own, by receiver, the lists; by receiver the
--- pushes; and the moment at which it last asked, where it did.
+-- Whether the instance became settled in its incarnation, by the States of both others or by force. The rest is of
+-- the epoch that it knows: of the States that came, by sender and place, the spans; of its own, by receiver, the
+-- lists; by receiver the pushes; and the moment at which it last asked, where it did.
 pub record Settling : Type 0 where
   pub has_settled : Bool
   pub came : ByPeer (ByNumber Span)
@@ -74,8 +75,8 @@ abbrev pub goes_to : (to present : ℕ) → Settling → ℕ
 goes_to to present s = option_map_or (λ (p : Push). p.incarnation) (at_number to s.pushes) present
 
 -- the list for a receiver: the one that was sent to it, or else what is held now
-abbrev pub list_for : (receiver : Peer) → (held : List Item) → Settling → SentList
-list_for receiver held s = unwrap_or (at_peer receiver s.lists) (first_sent held)
+abbrev pub sent_list_for : (receiver : Peer) → (held : List Item) → Settling → SentList
+sent_list_for receiver held s = unwrap_or (at_peer receiver s.lists) (first_sent held)
 
 abbrev pub with_list : (receiver : Peer) → SentList → Settling → Settling
 with_list receiver list s = record s { lists = with_peer receiver list s.lists }
@@ -91,7 +92,7 @@ named_in receiver place s =
 
 -- ---- another ring
 
--- to whom a settled replica that holds an item begins a push in a new epoch: those that weren't among the three before, and
--- those to whom a push ran that no Got had ended
+-- to whom a settled replica that holds an item begins a push in a new epoch: those that weren't among the three
+-- before, and those to whom a push ran that no Got had ended
 abbrev pub to_push : (others before : List ℕ) → Settling → List ℕ
 to_push others before s = filter (λ i. not (is_among i before) || has_push i s) others

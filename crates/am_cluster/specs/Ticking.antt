@@ -1,4 +1,5 @@
--- What an instance does at a tick: it drops what is retired, and then does what is due, by timers that it computes anew.
+-- What an instance does at a tick: it drops what is retired, and then does what is due, by timers that it computes
+-- anew.
 use Rattle.std.specs.Prelude.{ℕ, Bool, List, ◌++◌, map, Option, Some, None, unwrap_or}
 use Rattle.am_agenda.specs.Plan.{Plan, flush_due, group_in, in_order, timers_in}
 use Rattle.am_current.specs.Current.{configuration_in}
@@ -6,6 +7,7 @@ use Rattle.am_item.specs.Retirement.{moment_after}
 use Rattle.am_labels.specs.declared.Label.{Label}
 use Rattle.am_muting.specs.Muting.{muted_sets}
 use Rattle.am_outlet.specs.Attempts.{is_due}
+use Rattle.am_quorum.specs.Operations.{due_of}
 use Rattle.am_ring.specs.Instances.{is_among}
 use Rattle.am_timer.specs.Queue.{due_at}
 use Rattle.am_timer.specs.Timer.{Key, Timer}
@@ -24,10 +26,6 @@ use Rattle.am_cluster.specs.Retiring.{retired}
 use Rattle.am_cluster.specs.Settling.{Push}
 use Rattle.am_cluster.specs.Transfers.{ask, asked, push}
 
--- an operation is given up where it has been open so many milliseconds
-abbrev pub deadline : ℕ
-deadline = 5000
-
 -- a State that is pushed and an Ask are sent again so many milliseconds after they were last sent
 abbrev pub again_after : ℕ
 again_after = 10_000
@@ -39,7 +37,7 @@ timer_at t key due = record { due = due; name = record { tenant = t; key = key }
 
 abbrev pub deadlines : (tenant : List ℕ) → Local → List Timer
 deadlines t local =
-    map (λ (o : Operation). timer_at t (OperationKey o.number) (moment_after o.started_at deadline)) local.operations
+    map (λ (o : Operation). timer_at t (OperationKey o.number) (due_of o)) local.operations
 
 abbrev pub push_timers : (tenant : List ℕ) → Local → List Timer
 push_timers t local = map (λ e. timer_at t (PushKey e.0) (moment_after (e.1).last again_after)) local.settling.pushes
@@ -49,8 +47,8 @@ ask_timers here local =
     map (λ i. timer_at here.tenant (PushKey i) (moment_after (unwrap_or local.settling.asked_at 0) again_after))
     (asked here local)
 
--- all timers of the tenant, in order: deadlines of operations, flushes of groups, tries of attempts, pushes and Asks. (No
--- instance has a push and an Ask to the same one: only a settled replica pushes, only an unsettled one asks.)
+-- all timers of the tenant, in order: deadlines of operations, flushes of groups, tries of attempts, pushes and Asks.
+-- (No instance has a push and an Ask to the same one: only a settled replica pushes, only an unsettled one asks.)
 unfoldable pub timers_of : Here → Local → List Timer
 timers_of here local =
     in_order (deadlines here.tenant local ++ (timers_in here.tenant (plan_of here local)

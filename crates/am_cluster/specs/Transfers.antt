@@ -9,7 +9,7 @@ use Rattle.am_cluster.specs.Peers.{Peer}
 use Rattle.am_cluster.specs.Pieces.{Piece, SentList, pieces_to_send, reach_of}
 use Rattle.am_cluster.specs.Reactions.{Reaction, each, only_if, stays}
 use Rattle.am_cluster.specs.Sending.{send}
-use Rattle.am_cluster.specs.Settling.{Settling, lacking, list_for, named_in, now_settled, settled_by, spans_from, with_list, with_push, with_span}
+use Rattle.am_cluster.specs.Settling.{Settling, lacking, named_in, now_settled, sent_list_for, settled_by, spans_from, with_list, with_push, with_span}
 
 -- ---- Asks
 
@@ -34,7 +34,7 @@ asks_first here local =
 -- what is left of the State goes out to a receiver; its list is what is held when it first does
 unfoldable pub send_state : Here → (is_asked : Bool) → (receiver : Peer) → Local → Reaction
 send_state here is_asked receiver local =
-    let list : SentList = list_for receiver local.held local.settling in
+    let list : SentList = sent_list_for receiver local.held local.settling in
     each (λ (p : Piece). send here receiver.instance (State receiver.incarnation p.place p.is_last p.items))
     (pieces_to_send is_asked list)
     (with_settling (with_list receiver list local.settling) local)
@@ -51,7 +51,8 @@ begin_push here to local = push here (peer_now here to) local
 
 -- ---- what a State, an Ask and a Got do
 
--- a piece of a State is accepted as it comes; perhaps it settles the instance; and a Got tells up to which place all came
+-- a piece of a State is accepted as it comes; perhaps it settles the instance; and a Got tells up to which place all
+-- came
 unfoldable pub take_state : Here → (sender : Peer) → (place : ℕ) → (is_last : Bool) → List Item → Local → Reaction
 take_state here sender place is_last items local =
     let s : Settling = with_span sender place (record { count = length items; is_last = is_last }) local.settling in

@@ -1,9 +1,10 @@
 //! Laws of the private cluster, which no program needs to call.
 
-ghost use Rattle.std.specs.Prelude.{◌≡◌, ℕ, [], ◌∷◌, ◌++◌, List, None, IsTrue, flat_map};
+ghost use Rattle.std.specs.Prelude.{◌≡◌, ℕ, [], ◌∷◌, ◌++◌, List, None, IsTrue, false, flat_map};
 ghost use Rattle.am_item.specs.declared.item.Item.{Item};
 ghost use Rattle.am_ring.specs.Instances.{in_order};
 ghost use Rattle.am_ring.specs.Replicas.{ReplacesOne};
+ghost use Rattle.am_setup.specs.Setup.{Origin as Setting};
 ghost use Rattle.am_cluster.specs.Courses.{after_all, told_all};
 ghost use Rattle.am_cluster.specs.Happening.{Happening};
 ghost use Rattle.am_cluster.specs.Here.{Here, is_replica_here};
@@ -12,13 +13,14 @@ ghost use Rattle.am_cluster.specs.Messages.{Get};
 ghost use Rattle.am_cluster.specs.Origins.{Origin};
 ghost use Rattle.am_cluster.specs.Pieces.{Piece, cut};
 ghost use Rattle.am_cluster.specs.Plans.{plan_of};
-ghost use Rattle.am_cluster.specs.PrivateCluster.{PrivateCluster, opened};
+ghost use Rattle.am_cluster.specs.PrivateCluster.{PrivateCluster, here_at, opened};
 ghost use Rattle.am_cluster.specs.Reactions.{stays};
-ghost use Rattle.am_cluster.specs.Roster.{RingEvent, Roster, ring_event_refusal, ring_now, roster_after};
+ghost use Rattle.am_cluster.specs.Roster.{RingEvent, Roster, opened_roster, ring_event_refusal, ring_now, roster_after};
 ghost use Rattle.am_cluster.specs.SentFacts.{AreLists, AreNamedOnce};
 ghost use Rattle.am_cluster.specs.Settling.{untouched};
-ghost use Rattle.am_cluster.specs.Spelling.{spelling};
+ghost use Rattle.am_cluster.specs.Steady.{IsSteady, any_moves};
 ghost use Rattle.am_cluster.specs.Ticking.{deadlines, timers_of};
+ghost use Rattle.am_wire.specs.Messages.{spelling};
 ghost use Rattle.am_agenda.specs.Plan.{in_order as timers_in_order, timers_in};
 ghost use Rattle.am_cluster.specs.Transfers.{asks_first};
 ghost use Rattle.am_cluster.specs.Unnamed.{IsUnnamed, name_nobody};
@@ -32,6 +34,7 @@ pub fn unnamed_tenants()
 
 /// A join or a leave, as any other event of the ring, puts at most one replica of a tenant in another's place.
 pub fn one_replica_changes()
+    ensures opened { (setting : Setting) → ring_now (opened_roster setting) ≡ in_order (ring_now (opened_roster setting)) }
     ensures one { (tenant : List ℕ) (roster : Roster) (event : RingEvent) → ring_now roster ≡ in_order (ring_now roster)
         → ring_event_refusal event roster ≡ None → ReplacesOne tenant (ring_now roster) (ring_now (roster_after event roster)) }
     ensures ordered { (roster : Roster) (event : RingEvent) → ring_now roster ≡ in_order (ring_now roster)
@@ -39,9 +42,13 @@ pub fn one_replica_changes()
         → ring_now (roster_after event roster) ≡ in_order (ring_now (roster_after event roster)) }
 {}
 
-/// While the ring stays as it was opened, and no instance is restarted, the replicas are those that are settled, nobody asks, and the
-/// timers are deadlines, flushes and tries.
+/// While no instance joins, leaves or is restarted, the replicas are those that are settled, whatever else happens,
+/// and nothing by which instances settle is sent: nobody asks, and the timers are deadlines, flushes and tries.
 pub fn settled_from_the_start()
+    ensures opened { (origin : Origin) (tenant : List ℕ) (rows : ℕ → List Item) → IsSteady (opened origin tenant rows) }
+    ensures stay { (p : PrivateCluster) (hs : List Happening) → IsSteady p → any_moves hs ≡ false → IsSteady (after_all p hs) }
+    ensures all { (p : PrivateCluster) (moment i : ℕ) → IsSteady p
+        → is_settled (here_at p moment i) (p.at i) ≡ is_replica_here (here_at p moment i) }
     ensures settled { (here : Here) (local : Local) → here.stayed ≡ is_replica_here here → local.settling ≡ untouched
         → is_settled here local ≡ is_replica_here here }
     ensures nobody_asks { (here : Here) (local : Local) → here.stayed ≡ is_replica_here here → asks_first here local ≡ stays local }
@@ -56,8 +63,8 @@ pub fn messages_are_named_once()
         → AreNamedOnce (after_all (opened origin tenant rows) hs).sent }
 {}
 
-/// The pieces of a State that were sent, in one epoch and to one incarnation of its receiver, are those into which one list is
-/// cut, however often they were sent.
+/// The pieces of a State that were sent, in one epoch and to one incarnation of its receiver, are those into which
+/// one list is cut, however often they were sent.
 pub fn states_are_lists()
     ensures { (origin : Origin) (tenant : List ℕ) (rows : ℕ → List Item) (hs : List Happening)
         → AreLists (after_all (opened origin tenant rows) hs).sent }

@@ -4,3 +4,5 @@ pub mod StandIn
 pub mod Scenario
 -- the rows: what is played, and what comes of it
 pub mod Rows
+-- three runs in which the words on acknowledged writes are evaluated
+pub mod Stays

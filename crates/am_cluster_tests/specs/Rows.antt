@@ -1,5 +1,5 @@
--- The rows: scenarios, and what comes of them. The ring holds the instances 1, 2 and 3, and the tenant `a` has there the replicas
--- 2, 1 and 3, in this order; with instance 4 they are 2, 4 and 1.
+-- The rows: scenarios, and what comes of them. The ring holds the instances 1, 2 and 3, and the tenant `a` has there
+-- the replicas 2, 1 and 3, in this order; with instance 4 they are 2, 4 and 1.
 use Rattle.std.specs.Prelude.{ℕ, ◌+◌, Bool, List, [], ◌∷◌, ◌++◌, codes, length, Option, Some, None, ◌&&◌, ◌==◌, if◌then◌else◌}
 use Rattle.std.specs.List.{filter_map}
 use Rattle.am_http.specs.Replies.{refusal, reply}
@@ -66,6 +66,34 @@ put_lost =
 
 abbrev pub put_and_answer_lost : List Line
 put_and_answer_lost = put_lost ++ (call 2 1 get_alerts ∷ deliver 1 1 2 9 ∷ drop 2 2 1 ∷ pump ∷ [])
+
+-- ---- repeats add nothing
+
+-- the Get is delivered to instance 2 twice, and each of its two Answers twice
+abbrev pub answered_twice : List Line
+answered_twice =
+    call 1 1 get_alerts ∷ deliver 1 1 2 1 ∷ deliver 1 1 2 1 ∷ deliver 2 1 1 1 ∷ deliver 2 1 1 1 ∷ deliver 2 1 1 2
+    ∷ deliver 2 1 1 2 ∷ []
+
+-- the Put is delivered to instance 2, and its Ack twice
+abbrev pub acknowledged_by_one : List Line
+acknowledged_by_one =
+    call 1 1 (post_alerts (codes "b")) ∷ deliver 1 1 2 1 ∷ deliver 2 1 1 1 ∷ deliver 1 1 1 2 ∷ deliver 1 1 1 4
+    ∷ deliver 1 1 2 5 ∷ deliver 2 1 1 2 ∷ deliver 2 1 1 2 ∷ []
+
+-- .. and to instance 1
+abbrev pub acknowledged_by_two : List Line
+acknowledged_by_two = acknowledged_by_one ++ (deliver 1 1 1 6 ∷ deliver 1 1 1 8 ∷ [])
+
+-- ---- the replicas change under an open operation
+
+-- it learns a ring in which another instance is one of the three
+abbrev pub replaced : List Line
+replaced = call 1 1 get_alerts ∷ change (Joins 4) ∷ learn_all ∷ []
+
+-- one of the three is restarted
+abbrev pub restarted : List Line
+restarted = call 1 1 get_alerts ∷ change (Crashes 2) ∷ change (Restarts 2) ∷ []
 
 -- ---- two of three crash: a deadline, then settling, then force
 
@@ -158,6 +186,11 @@ old_answers =
 
 abbrev pub leave_of_three : List Line
 leave_of_three = change (Leaves 1) ∷ []
+
+-- a message is lost a minute after it was sent
+abbrev pub lost_in_time : List Line
+lost_in_time =
+    call 1 1 get_alerts ∷ at (z + 59_999) ∷ tick ∷ deliver 1 1 2 1 ∷ at (z + 60_000) ∷ tick ∷ deliver 1 1 2 1 ∷ []
 
 -- a message that was given up is lost
 abbrev pub given_up : List Line

@@ -12,7 +12,7 @@ use Rattle.am_cluster.specs.Refused.{Refused}
 use Rattle.am_cluster.specs.Rings.{newest_epoch}
 use Rattle.am_cluster.specs.Roster.{Learns, RingEvent}
 use Rattle.am_cluster.specs.Sent.{Sent, is_lost}
-use Rattle.am_cluster.specs.Spelling.{kind_of}
+use Rattle.am_wire.specs.Messages.{body_number, kind_of_body}
 use Rattle.am_cluster_tests.specs.StandIn.{stand_in}
 
 -- a line of a scenario
@@ -44,8 +44,8 @@ pub record Name : Type 0 where
   pub to : ℕ
   pub count : ℕ
 
--- the cluster, the own moment, which messages were handed over or kept back, of which kinds and receivers every one is kept back,
--- what was put out, and what was refused
+-- the cluster, the own moment, which messages were handed over or kept back, of which kinds and receivers every one
+-- is kept back, what was put out, and what was refused
 pub record Play : Type 0 where
   pub cluster : PrivateCluster
   pub moment : ℕ
@@ -78,7 +78,7 @@ abbrev pub is_same : Name → Name → Bool
 is_same a b = a.from == b.from && (a.incarnation == b.incarnation && (a.to == b.to && a.count == b.count))
 
 abbrev pub is_blocked : Message → List (ℕ × ℕ) → Bool
-is_blocked m blocked = list_any (λ b. kind_of m.body == b.0 && m.to == b.1) blocked
+is_blocked m blocked = list_any (λ b. body_number (kind_of_body m.body) == b.0 && m.to == b.1) blocked
 
 abbrev pub waits : Play → Sent → Bool
 waits play sent =
@@ -104,7 +104,7 @@ pumped (suc most) (Some sent) play =
 
 abbrev pub is_kind : (kind from to : ℕ) → Sent → Bool
 is_kind kind from to sent =
-    kind_of sent.message.body == kind && (sent.message.from == from && sent.message.to == to)
+    body_number (kind_of_body sent.message.body) == kind && (sent.message.from == from && sent.message.to == to)
 
 abbrev pub kept_back : Option Sent → Play → Play
 kept_back None play = play

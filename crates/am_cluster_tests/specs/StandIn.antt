@@ -1,5 +1,5 @@
--- A decision that stands in for the real one: a POST stores an alert for each byte of its body, and a GET lists those bytes; or, of
--- the configuration, stores the body as its text, and reads that.
+-- A decision that stands in for the real one: a POST stores an alert for each byte of its body, and a GET lists those
+-- bytes; or, of the configuration, stores the body as its text, and reads that.
 use Rattle.std.specs.Prelude.{ℕ, ◌+◌, List, [], ◌∷◌, codes, map, Some, option_map, unwrap_or}
 use Rattle.std.specs.List.{flat_map}
 use Rattle.am_alert.specs.Made.{made, stamp_moment}

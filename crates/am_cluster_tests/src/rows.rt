@@ -3,7 +3,7 @@
 ghost use Rattle.std.specs.Prelude.{◌≡◌, true, false, [], ◌∷◌, codes};
 ghost use Rattle.am_ring.specs.Replicas.{replicas};
 ghost use Rattle.am_cluster.specs.Refused.{NotSent, RingSmall};
-ghost use Rattle.am_cluster_tests.specs.Rows.{configuration_put_lost, first_piece_lost, given_up, join_settles, join_unsettled, leave_of_three, not_yet_learned, ok, old_answers, pieces_between, played_out, posted_and_listed, put_and_answer_lost, read_after_stop, refused_as, second_piece_lost, served_by_another, stopped_and_started, text, two_crash, write_survives};
+ghost use Rattle.am_cluster_tests.specs.Rows.{acknowledged_by_one, acknowledged_by_two, answered_twice, configuration_put_lost, first_piece_lost, given_up, join_settles, join_unsettled, leave_of_three, lost_in_time, not_yet_learned, ok, old_answers, pieces_between, played_out, posted_and_listed, put_and_answer_lost, read_after_stop, refused_as, replaced, restarted, second_piece_lost, served_by_another, stopped_and_started, text, two_crash, write_survives};
 ghost use Rattle.am_cluster_tests.specs.Scenario.{replies};
 ghost use Rattle.am_cluster_tests.specs.StandIn.{tenant};
 
@@ -17,6 +17,19 @@ pub fn replicas_of_rings()
 pub fn requests()
     ensures listed { replies (played_out posted_and_listed) ≡ (1, ok []) ∷ (2, ok (codes "b")) ∷ [] }
     ensures lost { replies (played_out put_and_answer_lost) ≡ (1, ok []) ∷ (2, ok (codes "b")) ∷ [] }
+{}
+
+/// An answer or an Ack that comes again, or comes from the same replica, adds nothing.
+pub fn repeats()
+    ensures answers { replies (played_out answered_twice) ≡ [] }
+    ensures one_ack { replies (played_out acknowledged_by_one) ≡ [] }
+    ensures two_acks { replies (played_out acknowledged_by_two) ≡ (1, ok []) ∷ [] }
+{}
+
+/// An open operation ends where another ring has other replicas, and where one of the three is restarted.
+pub fn endings()
+    ensures other_replicas { replies (played_out replaced) ≡ (1, refused_as (codes "Q2")) ∷ [] }
+    ensures new_life { replies (played_out restarted) ≡ (1, refused_as (codes "Q2")) ∷ [] }
 {}
 
 /// Where two of three crash, a request times out, also when they came again, until they are settled by force.
@@ -47,8 +60,9 @@ pub fn writes()
     ensures old_ones { replies (played_out old_answers) ≡ (2, refused_as (codes "Q1")) ∷ [] }
 {}
 
-/// One of only three can't leave, and a message that was given up is lost.
+/// One of only three can't leave, and a message that was given up is lost, as is one that was sent a minute ago.
 pub fn refusals()
     ensures small { (played_out leave_of_three).refused ≡ RingSmall ∷ [] }
     ensures gone { (played_out given_up).refused ≡ NotSent ∷ NotSent ∷ [] }
+    ensures lost { (played_out lost_in_time).refused ≡ NotSent ∷ [] }
 {}

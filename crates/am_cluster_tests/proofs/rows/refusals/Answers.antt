@@ -35,7 +35,7 @@ use Rattle.am_wire.specs.Fields.{number_bytes, text_bytes}
 use Rattle.am_wire.specs.ItemFields.{stamp_bytes, alert_bytes, item_bytes}
 use Rattle.am_wire.specs.LabelFields.{label_bytes, labels_bytes}
 use Rattle.am_draft.specs.Forests.{forest_of}
-use Rattle.am_cluster_tests.specs.Rows.{given_up, leave_of_three, played_by}
+use Rattle.am_cluster_tests.specs.Rows.{given_up, leave_of_three, lost_in_time, played_by}
 use Rattle.am_cluster_tests.proofs.Table.{table, table_is}
 use Rattle.am_cluster_tests.proofs.rows.refusals.Goals as goal
 
@@ -46,3 +46,7 @@ returns-clause-small c = ap (λ (f : List ℕ → List ℕ). (played_by f leave_
 pub returns-clause-gone : goal.returns-clause-gone
 unfolding table flush_due timers_in last_of_each items_from made accepted arrive changed refusal_of handled_by course_by start finish replicas_changed answered acked carry_out cut reach_of grouped_of plan_of here_at react_one react_all retired opened_with just_opened dropped ring_learned other_restarted is_always_replica three_at has_stayed ring_event_refusal roster_after send_in posted timers_of handled ticked ask asks_first send_state push take_state answer_ask take_got forced configuration_in groups_of phrase_of best key_cmp retires_at stamp_cmp labels_cmp paces_of planned_alerts with_instance join_refusal leave_refusal in_order routes_among stored_in timer_key_cmp number_bytes text_bytes stamp_bytes alert_bytes item_bytes label_bytes labels_bytes forest_of
 returns-clause-gone c = ap (λ (f : List ℕ → List ℕ). (played_by f given_up).refused) table_is
+
+pub returns-clause-lost : goal.returns-clause-lost
+unfolding table flush_due timers_in last_of_each items_from made accepted arrive changed refusal_of handled_by course_by start finish replicas_changed answered acked carry_out cut reach_of grouped_of plan_of here_at react_one react_all retired opened_with just_opened dropped ring_learned other_restarted is_always_replica three_at has_stayed ring_event_refusal roster_after send_in posted timers_of handled ticked ask asks_first send_state push take_state answer_ask take_got forced configuration_in groups_of phrase_of best key_cmp retires_at stamp_cmp labels_cmp paces_of planned_alerts with_instance join_refusal leave_refusal in_order routes_among stored_in timer_key_cmp number_bytes text_bytes stamp_bytes alert_bytes item_bytes label_bytes labels_bytes forest_of
+returns-clause-lost c = ap (λ (f : List ℕ → List ℕ). (played_by f lost_in_time).refused) table_is
