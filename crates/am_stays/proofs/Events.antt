@@ -93,17 +93,17 @@ comes_parts Whole w i e h = apart false h refl
 comes_parts (Down r) w i e h = apart false h refl
 comes_parts (Unsettled r) w i e h = and_right (w.knows r) (w.sent i e) h
 
--- two answered a request of the present era: all who kept their place know it
-pub two_spoke : (p : Phase) (w : Facts) (n : ℕ) (s : Place) (v u : ℕ) → Sound p w → w.request_era n ≡ w.era → w.answer n (next s) v ≡ true → w.answer n (last s) u ≡ true → (i : Place) → same i (w.changed w.era) ≡ false → w.knows i ≡ true
-two_spoke p w n s v u d e f h i k =
+-- two answered requests of the present era: all who kept their place know it
+pub two_spoke : (p : Phase) (w : Facts) (n o : ℕ) (s : Place) (v u : ℕ) → Sound p w → w.request_era n ≡ w.era → w.request_era o ≡ w.era → w.answer n (next s) v ≡ true → w.answer o (last s) u ≡ true → (i : Place) → same i (w.changed w.era) ≡ false → w.knows i ≡ true
+two_spoke p w n o s v u d e c f h i k =
     three (λ q. same q (w.changed w.era) ≡ false → w.knows q ≡ true) s i
     (λ z. three (λ q. (w.changed w.era ≡ q) → w.knows s ≡ true) s (w.changed w.era)
     (λ y. apart (same s (w.changed w.era)) (subst (λ q. same s q ≡ true) (sym y) (same_refl s)) z)
     (λ y. d.spoke n (next s) v e f s (or_right (same s (next s)) (same (next s) (w.changed w.era)) (subst (λ q. same (next s) q ≡ true) (sym y) (same_refl (next s)))))
-    (λ y. d.spoke n (last s) u e h s (or_right (same s (last s)) (same (last s) (w.changed w.era)) (subst (λ q. same (last s) q ≡ true) (sym y) (same_refl (last s)))))
+    (λ y. d.spoke o (last s) u c h s (or_right (same s (last s)) (same (last s) (w.changed w.era)) (subst (λ q. same (last s) q ≡ true) (sym y) (same_refl (last s)))))
     refl)
     (λ z. d.spoke n (next s) v e f (next s) (or_left (same (next s) (next s)) (same (next s) (w.changed w.era)) (same_refl (next s))))
-    (λ z. d.spoke n (last s) u e h (last s) (or_left (same (last s) (last s)) (same (last s) (w.changed w.era)) (same_refl (last s))))
+    (λ z. d.spoke o (last s) u c h (last s) (or_left (same (last s) (last s)) (same (last s) (w.changed w.era)) (same_refl (last s))))
     k
 
 pub sound-after : (p : Phase) (w : Facts) (e : Event) → Sound p w → Sound (phase_after p w e) (facts_after p w e)
@@ -125,7 +125,7 @@ sound-after p w (Get_arrives n i) d =
     d
 sound-after p w (Write n x s v u) d =
     let t = decide_parts w n x s v u in
-    sound-write p w (may_write w n x s v u) n x (λ h. (t h).2) (λ h e i f. two_spoke p w n s v u d e (t h).0 (t h).1 i f) d
+    sound-write p w (may_write w n x s v u) n x (λ h. (t h).2) (λ h e i f. two_spoke p w n n s v u d e e (t h).0 (t h).1 i f) d
 sound-after p w (Put_arrives x i) d =
     let g = w.write_era x in
     let t = w.put x && goes_by p w g i in

@@ -11,7 +11,7 @@ use Rattle.am_stays.proofs.Empty.{empty-run}
 use Rattle.am_stays.proofs.Tied.{Tied}
 use Rattle.am_stays.proofs.Bounds.{Bounded}
 use Rattle.am_stays.proofs.Merged.{Merged}
-use Rattle.am_stays.proofs.TiedLearn.{find_place}
+use Rattle.am_stays.proofs.Members.{find_place}
 
 pub record Follows (s : Shadow) (w : World) : Type 0 where
   pub fine : Fine w

@@ -4,6 +4,7 @@ use Rattle.std.specs.Prelude.{nat_lt, ◌==◌}
 use Rattle.am_stays.specs.Places.{Place, First, Second, Third, same}
 use Rattle.am_stays.proofs.Phases.{Phase, Whole, Down, Unsettled}
 use Rattle.am_stays.proofs.Machine.{Facts, Cut, State_arrives, Settle, Accept, goes_by, serves, happens}
+use Rattle.am_stays.proofs.GoingBy.{one_place}
 use Rattle.am_stays.specs.Shadow.{Shadow, is_list, after_cut, after_piece, after_settle}
 use Rattle.am_stays.specs.Happenings.{Listed, Pieced, Settled, is_replica, all_below, has_list, has_other, has_both, can}
 use Rattle.am_stays.proofs.Tables.{and_left, and_right, or_cases, or_left, or_right, not_true, apart, decide, same_is, same_refl, eq_is, eq_refl, eq_true, lt_is, and_both}
@@ -14,8 +15,8 @@ use Rattle.am_stays.proofs.Merged.{merged-cut, merged-piece}
 use Rattle.am_stays.proofs.Aside.{IsAside, IsOther, states-piece, cut-aside, piece-empty, piece-aside, settle-aside}
 use Rattle.am_stays.proofs.Follows.{Follows, Reached, by-event, by-none, replica_up, replica_place}
 use Rattle.am_stays.proofs.TiedRequests.{there}
-use Rattle.am_stays.proofs.TiedItems.{one_place, tied-accept}
-use Rattle.am_stays.proofs.TiedLearn.{find_place}
+use Rattle.am_stays.proofs.TiedItems.{tied-accept}
+use Rattle.am_stays.proofs.Members.{find_place}
 use Rattle.am_stays.proofs.TiedLists.{tied-cut, tied-piece, tied-settle}
 
 -- the unsettled one isn't settled, where it goes by the present era

@@ -6,10 +6,12 @@ use Rattle.am_stays.proofs.Phases.{Phase, Whole}
 use Rattle.am_stays.proofs.Machine.{Facts, World, Replace, Crash, Restart, Stop, happens}
 use Rattle.am_stays.specs.Shadow.{Shadow, has_place, is_ready, is_calm, drops, after_learn, after_epoch, after_join, after_leave, after_crash, after_rise, after_restart, after_stop}
 use Rattle.am_stays.specs.Happenings.{Learned, Joined, Left, Crashed, Restarted, Stopped, era_now, can, done}
+use Rattle.am_stays.specs.Claims.{OthersHoldNothing}
 use Rattle.am_stays.proofs.Tables.{and_left, and_right, or_cases, not_true, apart, decide, eq_is, eq_refl, lt_is, if_true, if_false}
 use Rattle.am_stays.proofs.Tied.{Tied, AreReady, IsNew}
 use Rattle.am_stays.proofs.Bounds.{Bounded, is-new, bounded-less, bounded-learn, bounded-epoch, bounded-join, bounded-leave, bounded-rise, bounded-restart, bounded-stop}
 use Rattle.am_stays.proofs.Merged.{Merged, merged-forget}
+use Rattle.am_stays.proofs.Members.{member_is}
 use Rattle.am_stays.proofs.Follows.{Follows, Reached, by-event, by-events, by-none, place_of, no_place}
 use Rattle.am_stays.proofs.TiedLearn.{tied-next}
 use Rattle.am_stays.proofs.TiedRestarts.{tied-stop}
@@ -41,10 +43,11 @@ new_now s w f = subst (λ k. IsNew s k (suc s.present)) (sym f.era) (is-new s f.
 at-whole : (s : Shadow) (p : Phase) (w : Facts) → Follows s (record { phase = p; facts = w }) → is_calm s (era_now s) ≡ true → Follows s (record { phase = Whole; facts = w })
 at-whole s p w f h = subst (λ q. Follows s (record { phase = q; facts = w })) (whole s p w f.tied (ready_now s (record { phase = p; facts = w }) f h)) f
 
-pub follow-learn : (s : Shadow) (w : World) (j : ℕ) → Follows s w → can s (Learned j) ≡ true → Reached (after_learn s j)
-follow-learn s w j f h =
+pub follow-learn : (s : Shadow) (w : World) (j : ℕ) → OthersHoldNothing s → Follows s w → can s (Learned j) ≡ true → Reached (after_learn s j)
+follow-learn s w j o f h =
+    let u : s.up j ≡ true = and_left (s.up j) (nat_lt (s.known j) s.present) h in
     let less : s.known j < s.present = lt_is (s.known j) s.present (and_right (s.up j) (nat_lt (s.known j) s.present) h) in
-    let t = tied-next s w.phase w.facts j f.fine f.empty f.tied (and_left (s.up j) (nat_lt (s.known j) s.present) h) (subst (λ k. s.era_of (suc (s.known j)) ≤ k) (sym f.era) (f.bounded.eras (suc (s.known j)))) (f.bounded.steps (s.known j) less) in
+    let t = tied-next s w.phase w.facts j f.fine f.empty f.tied (λ n. o j u (rw (u, n))) u (subst (λ k. s.era_of (suc (s.known j)) ≤ k) (sym f.era) (f.bounded.eras (suc (s.known j)))) (f.bounded.steps (s.known j) less) in
     by-events s (after_learn s j) w t.0 f t.1 (t.2 ∙ f.era) (bounded-learn s j less f.bounded)
     (merged-forget s j (after_learn s j).known s.incarnation (after_learn s j).held (λ k n. if_false (k == j) (suc (s.known j)) (s.known k) n) (λ k n. refl) (λ k n. if_false ((k == j) && drops s j) 0 (s.held k) (rw n)) f.merged)
 
@@ -149,9 +152,10 @@ follow-restart s p w j f h =
 pub follow-stop : (s : Shadow) (p : Phase) (w : Facts) → Follows s (record { phase = p; facts = w }) → can s Stopped ≡ true → Reached (after_stop s (era_now s) (suc s.present))
 follow-stop s p w f h =
     let g = at-whole s p w f h in
-    let t = after_stop s (era_now s) (suc s.present) in
+    let t = after_stop s w.era (suc s.present) in
     by-event s (after_stop s (era_now s) (suc s.present)) (record { phase = Whole; facts = w }) Stop g
     (subst (λ k. Tied (after_stop s k (suc s.present)) (happens (record { phase = Whole; facts = w }) Stop)) g.era
-    (tied-stop s w (suc s.present) (λ k. suc (s.incarnation k)) s.held (λ k. true) (λ k. true) (λ n. false) (λ x. false) (λ k l o. false) g.fine g.tied (new_now s (record { phase = Whole; facts = w }) g).asked (λ q. refl) (λ q. refl) (λ n. refl) (λ x. refl)))
+    (tied-stop s w (suc s.present) (λ k. suc (s.incarnation k)) t.held (λ k. true) t.settled (λ n. false) (λ x. false) (λ k l o. false) g.fine g.tied (new_now s (record { phase = Whole; facts = w }) g).asked (λ q. refl)
+    (λ q. if_true (has_place s w.era (s.member w.era q)) (s.held (s.member w.era q)) 0 (member_is (s.member w.era) q)) (λ n. refl) (λ x. refl)))
     (g.era ∙ sym (if_true (suc s.present == suc s.present) (era_now s) (s.era_of (suc s.present)) (eq_refl (suc s.present))))
     (bounded-stop s g.bounded) (λ r l y. apart false y refl)

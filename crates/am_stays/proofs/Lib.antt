@@ -13,6 +13,8 @@ pub mod Runs
 pub mod Empty
 pub mod Linking
 pub mod Tied
+pub mod Members
+pub mod GoingBy
 pub mod TiedRequests
 pub mod TiedItems
 pub mod TiedLists
@@ -23,8 +25,10 @@ pub mod TiedTurns
 pub mod Bounds
 pub mod Merged
 pub mod Aside
+pub mod Others
 pub mod Follows
 pub mod FollowsOperations
 pub mod FollowsLists
 pub mod FollowsRings
 pub mod Views
+pub mod Failing

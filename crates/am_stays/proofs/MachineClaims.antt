@@ -14,10 +14,10 @@ abbrev pub IsSeen : Facts → Type 0
 IsSeen w =
     (n x : ℕ) (spare : Place) (v u : ℕ) → w.undecided n ≡ true → w.before n x ≡ true → w.outlived < x → w.answer n (next spare) v ≡ true → w.answer n (last spare) u ≡ true → x ≤ max v u
 
--- after two answers to a request at most one goes by each earlier era
+-- after two answers in an era at most one goes by each earlier era
 abbrev pub IsPast : World → Type 0
 IsPast w =
-    (n g : ℕ) (i j k l : Place) (v u : ℕ) → w.facts.answer n i v ≡ true → w.facts.answer n j u ≡ true → same i j ≡ false → g < w.facts.request_era n → goes_by w.phase w.facts g k ≡ true → goes_by w.phase w.facts g l ≡ true → same k l ≡ true
+    (n o g : ℕ) (i j k l : Place) (v u : ℕ) → w.facts.answer n i v ≡ true → w.facts.answer o j u ≡ true → w.facts.request_era n ≡ w.facts.request_era o → same i j ≡ false → g < w.facts.request_era n → goes_by w.phase w.facts g k ≡ true → goes_by w.phase w.facts g l ≡ true → same k l ≡ true
 
 -- who got its place last holds nothing until it knows the era
 abbrev pub IsEmpty : Facts → Type 0

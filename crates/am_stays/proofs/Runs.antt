@@ -1,5 +1,5 @@
 -- What holds after every list of events.
-use Rattle.std.proofs.Common.{◌≡◌, ℕ, suc, ◌<◌, ◌≤◌, true, false, ◌⊎◌, inl, inr, List, [], ◌∷◌, refl, subst, sym, arith}
+use Rattle.std.proofs.Common.{◌≡◌, ℕ, suc, ◌<◌, ◌≤◌, true, false, ◌⊎◌, inl, inr, List, [], ◌∷◌, refl, subst, sym, arith, ◌∙◌}
 use Rattle.std.specs.Prelude.{◌==◌}
 use Rattle.am_stays.specs.Places.{Place, First, Second, Third, same}
 use Rattle.am_stays.proofs.Phases.{next, last, is_settled}
@@ -115,14 +115,14 @@ pair_of P Third Second e h k = k First
 pair_of P Third Third e h k = cc
 
 pub past-from : (w : World) → Fine w → IsPast w
-past-from w f n g i j k l v u s t e h y z = go (goes_cases w.phase w.facts g k y) (goes_cases w.phase w.facts g l z)
+past-from w f n o g i j k l v u s t both e h y z = go (goes_cases w.phase w.facts g k y) (goes_cases w.phase w.facts g l z)
   where
-    -- who kept its place knows the present era, if the request is of it
+    -- who kept its place knows the present era, if the requests are of it
     all : (q : Place) → Stays w.phase w.facts g q → w.facts.knows q ≡ true
     all q c =
         let now : w.facts.request_era n ≡ w.facts.era = omega (arith, c.2, h, f.sound.request_era n) in
         let d : same q (w.facts.changed w.facts.era) ≡ false = subst (λ m. same q (w.facts.changed m) ≡ false) c.2 c.1 in
-        pair_of (λ a b. (v u : ℕ) → w.facts.answer n a v ≡ true → w.facts.answer n b u ≡ true → w.facts.knows q ≡ true) i j e (λ o v u a b. two_spoke w.phase w.facts n o v u f.sound now a b q d) (λ o v u a b. two_spoke w.phase w.facts n o u v f.sound now b a q d) v u s t
+        pair_of (λ a b. (v u : ℕ) → w.facts.answer n a v ≡ true → w.facts.answer o b u ≡ true → w.facts.knows q ≡ true) i j e (λ spare v u a b. two_spoke w.phase w.facts n o spare v u f.sound now (sym both ∙ now) a b q d) (λ spare v u a b. two_spoke w.phase w.facts o n spare u v f.sound (sym both ∙ now) now b a q d) v u s t
 
     go : Now w.phase w.facts g k ⊎ (Lost w.phase w.facts g k ⊎ Stays w.phase w.facts g k) → Now w.phase w.facts g l ⊎ (Lost w.phase w.facts g l ⊎ Stays w.phase w.facts g l) → same k l ≡ true
     go (inl c) d = absurd (omega (arith, c.1, h, f.sound.request_era n))

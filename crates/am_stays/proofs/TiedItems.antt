@@ -4,11 +4,12 @@ use Rattle.std.specs.Prelude.{◌==◌}
 use Rattle.am_stays.specs.Places.{Place, same}
 use Rattle.am_stays.proofs.Phases.{Phase, Whole}
 use Rattle.am_stays.proofs.Machine.{Facts, World, retires, Put_arrives, Accept, Retire, goes_by, stays, best_of, holds, happens, start}
-use Rattle.am_stays.specs.Shadow.{Shadow, after_put, after_accept, after_retire, shadow_start}
+use Rattle.am_stays.proofs.GoingBy.{le_era, one_place}
+use Rattle.am_stays.specs.Shadow.{Shadow, is_member, after_put, after_accept, after_retire, shadow_start}
 use Rattle.am_stays.proofs.Tied.{Tied}
+use Rattle.am_stays.proofs.Members.{member_is}
 use Rattle.am_stays.proofs.Tables.{and_left, and_right, or_cases, or_left, or_right, or_false_right, not_true, apart, decide, same_is, same_refl, eq_is, eq_refl, eq_true, if_true, if_false, and_both, differ}
 use Rattle.am_stays.proofs.Events.{Now, Lost, Stays, goes_cases, best-here, best-left}
-use Rattle.am_stays.proofs.Linking.{going}
 use Rattle.am_stays.proofs.Runs.{Fine}
 use Rattle.am_stays.proofs.TiedRequests.{there}
 
@@ -86,16 +87,6 @@ keeps-other p w g h i q b o on there_ other =
 
 holds-other : (p : Phase) (w : Facts) (g h : ℕ) (i q : Place) (x : ℕ) → goes_by p w g i ≡ true → goes_by p w h q ≡ true → (h ≡ g → q ≡ i → ⊥) → best_of (holds w true g i x) h q ≡ best_of w h q
 holds-other p w g h i q x a b other = keeps-other p w g h i q (λ j. max (w.best j) x) (λ k. max (w.old k) x) a b other
-
-le_era : (p : Phase) (w : Facts) (h : ℕ) (q : Place) → goes_by p w h q ≡ true → h ≤ w.era
-le_era p w h q z = elim (goes_cases p w h q z) [ inl c ↦ omega (arith, c.1) | inr (inl c) ↦ omega (arith, c.1) | inr (inr c) ↦ omega (arith, c.2) ]
-
--- an instance that goes by an era has one place, in that era
-pub one_place : (s : Shadow) (w : World) (g h : ℕ) (i q : Place) (j : ℕ) → Tied s w → g ≤ w.facts.era → s.member g i ≡ j → s.era_of (s.known j) ≡ g → goes_by w.phase w.facts h q ≡ true → s.member h q ≡ j → (h ≡ g) × (q ≡ i)
-one_place s w g h i q j d l m e z n =
-    let both : (s.up (s.member h q) && (s.era_of (s.known (s.member h q)) == h)) ≡ true = sym (going w.phase w.facts s.member (λ b. s.era_of (s.known b)) s.up d.links h q (le_era w.phase w.facts h q z)) ∙ z in
-    let at : h ≡ g = sym (eq_is (s.era_of (s.known (s.member h q))) h (and_right (s.up (s.member h q)) (s.era_of (s.known (s.member h q)) == h) both)) ∙ (ap (λ b. s.era_of (s.known b)) n ∙ e) in
-    (at, same_is q i (d.links.distinct g q i l (subst (λ b. s.member b q ≡ j) at n ∙ sym m)))
 
 pub held-holds : (s : Shadow) (w : World) (g : ℕ) (i : Place) (j x : ℕ) → Tied s w → g ≤ w.facts.era → s.member g i ≡ j → s.era_of (s.known j) ≡ g → goes_by w.phase w.facts g i ≡ true → (h : ℕ) (q : Place) → goes_by w.phase w.facts h q ≡ true → (if s.member h q == j then max (s.held j) x else s.held (s.member h q)) ≡ best_of (holds w.facts true g i x) h q
 held-holds s w g i j x d l m e on h q z =
@@ -246,7 +237,7 @@ tied-start members held differ =
           };
       held = λ g i z.
           let e : 0 ≡ g = omega (arith, le_era Whole (start (λ q. held (members q))).facts g i z) in
-          subst (λ k. held (members i) ≡ best_of (start (λ q. held (members q))).facts k i) e refl;
+          subst (λ k. (if is_member members (members i) then held (members i) else 0) ≡ best_of (start (λ q. held (members q))).facts k i) e (if_true (is_member members (members i)) (held (members i)) 0 (member_is members i));
       settles = λ g i z y. and_both (goes_by Whole (start (λ q. held (members q))).facts g i) (true || not (g == 0)) z refl;
       outlived = refl;
       asking =

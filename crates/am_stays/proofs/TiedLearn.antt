@@ -1,42 +1,21 @@
 -- One learns the next epoch: which events of the machine that is.
-use Rattle.std.proofs.Common.{◌≡◌, ℕ, suc, ◌<◌, ◌≤◌, Bool, true, false, not, ◌&&◌, ◌||◌, ◌⊎◌, inl, inr, List, [], ◌∷◌, refl, subst, sym, ap, arith, ◌∙◌}
+use Rattle.std.proofs.Common.{◌≡◌, ℕ, suc, ◌<◌, ◌≤◌, Bool, true, false, not, ◌&&◌, ◌⊎◌, inl, inr, List, [], ◌∷◌, refl, subst, sym, ap, arith, ◌∙◌}
 use Rattle.std.specs.Prelude.{◌==◌}
-use Rattle.am_stays.specs.Places.{Place, First, Second, Third, same}
+use Rattle.am_stays.specs.Places.{Place, same}
 use Rattle.am_stays.proofs.Phases.{Phase, Whole, Down, Unsettled, is_up}
 use Rattle.am_stays.proofs.Machine.{Facts, World, Event, Learn, Drop_out, goes_by, happens, run}
 use Rattle.am_stays.proofs.MachineClaims.{IsEmpty}
 use Rattle.am_stays.specs.Shadow.{Shadow, has_place, drops, after_learn}
 use Rattle.am_stays.proofs.Tied.{Tied, States}
-use Rattle.am_stays.proofs.Tables.{and_left, and_right, or_left, or_right, not_true, apart, decide, same_is, eq_is, eq_refl, eq_true, not_eq, if_true, if_false, and_both, and_false, differ}
+use Rattle.am_stays.proofs.Tables.{and_left, and_right, or_right, not_true, apart, decide, same_is, eq_is, eq_refl, not_eq, if_true, if_false, and_false, differ}
 use Rattle.am_stays.proofs.Invariants.{Known}
 use Rattle.am_stays.proofs.Holders.{unknown_settled}
 use Rattle.am_stays.proofs.Events.{Now, Lost, Stays, goes_cases, best-here}
 use Rattle.am_stays.proofs.TiedRequests.{there}
-use Rattle.am_stays.proofs.TiedItems.{one_place}
-use Rattle.am_stays.proofs.Linking.{going}
-use Rattle.am_stays.proofs.TiedRings.{tied-other, tied-out, tied-learn, goes-less}
+use Rattle.am_stays.proofs.Members.{find_place}
+use Rattle.am_stays.proofs.GoingBy.{not_placed, not_lost}
+use Rattle.am_stays.proofs.TiedRings.{tied-other, tied-out, tied-learn}
 use Rattle.am_stays.proofs.Runs.{Fine}
-
--- the place of an instance in an era, or that it has none
-pub find_place : (s : Shadow) (g j : ℕ) → ((q : Place) × (s.member g q ≡ j) × (has_place s g j ≡ true)) ⊎ (((q : Place) → s.member g q ≡ j → ⊥) × (has_place s g j ≡ false))
-find_place s g j =
-    elim (decide (s.member g First == j)) [
-      | inl a ↦ inl (First, eq_is (s.member g First) j a, or_left (s.member g First == j) ((s.member g Second == j) || (s.member g Third == j)) a)
-      | inr a ↦
-          elim (decide (s.member g Second == j)) [
-            | inl b ↦ inl (Second, eq_is (s.member g Second) j b, or_right (s.member g First == j) ((s.member g Second == j) || (s.member g Third == j)) (or_left (s.member g Second == j) (s.member g Third == j) b))
-            | inr b ↦
-                elim (decide (s.member g Third == j)) [
-                  | inl c ↦ inl (Third, eq_is (s.member g Third) j c, or_right (s.member g First == j) ((s.member g Second == j) || (s.member g Third == j)) (or_right (s.member g Second == j) (s.member g Third == j) c))
-                  | inr c ↦ inr (all a b c, rw (a, b) c)
-                ]
-          ]
-    ]
-  where
-    all : (s.member g First == j) ≡ false → (s.member g Second == j) ≡ false → (s.member g Third == j) ≡ false → (q : Place) → s.member g q ≡ j → ⊥
-    all a b c First e = apart (s.member g First == j) (eq_true (s.member g First) j e) a
-    all a b c Second e = apart (s.member g Second == j) (eq_true (s.member g Second) j e) b
-    all a b c Third e = apart (s.member g Third == j) (eq_true (s.member g Third) j e) c
 
 -- who forgets what it took is no worse off
 states-learn : (p : Phase) (s : Shadow) (w : Facts) (j : ℕ) → States p w.era w.sent w.list w.took s.era_of s.member s.known s.incarnation s.cut s.list s.piece s.taken → States p w.era w.sent w.list w.took s.era_of s.member (after_learn s j).known s.incarnation s.cut s.list s.piece (after_learn s j).taken
@@ -58,8 +37,12 @@ unknown_up Whole changed q knows k e = refl
 unknown_up (Down r) changed q knows k e = apart (knows q) (k q) e
 unknown_up (Unsettled r) changed q knows k e = refl
 
-pub tied-next : (s : Shadow) (p : Phase) (w : Facts) (j : ℕ) → Fine (record { phase = p; facts = w }) → IsEmpty w → Tied s (record { phase = p; facts = w }) → s.up j ≡ true → s.era_of (suc (s.known j)) ≤ w.era → (s.era_of (suc (s.known j)) ≡ s.era_of (s.known j)) ⊎ (s.era_of (suc (s.known j)) ≡ suc (s.era_of (s.known j))) → (events : List Event) × Tied (after_learn s j) (run events (record { phase = p; facts = w })) × ((run events (record { phase = p; facts = w })).facts.era ≡ w.era)
-tied-next s p w j f em d u le step = elim step [ inl e ↦ ([], same_era_ e, refl) | inr e ↦ next_ e ]
+and_not : (a : Bool) → (a && not a) ≡ false
+and_not true = refl
+and_not false = refl
+
+pub tied-next : (s : Shadow) (p : Phase) (w : Facts) (j : ℕ) → Fine (record { phase = p; facts = w }) → IsEmpty w → Tied s (record { phase = p; facts = w }) → (has_place s (s.era_of (s.known j)) j ≡ false → (s.held j ≡ 0) × (s.settled j ≡ false)) → s.up j ≡ true → s.era_of (suc (s.known j)) ≤ w.era → (s.era_of (suc (s.known j)) ≡ s.era_of (s.known j)) ⊎ (s.era_of (suc (s.known j)) ≡ suc (s.era_of (s.known j))) → (events : List Event) × Tied (after_learn s j) (run events (record { phase = p; facts = w })) × ((run events (record { phase = p; facts = w })).facts.era ≡ w.era)
+tied-next s p w j f em d out u le step = elim step [ inl e ↦ ([], same_era_ e, refl) | inr e ↦ next_ e ]
   where
     W : World
     W = record { phase = p; facts = w }
@@ -99,14 +82,8 @@ tied-next s p w j f em d u le step = elim step [ inl e ↦ ([], same_era_ e, ref
     other_held : (k : ℕ) → (k == j) ≡ false → s2.held k ≡ s.held k
     other_held k n = if_false ((k == j) && drops s j) 0 (s.held k) (rw n)
 
-    none_held : drops s j ≡ true → s2.held j ≡ 0
-    none_held n = if_true ((j == j) && drops s j) 0 (s.held j) (and_both (j == j) (drops s j) (eq_refl j) n)
-
     was_settled : (k : ℕ) → s2.settled k ≡ true → s.settled k ≡ true
     was_settled k z = and_right (not ((k == j) && drops s j)) (s.settled k) z
-
-    not_settled : drops s j ≡ true → s2.settled j ≡ true → ⊥
-    not_settled n z = apart ((j == j) && drops s j) (and_both (j == j) (drops s j) (eq_refl j) n) (not_true ((j == j) && drops s j) (and_left (not ((j == j) && drops s j)) (s.settled j) z))
 
     -- within an era
     same_era_ : b ≡ a → Tied (after_learn s j) (record { phase = p; facts = w })
@@ -117,7 +94,7 @@ tied-next s p w j f em d u le step = elim step [ inl e ↦ ([], same_era_ e, ref
         (λ g q z. kept_held keeps (s.member g q)) (λ g q z y. was_settled (s.member g q) y) (states-learn p s w j d.states)
       where
         keeps : drops s j ≡ false
-        keeps = rw (eq_true a b (sym e))
+        keeps = ap (λ k. has_place s a j && not (has_place s k j)) e ∙ and_not (has_place s a j)
 
         eras : (k : ℕ) → s.era_of (s2.known k) ≡ s.era_of (s.known k)
         eras k =
@@ -125,9 +102,6 @@ tied-next s p w j f em d u le step = elim step [ inl e ↦ ([], same_era_ e, ref
               | inl c ↦ subst (λ m. s.era_of (s2.known m) ≡ s.era_of (s.known m)) (sym (eq_is k j c)) (later_j ∙ e)
               | inr c ↦ ap s.era_of (later_k k c)
             ]
-
-    test_b : b ≡ suc a → (a == b) ≡ false
-    test_b e = not_eq a b (omega (arith, e))
 
     -- the era of j is a before and b after: nothing else goes by another era than it did
     eras_other : (k g : ℕ) → (k ≡ j → (g ≡ a → ⊥) × (g ≡ b → ⊥)) → (s.up k && (s.era_of (s2.known k) == g)) ≡ (s.up k && (s.era_of (s.known k) == g))
@@ -174,7 +148,7 @@ tied-next s p w j f em d u le step = elim step [ inl e ↦ ([], same_era_ e, ref
                 keeps : drops s j ≡ false
                 keeps =
                     elim (find_place s b j) [
-                      | inl n ↦ rw (test_b e, hp, n.2)
+                      | inl n ↦ rw (hp, n.2)
                       | inr n ↦ absurd (n.0 q (subst (λ k. s.member k q ≡ j) (sym (e ∙ st.2)) here))
                     ]
         was_in c (inr (inl z)) = (Drop_out (suc a) ∷ [], loses (c.0) c.1 c.2 z, refl)
@@ -186,7 +160,7 @@ tied-next s p w j f em d u le step = elim step [ inl e ↦ ([], same_era_ e, ref
                 (λ o. refl)
                 (λ g h n. eras_other (s.member g (w.changed (suc g))) g (λ y. (n, λ x. nowhere (w.changed (suc g)) (subst (λ k. s.member k (w.changed (suc g)) ≡ j) x y))))
                 gone_
-                (λ g o y. other_held (s.member g o) (not_j g o y))
+                (λ g o y. other_held (s.member g o) (not_lost s p w a q j d m refl lo g o y))
                 (λ g o y x. was_settled (s.member g o) x) (states-learn p s w j d.states)
               where
                 role_ : q ≡ w.changed (suc a)
@@ -202,7 +176,7 @@ tied-next s p w j f em d u le step = elim step [ inl e ↦ ([], same_era_ e, ref
                     ]
 
                 drop_ : drops s j ≡ true
-                drop_ = elim (find_place s b j) [ inl n ↦ absurd (nowhere n.0 n.1) | inr n ↦ rw (test_b e, hp, n.1) ]
+                drop_ = elim (find_place s b j) [ inl n ↦ absurd (nowhere n.0 n.1) | inr n ↦ rw (hp, n.1) ]
 
                 -- one of the present three may be j, which goes by the present era neither before nor after
                 present : (o : Place) → (s.era_of (s2.known (s.member w.era o)) == w.era) ≡ (s.era_of (s.known (s.member w.era o)) == w.era)
@@ -229,37 +203,6 @@ tied-next s p w j f em d u le step = elim step [ inl e ↦ ([], same_era_ e, ref
                     more_ : (k : ℕ) → k ≡ b → (k == a) ≡ false
                     more_ k x = elim (decide (k == a)) [ inr y ↦ y | inl y ↦ absurd (omega (arith, eq_is k a y, x, e)) ]
 
-                not_j : (g : ℕ) (o : Place) → goes_by p (record w { lingers = λ k. not (k == suc a) && w.lingers k }) g o ≡ true → (s.member g o == j) ≡ false
-                not_j g o y =
-                    elim (decide (s.member g o == j)) [
-                      | inr n ↦ n
-                      | inl n ↦
-                          let x = one_place s W a g q o j d (omega (arith, lo.1)) m refl (goes-less p w (suc a) g o y) (eq_is (s.member g o) j n) in
-                          contra (goes_cases p (record w { lingers = λ k. not (k == suc a) && w.lingers k }) a q (subst (λ k. goes_by p (record w { lingers = λ k. not (k == suc a) && w.lingers k }) a k ≡ true) x.1 (subst (λ k. goes_by p (record w { lingers = λ k. not (k == suc a) && w.lingers k }) k o ≡ true) x.0 y)))
-                    ]
-                  where
-                    contra : {G : Type 0} → Now p (record w { lingers = λ k. not (k == suc a) && w.lingers k }) a q ⊎ (Lost p (record w { lingers = λ k. not (k == suc a) && w.lingers k }) a q ⊎ Stays p (record w { lingers = λ k. not (k == suc a) && w.lingers k }) a q) → G
-                    contra (inl x) = absurd (omega (arith, x.1, lo.1))
-                    contra (inr (inl x)) = apart (suc a == suc a) (eq_refl (suc a)) (not_true (suc a == suc a) (and_left (not (suc a == suc a)) (w.lingers (suc a)) x.3))
-                    contra (inr (inr x)) = apart (same q (w.changed (suc a))) lo.2 x.1
-
-        -- who goes by an era isn't j, where j was none of its three
-        not_j : ((q : Place) → s.member a q ≡ j → ⊥) × (has_place s a j ≡ false) → (g : ℕ) (o : Place) → goes_by p w g o ≡ true → (s.member g o == j) ≡ false
-        not_j c g o y =
-            elim (decide (s.member g o == j)) [
-              | inr n ↦ n
-              | inl n ↦
-                  let m : s.member g o ≡ j = eq_is (s.member g o) j n in
-                  let h : (s.up (s.member g o) && (s.era_of (s.known (s.member g o)) == g)) ≡ true = sym (going p w s.member (λ k. s.era_of (s.known k)) s.up d.links g o (bound (goes_cases p w g o y))) ∙ y in
-                  let x : a ≡ g = subst (λ k. s.era_of (s.known k) ≡ g) m (eq_is (s.era_of (s.known (s.member g o))) g (and_right (s.up (s.member g o)) (s.era_of (s.known (s.member g o)) == g) h)) in
-                  absurd (c.0 o (subst (λ k. s.member k o ≡ j) (sym x) m))
-            ]
-          where
-            bound : Now p w g o ⊎ (Lost p w g o ⊎ Stays p w g o) → g ≤ w.era
-            bound (inl z) = omega (arith, z.1)
-            bound (inr (inl z)) = omega (arith, z.1)
-            bound (inr (inr z)) = omega (arith, z.2)
-
         -- it was not
         was_out : ((q : Place) → s.member a q ≡ j → ⊥) × (has_place s a j ≡ false) → ((q : Place) × (s.member b q ≡ j) × (has_place s b j ≡ true)) ⊎ (((q : Place) → s.member b q ≡ j → ⊥) × (has_place s b j ≡ false)) → (events : List Event) × Tied (after_learn s j) (run events (record { phase = p; facts = w })) × ((run events (record { phase = p; facts = w })).facts.era ≡ w.era)
         was_out c (inl n) = (Learn n.0 ∷ [], arrives n.0 n.1, refl)
@@ -270,9 +213,9 @@ tied-next s p w j f em d u le step = elim step [ inl e ↦ ([], same_era_ e, ref
                 (subst (λ k. s.era_of (s2.known k) ≡ w.era) (sym here) (later_j ∙ now))
                 (λ o n. other_eras (s.member w.era o) (λ y. apart (same o q) (d.links.distinct w.era o q (omega arith) (y ∙ sym here)) n))
                 (λ g h. eras_other (s.member g (w.changed (suc g))) g (λ y. (λ x. c.0 (w.changed (suc g)) (subst (λ k. s.member k (w.changed (suc g)) ≡ j) x y), λ x. absurd (omega (arith, x, now, h)))))
-                (ap s2.held here ∙ (none_held drop_ ∙ sym (em q unknown last_)))
-                (λ y. absurd (not_settled drop_ (subst (λ k. s2.settled k ≡ true) here y)))
-                (λ g o y. other_held (s.member g o) (not_j c g o y)) (λ g o y x. was_settled (s.member g o) x) (states-learn p s w j d.states)
+                (ap s2.held here ∙ (kept_held keeps j ∙ ((out c.1).0 ∙ sym (em q unknown last_))))
+                (λ y. apart (s.settled j) (was_settled j (subst (λ k. s2.settled k ≡ true) here y)) (out c.1).1)
+                (λ g o y. other_held (s.member g o) (not_placed s W j d c.0 g o y)) (λ g o y x. was_settled (s.member g o) x) (states-learn p s w j d.states)
               where
                 now : b ≡ w.era
                 now =
@@ -292,8 +235,8 @@ tied-next s p w j f em d u le step = elim step [ inl e ↦ ([], same_era_ e, ref
                       | inr x ↦ absurd (c.0 q (sym (d.links.stays a q (omega (arith, e, now)) (subst (λ k. same q (w.changed k) ≡ false) (sym now ∙ e) x)) ∙ subst (λ k. s.member k q ≡ j) e m))
                     ]
 
-                drop_ : drops s j ≡ true
-                drop_ = rw (test_b e, c.1)
+                keeps : drops s j ≡ false
+                keeps = rw (c.1)
         was_out c (inr n) = ([], elsewhere n, refl)
           where
             elsewhere : ((q : Place) → s.member b q ≡ j → ⊥) × (has_place s b j ≡ false) → Tied (after_learn s j) (record { phase = p; facts = w })
@@ -301,7 +244,7 @@ tied-next s p w j f em d u le step = elim step [ inl e ↦ ([], same_era_ e, ref
                 tied-other s p w s.present s.era_of s2.known s.incarnation s2.held s.up s2.settled s2.taken d (λ n y. refl) (grows (omega (arith, e))) least
                 present (λ o. refl)
                 (λ g h. eras_other (s.member g (w.changed (suc g))) g (λ y. (λ x. c.0 (w.changed (suc g)) (subst (λ k. s.member k (w.changed (suc g)) ≡ j) x y), λ x. n.0 (w.changed (suc g)) (subst (λ k. s.member k (w.changed (suc g)) ≡ j) x y))))
-                (λ g o y. other_held (s.member g o) (not_j c g o y)) (λ g o y x. was_settled (s.member g o) x) (states-learn p s w j d.states)
+                (λ g o y. other_held (s.member g o) (not_placed s W j d c.0 g o y)) (λ g o y x. was_settled (s.member g o) x) (states-learn p s w j d.states)
               where
                 present : (o : Place) → (s.era_of (s2.known (s.member w.era o)) == w.era) ≡ (s.era_of (s.known (s.member w.era o)) == w.era)
                 present o =

@@ -5,6 +5,7 @@ use Rattle.am_stays.specs.Places.{Place, same}
 use Rattle.am_stays.proofs.Phases.{Phase, Whole, Unsettled, is_up, is_settled}
 use Rattle.am_stays.proofs.Machine.{Facts, Replace, Learn, Drop_out, goes_by, serves, best_of, replaces, happens}
 use Rattle.am_stays.proofs.Links.{Links}
+use Rattle.am_stays.proofs.GoingBy.{goes-less}
 use Rattle.am_stays.specs.Shadow.{Shadow}
 use Rattle.am_stays.proofs.Tied.{Tied, States}
 use Rattle.am_stays.proofs.Tables.{and_left, and_right, or_cases, or_left, or_right, apart, decide, same_is, same_refl, eq_is, eq_refl, eq_true, not_eq, if_true, if_false, and_both, and_false, greater}
@@ -242,21 +243,6 @@ tied-other s p w present era known incarnation held up settled taken d E K1 K2 K
           };
       states = st;
     }
-
--- who goes by an era after it was said that one lost its place went by it before
-pub goes-less : (p : Phase) (w : Facts) (h g : ℕ) (q : Place) → goes_by p (record w { lingers = λ k. not (k == h) && w.lingers k }) g q ≡ true → goes_by p w g q ≡ true
-goes-less p w h g q z = go (decide (g == w.era))
-  where
-    go : ((g == w.era) ≡ true) ⊎ ((g == w.era) ≡ false) → goes_by p w g q ≡ true
-    go (inl a) = goes-now p w g q a ∙ (sym (if_true (g == w.era) (w.knows q && is_up p q) (nat_lt g w.era && (if same q (w.changed (suc g)) then not (suc g == h) && w.lingers (suc g) else (suc g == w.era) && not (w.knows q))) a) ∙ z)
-    go (inr a) =
-        let b : (nat_lt g w.era && (if same q (w.changed (suc g)) then not (suc g == h) && w.lingers (suc g) else (suc g == w.era) && not (w.knows q))) ≡ true = sym (if_false (g == w.era) (w.knows q && is_up p q) (nat_lt g w.era && (if same q (w.changed (suc g)) then not (suc g == h) && w.lingers (suc g) else (suc g == w.era) && not (w.knows q))) a) ∙ z in
-        goes-past p w g q a
-        ∙ and_both (nat_lt g w.era) (if same q (w.changed (suc g)) then w.lingers (suc g) else (suc g == w.era) && not (w.knows q)) (and_left (nat_lt g w.era) (if same q (w.changed (suc g)) then not (suc g == h) && w.lingers (suc g) else (suc g == w.era) && not (w.knows q)) b) (less (decide (same q (w.changed (suc g)))) (and_right (nat_lt g w.era) (if same q (w.changed (suc g)) then not (suc g == h) && w.lingers (suc g) else (suc g == w.era) && not (w.knows q)) b))
-      where
-        less : ((same q (w.changed (suc g)) ≡ true) ⊎ (same q (w.changed (suc g)) ≡ false)) → (if same q (w.changed (suc g)) then not (suc g == h) && w.lingers (suc g) else (suc g == w.era) && not (w.knows q)) ≡ true → (if same q (w.changed (suc g)) then w.lingers (suc g) else (suc g == w.era) && not (w.knows q)) ≡ true
-        less (inl c) y = if_true (same q (w.changed (suc g))) (w.lingers (suc g)) ((suc g == w.era) && not (w.knows q)) c ∙ and_right (not (suc g == h)) (w.lingers (suc g)) (sym (if_true (same q (w.changed (suc g))) (not (suc g == h) && w.lingers (suc g)) ((suc g == w.era) && not (w.knows q)) c) ∙ y)
-        less (inr c) y = if_false (same q (w.changed (suc g))) (w.lingers (suc g)) ((suc g == w.era) && not (w.knows q)) c ∙ (sym (if_false (same q (w.changed (suc g))) (not (suc g == h) && w.lingers (suc g)) ((suc g == w.era) && not (w.knows q)) c) ∙ y)
 
 -- Who lost its place when era suc h began learns so, crashes or leaves.
 pub tied-out : (s : Shadow) (p : Phase) (w : Facts) (h : ℕ) (era known incarnation held : ℕ → ℕ) (up settled : ℕ → Bool) (taken : ℕ → ℕ → ℕ → Bool) → Tied s (record { phase = p; facts = w }) → ((n : ℕ) → s.asked n ≡ true → era (s.epoch n) ≡ s.era_of (s.epoch n)) → ((j : ℕ) → s.era_of (s.known j) ≤ era (known j)) → ((j : ℕ) → era (known j) ≤ w.era) → ((q : Place) → (era (known (s.member w.era q)) == w.era) ≡ (s.era_of (s.known (s.member w.era q)) == w.era)) → ((q : Place) → up (s.member w.era q) ≡ s.up (s.member w.era q)) → ((g : ℕ) → g < w.era → (g ≡ h → ⊥) → (up (s.member g (w.changed (suc g))) && (era (known (s.member g (w.changed (suc g)))) == g)) ≡ (s.up (s.member g (w.changed (suc g))) && (s.era_of (s.known (s.member g (w.changed (suc g)))) == g))) → (up (s.member h (w.changed (suc h))) && (era (known (s.member h (w.changed (suc h)))) == h)) ≡ false → ((g : ℕ) (q : Place) → goes_by p (record w { lingers = λ k. not (k == suc h) && w.lingers k }) g q ≡ true → held (s.member g q) ≡ s.held (s.member g q)) → ((g : ℕ) (q : Place) → goes_by p (record w { lingers = λ k. not (k == suc h) && w.lingers k }) g q ≡ true → settled (s.member g q) ≡ true → s.settled (s.member g q) ≡ true) → States p w.era w.sent w.list w.took era s.member known incarnation s.cut s.list s.piece taken → Tied (record s { era_of = era; known = known; incarnation = incarnation; held = held; up = up; settled = settled; taken = taken }) (happens (record { phase = p; facts = w }) (Drop_out (suc h)))

@@ -6,13 +6,12 @@ use Rattle.am_stays.proofs.Phases.{Phase, Whole, Down, Unsettled}
 use Rattle.am_stays.proofs.Machine.{Facts, World, Event, Replace, Crash, Restart, Drop_out, goes_by, happens, run}
 use Rattle.am_stays.specs.Shadow.{Shadow, after_join, after_leave, after_crash, after_epoch, after_rise}
 use Rattle.am_stays.proofs.Tied.{Tied, States, AreReady, IsNew}
-use Rattle.am_stays.proofs.Tables.{and_left, and_right, or_left, or_right, not_true, apart, decide, same_is, same_refl, eq_is, eq_refl, eq_true, not_eq, if_true, if_false, and_false, differ}
+use Rattle.am_stays.proofs.Tables.{and_right, or_left, or_right, apart, decide, same_is, same_refl, eq_is, eq_refl, eq_true, not_eq, if_true, if_false, and_false, differ}
 use Rattle.am_stays.proofs.TiedRequests.{there}
-use Rattle.am_stays.proofs.TiedItems.{one_place}
-use Rattle.am_stays.proofs.TiedLearn.{find_place}
-use Rattle.am_stays.proofs.Linking.{going}
+use Rattle.am_stays.proofs.GoingBy.{not_down, not_placed, not_lost}
+use Rattle.am_stays.proofs.Members.{find_place}
 use Rattle.am_stays.proofs.Events.{Now, Lost, Stays, goes_cases}
-use Rattle.am_stays.proofs.TiedRings.{tied-replace, tied-other, tied-out, goes-less}
+use Rattle.am_stays.proofs.TiedRings.{tied-replace, tied-other, tied-out}
 use Rattle.am_stays.proofs.TiedRestarts.{tied-crash, tied-back, tied-arrive}
 use Rattle.am_stays.proofs.Runs.{Fine}
 
@@ -220,7 +219,7 @@ tied-rise s p w j e d down era apart_ =
     (λ q. ap (λ m. s.era_of m == w.era) (known_ (s.member w.era q) (apart_ q)))
     (λ q. ap (λ b. b || s.up (s.member w.era q)) (differ (s.member w.era q) j (apart_ q)))
     (λ g h. old (s.member g (w.changed (suc g))) g h)
-    (λ g q z. if_false (s.member g q == j) 0 (s.held (s.member g q)) (not_j g q z))
+    (λ g q z. if_false (s.member g q == j) 0 (s.held (s.member g q)) (not_down s (record { phase = p; facts = w }) j d down g q z))
     (λ g q z y. and_right (not (s.member g q == j)) (s.settled (s.member g q)) y)
     (states-fewer p s w (λ k. if k == j then e else s.known k) (λ k. if k == j then suc (s.incarnation j) else s.incarnation k) (λ k l o. not (k == j) && s.taken k l o) (λ q. known_ (s.member w.era q) (apart_ q)) (λ q. if_false (s.member w.era q == j) (suc (s.incarnation j)) (s.incarnation (s.member w.era q)) (differ (s.member w.era q) j (apart_ q))) (λ q l o y. and_right (not (s.member w.era q == j)) (s.taken (s.member w.era q) l o) y) d.states)
   where
@@ -244,20 +243,6 @@ tied-rise s p w j e d down era apart_ =
               and_false ((m == j) || s.up m) (s.era_of (if m == j then e else s.known m) == g) (differ (s.era_of (if m == j then e else s.known m)) g (λ x. absurd (omega (arith, x, h, later m (eq_is m j a)))))
               ∙ sym (ap (λ b. b && (s.era_of (s.known m) == g)) (ap s.up (eq_is m j a) ∙ down))
         ]
-
-    not_j : (g : ℕ) (o : Place) → goes_by p w g o ≡ true → (s.member g o == j) ≡ false
-    not_j g o y =
-        elim (decide (s.member g o == j)) [
-          | inr n ↦ n
-          | inl n ↦
-              let h : (s.up (s.member g o) && (s.era_of (s.known (s.member g o)) == g)) ≡ true = sym (going p w s.member (λ k. s.era_of (s.known k)) s.up d.links g o (bound g o (goes_cases p w g o y))) ∙ y in
-              apart (s.up (s.member g o)) (and_left (s.up (s.member g o)) (s.era_of (s.known (s.member g o)) == g) h) (ap s.up (eq_is (s.member g o) j n) ∙ down)
-        ]
-      where
-        bound : (g : ℕ) (o : Place) → Now p w g o ⊎ (Lost p w g o ⊎ Stays p w g o) → g ≤ w.era
-        bound g o (inl z) = omega (arith, z.1)
-        bound g o (inr (inl z)) = omega (arith, z.1)
-        bound g o (inr (inr z)) = omega (arith, z.2)
 
 -- one that is none of the three crashes or leaves: nothing for the machine, but where it lost its place last and hadn't learned so
 pub tied-fall : (s : Shadow) (p : Phase) (w : Facts) (j : ℕ) → Tied s (record { phase = p; facts = w }) → s.up j ≡ true → ((q : Place) → s.member w.era q ≡ j → ⊥) → (events : List Event) × Tied (after_crash s j) (run events (record { phase = p; facts = w })) × ((run events (record { phase = p; facts = w })).facts.era ≡ w.era)
@@ -293,24 +278,8 @@ tied-fall s p w j d u apart_ = elim (find_place s a j) [ inl c ↦ was_in c.0 c.
         tied-other s p w s.present s.era_of s.known s.incarnation (λ k. if k == j then 0 else s.held k) (λ k. not (k == j) && s.up k) (λ k. not (k == j) && s.settled k) (λ k l o. not (k == j) && s.taken k l o) d
         (λ m z. refl) (λ k. omega arith) d.links.least (λ q. refl) up_
         (λ g h. old (s.member g (w.changed (suc g))) g (λ x y. no_ (w.changed (suc g)) (subst (λ k. s.member k (w.changed (suc g)) ≡ j) y x)))
-        (λ g q z. if_false (s.member g q == j) 0 (s.held (s.member g q)) (not_j g q z))
+        (λ g q z. if_false (s.member g q == j) 0 (s.held (s.member g q)) (not_placed s W j d no_ g q z))
         (λ g q z y. and_right (not (s.member g q == j)) (s.settled (s.member g q)) y) st
-      where
-        not_j : (g : ℕ) (o : Place) → goes_by p w g o ≡ true → (s.member g o == j) ≡ false
-        not_j g o y =
-            elim (decide (s.member g o == j)) [
-              | inr n ↦ n
-              | inl n ↦
-                  let m : s.member g o ≡ j = eq_is (s.member g o) j n in
-                  let h : (s.up (s.member g o) && (s.era_of (s.known (s.member g o)) == g)) ≡ true = sym (going p w s.member (λ k. s.era_of (s.known k)) s.up d.links g o (bound g o (goes_cases p w g o y))) ∙ y in
-                  let x : a ≡ g = subst (λ k. s.era_of (s.known k) ≡ g) m (eq_is (s.era_of (s.known (s.member g o))) g (and_right (s.up (s.member g o)) (s.era_of (s.known (s.member g o)) == g) h)) in
-                  absurd (no_ o (subst (λ k. s.member k o ≡ j) (sym x) m))
-            ]
-          where
-            bound : (g : ℕ) (o : Place) → Now p w g o ⊎ (Lost p w g o ⊎ Stays p w g o) → g ≤ w.era
-            bound g o (inl z) = omega (arith, z.1)
-            bound g o (inr (inl z)) = omega (arith, z.1)
-            bound g o (inr (inr z)) = omega (arith, z.2)
 
     was_in : (q : Place) → s.member a q ≡ j → Now p w a q ⊎ (Lost p w a q ⊎ Stays p w a q) → (events : List Event) × Tied (after_crash s j) (run events (record { phase = p; facts = w })) × ((run events (record { phase = p; facts = w })).facts.era ≡ w.era)
     was_in q m (inl c) = absurd (apart_ q (subst (λ k. s.member k q ≡ j) c.1 m))
@@ -323,19 +292,5 @@ tied-fall s p w j d u apart_ = elim (find_place s a j) [ inl c ↦ was_in c.0 c.
             (λ n y. refl) (λ k. omega arith) d.links.least (λ o. refl) up_
             (λ g h n. old (s.member g (w.changed (suc g))) g (λ x y. n y))
             (ap (λ b. (not b && s.up (s.member a (w.changed (suc a)))) && (s.era_of (s.known (s.member a (w.changed (suc a)))) == a)) (eq_true (s.member a (w.changed (suc a))) j (ap (s.member a) (sym (same_is q (w.changed (suc a)) lo.2)) ∙ m)))
-            (λ g o y. if_false (s.member g o == j) 0 (s.held (s.member g o)) (not_j g o y))
+            (λ g o y. if_false (s.member g o == j) 0 (s.held (s.member g o)) (not_lost s p w a q j d m refl lo g o y))
             (λ g o y x. and_right (not (s.member g o == j)) (s.settled (s.member g o)) x) st
-          where
-            not_j : (g : ℕ) (o : Place) → goes_by p (record w { lingers = λ k. not (k == suc a) && w.lingers k }) g o ≡ true → (s.member g o == j) ≡ false
-            not_j g o y =
-                elim (decide (s.member g o == j)) [
-                  | inr n ↦ n
-                  | inl n ↦
-                      let x = one_place s W a g q o j d (d.links.least j) m refl (goes-less p w (suc a) g o y) (eq_is (s.member g o) j n) in
-                      contra (goes_cases p (record w { lingers = λ k. not (k == suc a) && w.lingers k }) a q (subst (λ k. goes_by p (record w { lingers = λ k. not (k == suc a) && w.lingers k }) a k ≡ true) x.1 (subst (λ k. goes_by p (record w { lingers = λ k. not (k == suc a) && w.lingers k }) k o ≡ true) x.0 y)))
-                ]
-              where
-                contra : {G : Type 0} → Now p (record w { lingers = λ k. not (k == suc a) && w.lingers k }) a q ⊎ (Lost p (record w { lingers = λ k. not (k == suc a) && w.lingers k }) a q ⊎ Stays p (record w { lingers = λ k. not (k == suc a) && w.lingers k }) a q) → G
-                contra (inl x) = absurd (omega (arith, x.1, lo.1))
-                contra (inr (inl x)) = apart (suc a == suc a) (eq_refl (suc a)) (not_true (suc a == suc a) (and_left (not (suc a == suc a)) (w.lingers (suc a)) x.3))
-                contra (inr (inr x)) = apart (same q (w.changed (suc a))) lo.2 x.1

@@ -4,11 +4,13 @@ use Rattle.std.specs.Prelude.{◌==◌}
 use Rattle.am_stays.specs.Places.{Place, same}
 use Rattle.am_stays.specs.Shadow.{Shadow, shadow_start}
 use Rattle.am_stays.specs.Happenings.{Happening, Asked, Got, Decided, Refused, Stored, Replied, Closed, Accepted, Retired, Listed, Pieced, Settled, Learned, Turned, Joined, Left, Crashed, Restarted, Stopped, is_replica, all_below, can, done, shadow_after, shadow_run}
-use Rattle.am_stays.specs.Claims.{AreThree, PairsHold, ListsAreHeld, DecisionsSee, EarlierEpochsEnd, AreAdjacent, PlacesFollow}
+use Rattle.am_stays.specs.Claims.{AreThree, PairsHold, ListsAreHeld, DecisionsSee, EarlierEpochsEnd, AreAdjacent, OthersHoldNothing, NewcomersHoldNothing, EpochsFollow, PlacesFollow}
 use Rattle.am_stays.proofs.Machine.{World, goes_by, start}
 use Rattle.am_stays.proofs.Tables.{and_left, and_right, apart, decide, same_is, same_refl, eq_is, eq_true, if_true, if_false, others_same}
 use Rattle.am_stays.proofs.Runs.{fine-start, kept-from, past-from}
 use Rattle.am_stays.proofs.Bounds.{eras_grow, bounded-start}
+use Rattle.am_stays.proofs.Members.{find_place}
+use Rattle.am_stays.proofs.Others.{others-start, others-after}
 use Rattle.am_stays.proofs.Follows.{Follows, Reached, replica_up, replica_place}
 use Rattle.am_stays.proofs.FollowsOperations.{follow-request, follow-get, follow-write, follow-refuse, follow-put, follow-reply, follow-close, follow-accept, follow-retire}
 use Rattle.am_stays.proofs.FollowsLists.{below, follow-cut, follow-piece, follow-settle}
@@ -16,37 +18,41 @@ use Rattle.am_stays.proofs.FollowsRings.{follow-learn, follow-epoch, follow-join
 use Rattle.am_stays.proofs.TiedRequests.{there, seen-there}
 use Rattle.am_stays.proofs.TiedItems.{tied-start}
 
-follow : (s : Shadow) (h : Happening) (w : World) → Follows s w → can s h ≡ true → Reached (done s h)
-follow s (Asked n j) w f c = follow-request s w n j f c
-follow s (Got n j) w f c = follow-get s w n j f c
-follow s (Decided n j v k u x) w f c = follow-write s w n j v k u x f c
-follow s (Refused n) w f c = follow-refuse s w n f
-follow s (Stored x j) w f c = follow-put s w x j f c
-follow s (Replied x j k) w f c = follow-reply s w x j k f c
-follow s (Closed x) w f c = follow-close s w x f
-follow s (Accepted j x) w f c = follow-accept s w j x f c
-follow s (Retired j) w f c = follow-retire s w j f c
-follow s (Listed j r pieces piece) w f c = follow-cut s w.phase w.facts j r pieces piece f c
-follow s (Pieced j r p) w f c = follow-piece s w.phase w.facts j r p f c
-follow s (Settled r) w f c = follow-settle s w.phase w.facts r f c
-follow s (Learned j) w f c = follow-learn s w j f c
-follow s Turned w f c = follow-epoch s w f
-follow s (Joined i r) w f c = follow-join s w.phase w.facts i r f c
-follow s (Left i r) w f c = follow-leave s w.phase w.facts i r f c
-follow s (Crashed j) w f c = follow-crash s w.phase w.facts j f c
-follow s (Restarted j) w f c = follow-restart s w.phase w.facts j f c
-follow s Stopped w f c = follow-stop s w.phase w.facts f c
+follow : (s : Shadow) (h : Happening) (w : World) → OthersHoldNothing s → Follows s w → can s h ≡ true → Reached (done s h)
+follow s (Asked n j) w o f c = follow-request s w n j f c
+follow s (Got n j) w o f c = follow-get s w n j f c
+follow s (Decided n j v k u x) w o f c = follow-write s w n j v k u x f c
+follow s (Refused n) w o f c = follow-refuse s w n f
+follow s (Stored x j) w o f c = follow-put s w x j f c
+follow s (Replied x j k) w o f c = follow-reply s w x j k f c
+follow s (Closed x) w o f c = follow-close s w x f
+follow s (Accepted j x) w o f c = follow-accept s w j x f c
+follow s (Retired j) w o f c = follow-retire s w j f c
+follow s (Listed j r pieces piece) w o f c = follow-cut s w.phase w.facts j r pieces piece f c
+follow s (Pieced j r p) w o f c = follow-piece s w.phase w.facts j r p f c
+follow s (Settled r) w o f c = follow-settle s w.phase w.facts r f c
+follow s (Learned j) w o f c = follow-learn s w j o f c
+follow s Turned w o f c = follow-epoch s w f
+follow s (Joined i r) w o f c = follow-join s w.phase w.facts i r f c
+follow s (Left i r) w o f c = follow-leave s w.phase w.facts i r f c
+follow s (Crashed j) w o f c = follow-crash s w.phase w.facts j f c
+follow s (Restarted j) w o f c = follow-restart s w.phase w.facts j f c
+follow s Stopped w o f c = follow-stop s w.phase w.facts f c
 
-follow-after : (s : Shadow) (h : Happening) → Reached s → Reached (shadow_after s h)
-follow-after s h r =
+-- the others hold nothing, and the machine follows
+abbrev Kept : Shadow → Type 0
+Kept s = OthersHoldNothing s × Reached s
+
+kept-after : (s : Shadow) (h : Happening) → Kept s → Kept (shadow_after s h)
+kept-after s h r =
     elim (decide (can s h)) [
-      | inl c ↦ subst (λ t. Reached t) (sym (if_true (can s h) (done s h) s c)) (follow s h r.0 r.1 c)
-      | inr c ↦ subst (λ t. Reached t) (sym (if_false (can s h) (done s h) s c)) r
+      | inl c ↦ subst (λ t. Kept t) (sym (if_true (can s h) (done s h) s c)) (others-after s h r.1.1.bounded c r.0, follow s h r.1.0 r.0 r.1.1 c)
+      | inr c ↦ subst (λ t. Kept t) (sym (if_false (can s h) (done s h) s c)) r
     ]
 
-follow-run : (happened : List Happening) (s : Shadow) → Reached s → Reached (shadow_run happened s)
-follow-run [] s r = r
-follow-run (h ∷ hs) s r = follow-run hs (shadow_after s h) (follow-after s h r)
+kept-run : (happened : List Happening) (s : Shadow) → Kept s → Kept (shadow_run happened s)
+kept-run [] s r = r
+kept-run (h ∷ hs) s r = kept-run hs (shadow_after s h) (kept-after s h r)
 
 follow-start : (members : Place → ℕ) (held : ℕ → ℕ) → AreThree members → Reached (shadow_start members held)
 follow-start members held three = (
@@ -61,8 +67,25 @@ follow-start members held three = (
   },
 )
 
+kept : (members : Place → ℕ) (held : ℕ → ℕ) (happened : List Happening) → AreThree members → Kept (shadow_run happened (shadow_start members held))
+kept members held happened three = kept-run happened (shadow_start members held) (others-start members held, follow-start members held three)
+
+pub others : (members : Place → ℕ) (held : ℕ → ℕ) (happened : List Happening) → AreThree members → OthersHoldNothing (shadow_run happened (shadow_start members held))
+others members held happened three = (kept members held happened three).0
+
+-- who got a place in the next era has none in the one by which it goes
+newcomers-from : (s : Shadow) → OthersHoldNothing s → NewcomersHoldNothing s
+newcomers-from s h g r new up k =
+    elim (find_place s (s.era_of (s.known (s.member (suc g) r))) (s.member (suc g) r)) [
+      | inl c ↦ absurd (new c.0 (sym c.1 ∙ ap (λ m. s.member m c.0) k))
+      | inr c ↦ h (s.member (suc g) r) up (rw (up, c.1))
+    ]
+
+pub newcomers : (members : Place → ℕ) (held : ℕ → ℕ) (happened : List Happening) → AreThree members → NewcomersHoldNothing (shadow_run happened (shadow_start members held))
+newcomers members held happened three = newcomers-from (shadow_run happened (shadow_start members held)) (others members held happened three)
+
 reached : (members : Place → ℕ) (held : ℕ → ℕ) (happened : List Happening) → AreThree members → Reached (shadow_run happened (shadow_start members held))
-reached members held happened three = follow-run happened (shadow_start members held) (follow-start members held three)
+reached members held happened three = (kept members held happened three).1
 
 decisions-from : (s : Shadow) (w : World) → Follows s w → DecisionsSee s
 decisions-from s w f = seen-there s w f.fine f.tied
@@ -154,10 +177,19 @@ places members held happened three =
     let r = reached members held happened three in
     places-from (shadow_run happened (shadow_start members held)) r.0 r.1
 
+pub epochs : (members : Place → ℕ) (held : ℕ → ℕ) (happened : List Happening) → AreThree members → EpochsFollow (shadow_run happened (shadow_start members held))
+epochs members held happened three =
+    let r = reached members held happened three in
+    (r.1.bounded.known, r.1.bounded.steps)
+
+-- two requests of one epoch that were answered are of one era
+one-era : (s : Shadow) (w : World) → Follows s w → (n o j v k u : ℕ) → s.answer n j v ≡ true → s.answer o k u ≡ true → s.epoch n ≡ s.epoch o → w.facts.request_era n ≡ w.facts.request_era o
+one-era s w f n o j v k u aj ak both = f.tied.asking.request_era n (f.bounded.answered n j v aj).0 ∙ (ap s.era_of both ∙ sym (f.tied.asking.request_era o (f.bounded.answered o k u ak).0))
+
 -- of an earlier epoch of the same era: the two that answered are past it
-same-era : (s : Shadow) (w : World) → Follows s w → (n j v k u l m : ℕ) → s.answer n j v ≡ true → s.answer n k u ≡ true → (j ≡ k → ⊥) → is_replica s l ≡ true → is_replica s m ≡ true → s.known l ≡ s.known m → s.known l < s.epoch n → s.era_of (s.known l) ≡ w.facts.request_era n → l ≡ m
-same-era s w f n j v k u l m aj ak apart_ rl rm e less g =
-    sym ll ∙ (ap (s.member g0) (others_same pj.0 pk.0 pl.0 pm.0 (differ j k pj.0 pk.0 pj.1 pk.1 apart_) (differ l j pl.0 pj.0 ll pj.1 (past l j v refl aj)) (differ l k pl.0 pk.0 ll pk.1 (past l k u refl ak)) (differ m j pm.0 pj.0 mm pj.1 (past m j v (sym e) aj)) (differ m k pm.0 pk.0 mm pk.1 (past m k u (sym e) ak))) ∙ mm)
+same-era : (s : Shadow) (w : World) → Follows s w → (n o j v k u l m : ℕ) → s.answer n j v ≡ true → s.answer o k u ≡ true → s.epoch n ≡ s.epoch o → (j ≡ k → ⊥) → is_replica s l ≡ true → is_replica s m ≡ true → s.known l ≡ s.known m → s.known l < s.epoch n → s.era_of (s.known l) ≡ w.facts.request_era n → l ≡ m
+same-era s w f n o j v k u l m aj ak both apart_ rl rm e less g =
+    sym ll ∙ (ap (s.member g0) (others_same pj.0 pk.0 pl.0 pm.0 (differ j k pj.0 pk.0 pj.1 kk apart_) (differ l j pl.0 pj.0 ll pj.1 (past n l j v refl refl aj)) (differ l k pl.0 pk.0 ll kk (past o l k u refl both ak)) (differ m j pm.0 pj.0 mm pj.1 (past n m j v (sym e) refl aj)) (differ m k pm.0 pk.0 mm kk (past o m k u (sym e) both ak))) ∙ mm)
   where
     g0 : ℕ
     g0 = w.facts.request_era n
@@ -165,8 +197,11 @@ same-era s w f n j v k u l m aj ak apart_ rl rm e less g =
     pj : (q : Place) × (s.member g0 q ≡ j) × (w.facts.answer n q v ≡ true)
     pj = f.tied.asking.answer n j v aj
 
-    pk : (q : Place) × (s.member g0 q ≡ k) × (w.facts.answer n q u ≡ true)
-    pk = f.tied.asking.answer n k u ak
+    pk : (q : Place) × (s.member (w.facts.request_era o) q ≡ k) × (w.facts.answer o q u ≡ true)
+    pk = f.tied.asking.answer o k u ak
+
+    kk : s.member g0 pk.0 ≡ k
+    kk = subst (λ b. s.member b pk.0 ≡ k) (sym (one-era s w f n o j v k u aj ak both)) pk.1
 
     pl : (q : Place) × (s.member (s.era_of (s.known l)) q ≡ l)
     pl = replica_place s l rl
@@ -180,16 +215,16 @@ same-era s w f n j v k u l m aj ak apart_ rl rm e less g =
     mm : s.member g0 pm.0 ≡ m
     mm = subst (λ b. s.member b pm.0 ≡ m) (ap s.era_of (sym e) ∙ g) pm.1
 
-    past : (a b c : ℕ) → s.known a ≡ s.known l → s.answer n b c ≡ true → a ≡ b → ⊥
-    past a b c h y z = absurd (omega (arith, (f.bounded.answered n b c y).1, less, h, ap s.known z))
+    past : (i a b c : ℕ) → s.known a ≡ s.known l → s.epoch n ≡ s.epoch i → s.answer i b c ≡ true → a ≡ b → ⊥
+    past i a b c h x y z = absurd (omega (arith, (f.bounded.answered i b c y).1, less, h, x, ap s.known z))
 
     differ : (a b : ℕ) (p q : Place) → s.member g0 p ≡ a → s.member g0 q ≡ b → (a ≡ b → ⊥) → same p q ≡ false
     differ a b p q x y h = elim (decide (same p q)) [ inr c ↦ c | inl c ↦ absurd (h (sym x ∙ (ap (s.member g0) (same_is p q c) ∙ y))) ]
 
 ended-from : (s : Shadow) (w : World) → Follows s w → EarlierEpochsEnd s
-ended-from s w f n j v k u l m aj ak apart_ rl rm e less =
+ended-from s w f n o j v k u l m aj ak both apart_ rl rm e less =
     elim (decide (s.era_of (s.known l) == w.facts.request_era n)) [
-      | inl c ↦ same-era s w f n j v k u l m aj ak apart_ rl rm e less (eq_is (s.era_of (s.known l)) (w.facts.request_era n) c)
+      | inl c ↦ same-era s w f n o j v k u l m aj ak both apart_ rl rm e less (eq_is (s.era_of (s.known l)) (w.facts.request_era n) c)
       | inr c ↦ earlier (before_ c)
     ]
   where
@@ -208,8 +243,11 @@ ended-from s w f n j v k u l m aj ak apart_ rl rm e less =
     pj : (q : Place) × (s.member (w.facts.request_era n) q ≡ j) × (w.facts.answer n q v ≡ true)
     pj = f.tied.asking.answer n j v aj
 
-    pk : (q : Place) × (s.member (w.facts.request_era n) q ≡ k) × (w.facts.answer n q u ≡ true)
-    pk = f.tied.asking.answer n k u ak
+    pk : (q : Place) × (s.member (w.facts.request_era o) q ≡ k) × (w.facts.answer o q u ≡ true)
+    pk = f.tied.asking.answer o k u ak
+
+    eras : w.facts.request_era n ≡ w.facts.request_era o
+    eras = one-era s w f n o j v k u aj ak both
 
     pl : (q : Place) × (s.member (s.era_of (s.known l)) q ≡ l)
     pl = replica_place s l rl
@@ -221,11 +259,11 @@ ended-from s w f n j v k u l m aj ak apart_ rl rm e less =
     mm = subst (λ b. s.member b pm.0 ≡ m) (ap s.era_of (sym e)) pm.1
 
     other : same pj.0 pk.0 ≡ false
-    other = elim (decide (same pj.0 pk.0)) [ inr c ↦ c | inl c ↦ absurd (apart_ (sym pj.1 ∙ (ap (s.member (w.facts.request_era n)) (same_is pj.0 pk.0 c) ∙ pk.1))) ]
+    other = elim (decide (same pj.0 pk.0)) [ inr c ↦ c | inl c ↦ absurd (apart_ (sym pj.1 ∙ (ap (s.member (w.facts.request_era n)) (same_is pj.0 pk.0 c) ∙ subst (λ b. s.member b pk.0 ≡ k) (sym eras) pk.1))) ]
 
     earlier : s.era_of (s.known l) < w.facts.request_era n → l ≡ m
     earlier h =
-        let one = past-from w f.fine n g pj.0 pk.0 pl.0 pm.0 v u pj.2 pk.2 other h (there s w g pl.0 l f.tied (f.tied.links.least l) pl.1 (replica_up s l rl) refl) (there s w g pm.0 m f.tied (f.tied.links.least l) mm (replica_up s m rm) (ap s.era_of (sym e))) in
+        let one = past-from w f.fine n o g pj.0 pk.0 pl.0 pm.0 v u pj.2 pk.2 eras other h (there s w g pl.0 l f.tied (f.tied.links.least l) pl.1 (replica_up s l rl) refl) (there s w g pm.0 m f.tied (f.tied.links.least l) mm (replica_up s m rm) (ap s.era_of (sym e))) in
         sym pl.1 ∙ (ap (s.member g) (same_is pl.0 pm.0 one) ∙ mm)
 
 pub ended : (members : Place → ℕ) (held : ℕ → ℕ) (happened : List Happening) → AreThree members → EarlierEpochsEnd (shadow_run happened (shadow_start members held))

@@ -1,5 +1,5 @@
 -- What is claimed of every calm view.
-use Rattle.std.specs.Prelude.{◌≡◌, ℕ, suc, ◌<◌, ◌≤◌, max, Bool, true, ◌&&◌, ◌⊎◌, List}
+use Rattle.std.specs.Prelude.{◌≡◌, ℕ, suc, ◌<◌, ◌≤◌, max, Bool, true, false, ◌&&◌, ◌⊎◌, List}
 use Rattle.am_stays.specs.Places.{Place}
 use Rattle.am_stays.specs.Shadow.{Shadow, shadow_start}
 use Rattle.am_stays.specs.Happenings.{Happening, era_now, is_replica, has_list, shadow_run}
@@ -32,18 +32,41 @@ ListsAreHeld s =
     (r j : ℕ) → has_list s r j ≡ true →
     (s.list j (s.known r) r (s.incarnation r) ≤ s.held r) ⊎ (s.list j (s.known r) r (s.incarnation r) ≤ s.outlived)
 
--- Each decision sees what was acknowledged before its request came, unless that is outlived: of the two answers by which
--- it can be decided one has it, or an item of its key with a greater stamp.
+-- Each decision sees what was acknowledged before its request came, unless that is outlived: of the two answers by
+-- which it can be decided one has it, or an item of its key with a greater stamp.
 abbrev pub DecisionsSee : Shadow → Type 0
 DecisionsSee s =
     (n x j v k u : ℕ) → s.undecided n ≡ true → s.before n x ≡ true → s.outlived < x →
     s.answer n j v ≡ true → s.answer n k u ≡ true → (j ≡ k → ⊥) → x ≤ max v u
 
--- Once two instances answered a request, at most one replica of each earlier epoch still goes by that epoch.
+-- Once two instances answered Gets of an epoch, of one request or of two, at most one replica of each earlier epoch
+-- still goes by that epoch.
 abbrev pub EarlierEpochsEnd : Shadow → Type 0
 EarlierEpochsEnd s =
-    (n j v k u l m : ℕ) → s.answer n j v ≡ true → s.answer n k u ≡ true → (j ≡ k → ⊥) →
+    (n o j v k u l m : ℕ) → s.answer n j v ≡ true → s.answer o k u ≡ true → s.epoch n ≡ s.epoch o → (j ≡ k → ⊥) →
     is_replica s l ≡ true → is_replica s m ≡ true → s.known l ≡ s.known m → s.known l < s.epoch n → l ≡ m
+
+-- it holds nothing, and isn't settled
+abbrev pub HasNothing : Shadow → ℕ → Type 0
+HasNothing s j = (s.held j ≡ 0) × (s.settled j ≡ false)
+
+-- Who is up, and none of the three of the era by which it goes, has nothing.
+abbrev pub OthersHoldNothing : Shadow → Type 0
+OthersHoldNothing s = (j : ℕ) → s.up j ≡ true → is_replica s j ≡ false → HasNothing s j
+
+-- Who got its place as an era began has nothing until it knows that era: as long as it goes by the one before.
+abbrev pub NewcomersHoldNothing : Shadow → Type 0
+NewcomersHoldNothing s =
+    (g : ℕ) (r : Place) → ((q : Place) → s.member (suc g) r ≡ s.member g q → ⊥) →
+    s.up (s.member (suc g) r) ≡ true → s.era_of (s.known (s.member (suc g) r)) ≡ g →
+    HasNothing s (s.member (suc g) r)
+
+-- Epochs are counted one by one: nobody goes by a later one than the present, and with each the era stays or the next
+-- begins.
+abbrev pub EpochsFollow : Shadow → Type 0
+EpochsFollow s =
+    ((j : ℕ) → s.known j ≤ s.present)
+    × ((e : ℕ) → e < s.present → (s.era_of (suc e) ≡ s.era_of e) ⊎ (s.era_of (suc e) ≡ suc (s.era_of e)))
 
 -- One of the three of an era that ended that still goes by it: the next era is the present one, or it lost its place.
 abbrev pub AreAdjacent : Shadow → Type 0

@@ -2,7 +2,10 @@
 -- repeated comes again, and each comes however late.
 use Rattle.std.specs.Prelude.{ℕ, suc, zero, Bool, true, not, ◌&&◌, ◌||◌, if◌then◌else◌, nat_lt, ◌==◌, List, [], ◌∷◌}
 use Rattle.am_stays.specs.Places.{Place, First, Second, Third}
-use Rattle.am_stays.specs.Shadow.{Shadow, has_place, is_calm, after_request, after_get, after_write, after_put, after_reply, after_refuse, after_close, after_accept, after_retire, after_cut, after_piece, after_settle, after_learn, after_epoch, after_join, after_leave, after_crash, after_rise, after_restart, after_stop}
+use Rattle.am_stays.specs.Shadow.{Shadow, has_place, is_calm, after_request, after_get, after_write, after_put}
+use Rattle.am_stays.specs.Shadow.{after_reply, after_refuse, after_close, after_accept, after_retire, after_cut}
+use Rattle.am_stays.specs.Shadow.{after_piece, after_settle, after_learn, after_epoch, after_join, after_leave}
+use Rattle.am_stays.specs.Shadow.{after_crash, after_rise, after_restart, after_stop}
 
 pub data Happening : Type 0 where
   Asked : (n j : ℕ) → Happening  -- request n comes to instance j
@@ -41,7 +44,8 @@ all_below (suc n) test = test n && all_below n test
 -- r took all pieces of the list that j cut for its epoch and incarnation
 abbrev pub has_list : Shadow → ℕ → ℕ → Bool
 has_list s r j =
-    s.cut j (s.known r) r (s.incarnation r) && all_below (s.pieces j (s.known r) r (s.incarnation r)) (λ p. s.taken r j p)
+    s.cut j (s.known r) r (s.incarnation r)
+    && all_below (s.pieces j (s.known r) r (s.incarnation r)) (λ p. s.taken r j p)
 
 -- .. or is j itself
 abbrev pub has_other : Shadow → ℕ → ℕ → Bool

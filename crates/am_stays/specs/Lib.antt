@@ -3,3 +3,4 @@ pub mod Shadow
 pub mod Happenings
 pub mod Claims
 pub mod Examples
+pub mod BrokenRules

@@ -1,6 +1,6 @@
--- The private cluster of a tenant as one key sees it: instances by number, epochs, incarnations, and what was ever sent.
--- An item is told by its stamp, a list of items by the greatest stamp of the key in it, 0 where it has none. A request is
--- told by its number, the write that its decision makes by its stamp.
+-- The private cluster of a tenant as one key sees it: instances by number, epochs, incarnations, and what was ever
+-- sent. An item is told by its stamp, a list of items by the greatest stamp of the key in it, 0 where it has none. A
+-- request is told by its number, the write that its decision makes by its stamp.
 use Rattle.std.specs.Prelude.{ℕ, suc, max, Bool, true, false, not, ◌&&◌, ◌||◌, if◌then◌else◌, ◌==◌}
 use Rattle.am_stays.specs.Places.{Place, First, Second, Third, same}
 
@@ -35,9 +35,13 @@ pub record Shadow : Type 0 where
   pub piece : (j e r m : ℕ) → ℕ  -- the piece that has the key; any, where none has it
   pub taken : (r j p : ℕ) → Bool  -- instance r took piece p of the list of j for its epoch and incarnation
 
--- instance j is one of the three of an era
+-- instance j is one of these three
+abbrev pub is_member : (Place → ℕ) → (j : ℕ) → Bool
+is_member members j = (members First == j) || ((members Second == j) || (members Third == j))
+
+-- .. of an era
 abbrev pub has_place : Shadow → (era j : ℕ) → Bool
-has_place s era j = (s.member era First == j) || ((s.member era Second == j) || (s.member era Third == j))
+has_place s era j = is_member (s.member era) j
 
 -- who has a place in an era is up and settled, and goes by it
 abbrev pub is_ready : Shadow → (era : ℕ) → Place → Bool
@@ -129,13 +133,12 @@ after_piece s j r p =
 abbrev pub after_settle : Shadow → ℕ → Shadow
 after_settle s r = record s { settled = λ k. (k == r) || s.settled k }
 
--- Instance j goes on to the next epoch. Where the three change with it, it keeps what it holds only if it is one of them
--- before and after. Whose pieces it took it forgets.
+-- Instance j stops being one of the three as it goes on to the next epoch.
 abbrev pub drops : Shadow → ℕ → Bool
-drops s j =
-    not (s.era_of (s.known j) == s.era_of (suc (s.known j)))
-    && not (has_place s (s.era_of (s.known j)) j && has_place s (s.era_of (suc (s.known j))) j)
+drops s j = has_place s (s.era_of (s.known j)) j && not (has_place s (s.era_of (suc (s.known j))) j)
 
+-- It goes on to that, and where it stops being one of the three it drops what it holds. Whose pieces it took it
+-- forgets.
 abbrev pub after_learn : Shadow → ℕ → Shadow
 after_learn s j =
     record s {
@@ -209,7 +212,8 @@ after_restart s j e =
       taken = λ k l p. not (k == j) && s.taken k l p;
     }
 
--- All instances stop, and start again with the ring as it was and what was stored. Epochs are counted on.
+-- All instances stop, and start again with the ring as it was, each of the three with what it stored. Epochs are
+-- counted on.
 abbrev pub after_stop : Shadow → ℕ → ℕ → Shadow
 after_stop s era e =
     record s {
@@ -217,14 +221,16 @@ after_stop s era e =
       era_of = λ f. if f == e then era else s.era_of f;
       known = λ k. e;
       incarnation = λ k. suc (s.incarnation k);
+      held = λ k. if has_place s era k then s.held k else 0;
       up = λ k. true;
-      settled = λ k. true;
+      settled = λ k. has_place s era k;
       undecided = λ n. false;
       waiting = λ x. false;
       taken = λ k l p. false;
     }
 
--- All are up, settled, and go by epoch 0, whatever they hold; nothing was asked.
+-- All are up and go by epoch 0. The three are settled, whatever each holds, and no other holds anything; nothing was
+-- asked.
 abbrev pub shadow_start : (Place → ℕ) → (ℕ → ℕ) → Shadow
 shadow_start members held =
     record {
@@ -234,8 +240,8 @@ shadow_start members held =
       known = λ k. 0;
       incarnation = λ k. 0;
       up = λ k. true;
-      settled = λ k. true;
-      held = held;
+      settled = λ k. is_member members k;
+      held = λ k. if is_member members k then held k else 0;
       outlived = 0;
       asked = λ n. false;
       epoch = λ n. 0;
