@@ -8,6 +8,7 @@ use Rattle.clap.specs.Kinds.{Kinds}
 use Rattle.clap.specs.declared.error.kind.ErrorKind.{ErrorKind}
 use Rattle.clap.specs.declared.error.kind.ErrorKind.TheVariants.{DisplayHelp, DisplayVersion, OutOfMemory}
 use Rattle.hex.specs.Hex.{decode_sized}
+use Rattle.am_ring.specs.Instances.{in_order}
 use Rattle.am_scenario.specs.Line.{◌>>=◌}
 use Rattle.am_scenario.specs.Number.{number_of}
 use Rattle.am_options.specs.declared.command_line.CommandLine.{CommandLine}
@@ -86,7 +87,7 @@ settings_in rows = do
   key ← key_in rows
   start ← given_in (codes "start") (2 ^ 32 - 1) rows
   Some (record {
-    origin = record { service_key = key; ring = 1 ∷ 2 ∷ 3 ∷ []; first = unwrap_or start 1 };
+    origin = record { service_key = key; ring = in_order (1 ∷ 2 ∷ 3 ∷ []); first = unwrap_or start 1 };
     cache = cache;
   })
 

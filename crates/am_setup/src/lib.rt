@@ -2,28 +2,29 @@
 #![tactic(auto)]
 
 ghost use Rattle.std.specs.Prelude.{◌≡◌, ◌↔◌, ◌<◌, IsTrue, IsSome, IfSome};
-ghost use Rattle.std.specs.List.{list_all};
-ghost use Rattle.am_setup.specs.Setup.{all_differ, is_instance, is_ring, is_setup};
+ghost use Rattle.am_ring.specs.Instances.{in_order};
+ghost use Rattle.am_setup.specs.Setup.{is_setup};
 
+use am_ring::Ring;
 use std::marker::Model;
 
-/// The settings of a world. Behind the ring's instances stand zeros, which are no instance's number.
+/// The settings of a world.
 #[derive(Drop)]
 pub struct Setup {
     key: [u8; 32],
-    ring: [u8; 8],
+    ring: Ring,
     cache: u32,
     start: u32,
 }
 
 impl Model for Setup {
     ghost use Rattle.std.specs.Prelude.{◌≡◌, ◌<◌, length};
-    ghost use Rattle.am_setup.specs.Setup.{Settings, ring_in};
+    ghost use Rattle.am_setup.specs.Setup.{Settings};
 
     ghost Value = { Settings };
 
     ghost view = { λ s. record {
-      origin = record { service_key = s.key; ring = ring_in s.ring; first = s.start };
+      origin = record { service_key = s.key; ring = s.ring.instances; first = s.start };
       cache = s.cache;
     } };
 
@@ -31,24 +32,23 @@ impl Model for Setup {
 }
 
 impl Setup {
-    /// Settings out of the service key, the ring's instances (3 to 8 different numbers of 1 to 8), the
+    /// Settings out of the service key, the ring's instances (3 to 8 different numbers of 1 to 8, in any order), the
     /// capacity of an instance's cache of patterns (1 to 65,536) and the first incarnation (not 0). None where
     /// one of them is out of its range. The ring isn't used yet.
     pub fn new(key: [u8; 32], ring: &[u8], cache: u32, start: u32) -> Option<Setup>
         ensures valid { IsSome result ↔ IsTrue (is_setup ring.now cache start) }
         ensures settings { IfSome result (λ setup. setup ≡ record {
-          origin = record { service_key = key; ring = ring.now; first = start };
+          origin = record { service_key = key; ring = in_order ring.now; first = start };
           cache = cache;
         }) }
     {
-        if !names_ring(ring) || cache == 0 || cache > 65_536 || start == 0 {
+        let ring = Ring::new(ring)?;
+        if cache == 0 || cache > 65_536 || start == 0 {
             return None;
         }
-        let mut instances = [0; 8];
-        instances[..ring.len()].copy_from_slice(ring);
         Some(Setup {
             key,
-            ring: instances,
+            ring,
             cache,
             start,
         })
@@ -100,34 +100,4 @@ impl Setup {
         hash_key.copy_from_slice(&self.key[..16]);
         hash_key
     }
-}
-
-/// Whether these are 3 to 8 different numbers of 1 to 8.
-fn names_ring(ring: &[u8]) -> bool
-    ensures { result ≡ is_ring ring.now }
-{
-    let count = ring.len();
-    if count < 3 || count > 8 {
-        return false;
-    }
-    are_numbers(ring) && differ(ring)
-}
-
-/// Whether each is the number of an instance.
-fn are_numbers(numbers: &[u8]) -> bool
-    ensures { result ≡ list_all is_instance numbers.now }
-{
-    numbers.iter().all(|number| 1 <= *number && *number <= 8)
-}
-
-/// Whether no number stands in the list twice.
-fn differ(numbers: &[u8]) -> bool
-    ensures { result ≡ all_differ numbers.now }
-{
-    for (i, number) in numbers.iter().enumerate() {
-        if numbers[i + 1..].contains(number) {
-            return false;
-        }
-    }
-    true
 }
