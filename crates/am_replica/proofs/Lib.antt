@@ -1,28 +1,3 @@
-mod Accepted
-mod AlertSets
-mod Begun
-mod ByRoutes
-mod Changes
-mod Coming
-mod Counting
-mod Fates
-mod Flagged
-mod Flushable
-mod Flushes
-mod Followed
-mod Handling
-mod Kept
-mod Leaving
-mod Locals
-mod Meeting
-mod Muteds
-mod Outcomes
-mod Planned
-mod Puts
-mod Sequence
-mod StoredRows
-mod StoredTicks
-mod Ticks
-mod Turns
-mod Unmuted
-mod Untried
+pub mod Leaving
+pub mod Parts
+pub mod Rows

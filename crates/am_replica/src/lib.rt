@@ -1,21 +1,11 @@
-//! What an instance has of all tenants: what it holds, what it has planned for that, and what it counts.
+//! What an instance holds of all tenants, what it counts for them, and what of it goes to its store.
 #![tactic(auto)]
 
 mod accepting;
-mod delivery;
-mod dispatch;
-mod flushing;
-mod here;
-mod holding;
-mod muted;
-mod parts;
 mod recording;
 mod replica;
 mod retiring;
-mod sets;
 mod storing;
-mod ticking;
 
-pub use dispatch::Dispatch;
-pub use here::Here;
 pub use replica::Replica;
+pub use storing::commit;

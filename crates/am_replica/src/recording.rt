@@ -1,43 +1,44 @@
 //! What records that webhooks were told.
 
-ghost use Rattle.std.specs.Prelude.{◌≡◌, true, IfErr, IfOk, OnOk};
+ghost use Rattle.std.specs.Prelude.{◌≡◌, ◌+◌, nat_le, true, IfErr, IfOk, OnOk};
 ghost use Rattle.am_book.specs.Book.{items_of};
-ghost use Rattle.am_replica.specs.Delivery.{entry_stamped, recorded, seen};
-ghost use Rattle.am_replica.specs.Held.{Does, StopsFor, local_of};
+ghost use Rattle.am_context.specs.Stopping.{StopsPast};
+ghost use Rattle.am_item.specs.Counts.{greatest_count};
+ghost use Rattle.am_replica.specs.Holds.{Makes, holds_of};
+ghost use Rattle.am_replica.specs.Recording.{entry_stamped, recorded, seen};
 
-use crate::here::Here;
-use crate::parts::Parts;
+use crate::replica::Replica;
 use am_alert::stamp_moment;
+use am_context::{Context, Receipt};
 use am_current::Holdings;
 use am_group::recorded;
-use am_item::{EntryKey, Fault, GREATEST_COUNT, Item, LabelSets, Stamp, Thing};
+use am_item::{EntryKey, Fault, GREATEST_COUNT, Item, Stamp, Thing};
 use am_tenant::TenantName;
 use am_text::Moment;
 use std::alloc::Global;
 
-impl Parts {
-    /// Records that a webhook was told of these alerts that fire and of these resolved ones. The record is of use for so many
-    /// milliseconds after its stamp.
-    pub(crate) fn record(
+impl Replica {
+    /// Records that a webhook of a tenant was told.
+    ///
+    /// # Errors
+    /// `CountsExhausted` where the count of the stamp would pass 2^62, or out of memory.
+    pub fn record(
         &mut self,
         alloc: Global,
         tenant: &TenantName,
-        here: &Here,
-        key: EntryKey,
-        firing: LabelSets,
-        resolved: LabelSets,
-        span: u64,
+        context: &Context,
+        receipt: Receipt,
     ) -> Result<(), Fault>
-        ensures does { OnOk result (Does tenant.now (recorded here.now key firing resolved span) self.old self.new) }
-        ensures fits { IfOk result (λ _. (recorded here.now key firing resolved span (local_of tenant.now self.old)).fits ≡ true) }
-        ensures fault { IfErr result (StopsFor (recorded here.now key firing resolved span (local_of tenant.now self.old))) }
+        ensures holds { OnOk result (Makes tenant.now (recorded context.now receipt) self.old self.new) }
+        ensures fits { IfOk result (λ _. nat_le ((holds_of tenant.now self.old).stamps + 1) greatest_count ≡ true) }
+        ensures fault { IfErr result (StopsPast (nat_le ((holds_of tenant.now self.old).stamps + 1) greatest_count)) }
     {
         let used = self.counts.used(tenant);
         if used >= GREATEST_COUNT {
             return Err(Fault::CountsExhausted);
         }
-        let moment = stamp_moment(here.moment, seen(&self.holdings, tenant, &key));
-        let entry = entry(here, key, firing, resolved, span, moment, used + 1);
+        let moment = stamp_moment(context.moment, seen(&self.holdings, tenant, &receipt.key));
+        let entry = entry(context, receipt, moment, used + 1);
         let items = vec![in alloc; entry]?;
         self.holdings.put_all(alloc, tenant, items)?;
         self.counts.set(alloc, tenant, used + 1)?;
@@ -54,17 +55,15 @@ fn seen(holdings: &Holdings, tenant: &TenantName, key: &EntryKey) -> Option<Mome
 }
 
 // The entry, by a stamp of this moment and count.
-fn entry(
-    here: &Here,
-    key: EntryKey,
-    firing: LabelSets,
-    resolved: LabelSets,
-    span: u64,
-    moment: Moment,
-    count: u64,
-) -> Item
-    ensures { result ≡ entry_stamped here.now key firing resolved span moment count }
+fn entry(context: &Context, receipt: Receipt, moment: Moment, count: u64) -> Item
+    ensures { result ≡ entry_stamped context.now receipt.key receipt.firing receipt.resolved receipt.span moment count }
 {
+    let Receipt {
+        key,
+        firing,
+        resolved,
+        span,
+    } = receipt;
     let EntryKey {
         receiver,
         group,
@@ -73,8 +72,8 @@ fn entry(
     Item {
         stamp: Stamp {
             moment,
-            instance: here.instance,
-            incarnation: here.incarnation,
+            instance: context.instance,
+            incarnation: context.incarnation,
             count,
         },
         thing: Thing::SentEntry(recorded(receiver, group, webhook, firing, resolved, moment, span)),

@@ -1,266 +1,81 @@
-//! What an instance has of all tenants.
+//! What an instance holds of all tenants.
 
-ghost use Rattle.std.specs.Prelude.{false, ◌≡◌, ◌+◌, ◌<◌, ◌≤◌, ℕ, List, true, IfErr, IfOk, OnErr, OnOk, length, if◌then◌else◌};
+ghost use Rattle.std.specs.Prelude.{◌≡◌, ℕ, List, IfOk};
 ghost use Rattle.std.specs.Borrow.{sem};
 ghost use Rattle.std.specs.Io.BufRead.{Rests};
-ghost use Rattle.am_alert.specs.Made.{greatest_count};
 ghost use Rattle.am_current.specs.Current.{configuration_in};
 ghost use Rattle.am_item.specs.Best.{IsRising};
-ghost use Rattle.am_pattern.specs.Asking.{Asked};
-ghost use Rattle.am_rows.specs.Refusing.{IsJudged, MayRefuse};
-ghost use Rattle.am_rows.specs.Rows.{Keeps, has_stored, rows_of, stored_in};
-ghost use Rattle.am_replica.specs.Retiring.{retired};
-ghost use Rattle.am_replica.specs.Storing.{AreStored, LeavesStore, fault_in};
-ghost use Rattle.am_tenant.specs.Names.{same};
-ghost use Rattle.am_replica.specs.Accepting.{StopsCommitting, accepted, kept, kept_for};
-ghost use Rattle.am_replica.specs.Delivery.{is_awaited, outcome};
-ghost use Rattle.am_replica.specs.Held.{Does, Makes, StopsFor, local_of};
-ghost use Rattle.am_replica.specs.Local.{blank};
-ghost use Rattle.am_replica.specs.Ticks.{StopsTicking, TicksAll, here_for};
+ghost use Rattle.am_replica.specs.Holds.{holds_of, nothing};
 
-use crate::dispatch::Dispatch;
-use crate::here::Here;
-use crate::parts::Parts;
 use am_config::Config;
-use am_item::{Fault, Held, Item};
-use am_limit::LimitBook;
-use am_pattern::PatternCache;
-use am_rows::{Rows, StoreRefusal};
+use am_current::Holdings;
+use am_item::{Counts, Held};
 use am_tenant::TenantName;
-use am_text::{Failure, Moment};
-use am_words::Place;
 use std::alloc::{AllocError, Global};
-use std::marker::Model;
 
-/// What an instance has of all tenants: what it holds, what it has planned for that, which notices are on their way, and what
-/// it counts. A call for one tenant leaves what it has of the others as it was; one that fails leaves nothing of any tenant.
+/// The items that are held of all tenants, the configurations in use, and how many stamps were counted. A call for one
+/// tenant leaves what is held of the others as it was; after an error it is of use only to be cleared.
 pub struct Replica {
-    parts: Parts,
-}
-
-impl Model for Replica {
-    ghost use Rattle.std.specs.Prelude.{ℕ, List};
-    ghost use Rattle.am_replica.specs.Held.{local_of};
-    ghost use Rattle.am_replica.specs.Plans.{IsPlanned};
-    ghost use Rattle.am_replica.specs.declared.parts.Parts.{Parts};
-
-    ghost Value = { Parts };
-
-    ghost view = { λ replica. replica.parts };
-
-    ghost invariant = { λ replica. (t : List ℕ) → IsPlanned (local_of t replica.parts) };
+    pub(crate) holdings: Holdings,
+    pub(crate) counts: Counts,
 }
 
 // Written out, so that a crate which owns a replica has no need to prove anew how each of its parts is dropped.
 impl Drop for Replica {
     fn drop(self) {
-        let Replica { parts } = self;
-        drop(parts);
+        let Replica { holdings, counts } = self;
+        drop(holdings);
+        drop(counts);
     }
 }
 
 impl Replica {
     ghost use Rattle.am_replica.specs.contracts.replica.Replica.{the_row};
 
-    /// Nothing of any tenant.
+    /// Nothing held of any tenant.
     ///
     /// An error is out of memory.
+    #[tactic(auto, unfolding(crate::specs::Holds::holds_of, am_book::specs::Book::items_of, am_item::specs::Counts::count_of))]
     pub fn new(alloc: Global) -> Result<Replica, AllocError>
-        ensures { IfOk result (λ replica. (t : List ℕ) → local_of t replica ≡ blank) }
+        ensures { IfOk result (λ replica. (t : List ℕ) → holds_of t replica ≡ nothing) }
     {
-        let parts = Parts::new(alloc)?;
-        Ok(Replica { parts })
+        Ok(Replica {
+            holdings: Holdings::new(alloc)?,
+            counts: Counts::new(alloc),
+        })
     }
 
-    /// Forgets all that it has of all tenants, as a crash does. It takes no memory.
+    /// Forgets all that is held of all tenants, as a crash does. It takes no memory.
+    #[tactic(auto, unfolding(crate::specs::Holds::holds_of, am_book::specs::Book::items_of, am_item::specs::Counts::count_of))]
     pub fn clear(&mut self, alloc: Global)
-        ensures { (t : List ℕ) → local_of t self.new ≡ blank }
+        ensures { (t : List ℕ) → holds_of t self.new ≡ nothing }
     {
-        self.parts.clear(alloc);
+        self.holdings.clear(alloc);
+        self.counts = Counts::new(alloc);
     }
 
-    /// How many stamps of a tenant it has counted.
-    #[tactic(auto, unfolding(crate::specs::Held::local_of))]
+    /// How many stamps of a tenant were counted.
+    #[tactic(auto, unfolding(crate::specs::Holds::holds_of))]
     pub fn stamps(&self, tenant: &TenantName) -> u64
-        ensures { result ≡ (local_of tenant.now self.now).ledger.stamps }
+        ensures { result ≡ (holds_of tenant.now self.now).stamps }
     {
-        self.parts.counts.used(tenant)
-    }
-
-    /// The place of a tenant's next word.
-    #[tactic(auto, unfolding(crate::specs::Held::local_of))]
-    pub fn place(&self, tenant: &TenantName) -> Place
-        ensures { result ≡ (local_of tenant.now self.now).ledger.drawn }
-    {
-        self.parts.places.place(tenant)
+        self.counts.used(tenant)
     }
 
     /// What is held of a tenant, and the configuration in use for it.
     ///
     /// An error is out of memory; nothing changes then.
-    #[tactic(auto, unfolding(crate::specs::Held::local_of))]
+    #[tactic(auto, unfolding(crate::specs::Holds::holds_of))]
     pub fn in_use(
         &mut self,
         alloc: Global,
         tenant: &TenantName,
     ) -> Result<(&Held, &Config), AllocError>
-        ensures* stays { sem 𝓛 (Rests the_row self.entry (λ new. (t : List ℕ) → local_of t new ≡ local_of t self.old)) }
-        ensures held { IfOk result (λ used. used.0.now ≡ (local_of tenant.now self.old).held) }
+        ensures* stays { sem 𝓛 (Rests the_row self.entry (λ new. new ≡ self.old)) }
+        ensures held { IfOk result (λ used. used.0.now ≡ (holds_of tenant.now self.old).held) }
         ensures rising { IfOk result (λ used. IsRising used.0.now) }
-        ensures configuration { IfOk result (λ used. used.1.now ≡ configuration_in (local_of tenant.now self.old).held) }
+        ensures configuration { IfOk result (λ used. used.1.now ≡ configuration_in (holds_of tenant.now self.old).held) }
     {
-        self.parts.holdings.in_use(alloc, tenant)
-    }
-
-    /// Opens a store, and accepts at a moment what it has of all tenants, where nothing is had of any.
-    ///
-    /// # Errors
-    /// `F2` where a call of the database was refused, `F3` where it is no store, or out of memory. No row is lost, and nothing is
-    /// had of any tenant.
-    pub fn hold<R: Rows>(
-        &mut self,
-        alloc: Global,
-        moment: Moment,
-        cache: &mut PatternCache,
-        store: &mut R,
-    ) -> Result<(), Failure<StoreRefusal>>
-        requires { (t : List ℕ) → local_of t self.old ≡ blank }
-        ensures asked { Asked result cache.old cache.new }
-        ensures clean { R.is_clean store.new ≡ true → R.is_clean store.old ≡ true }
-        ensures open { OnOk result (R.is_open store.new ≡ true) }
-        ensures keeps { R.is_clean store.new ≡ true → OnOk result (Keeps (R.pairs store.old) (R.pairs store.new)) }
-        ensures held { R.is_clean store.new ≡ true → OnOk result ((t : List ℕ) →
-            local_of t self.new ≡ accepted moment (rows_of t (R.pairs store.old)) blank) }
-        ensures stores { R.is_clean store.new ≡ true → OnOk result (AreStored self.new (R.pairs store.new)) }
-        ensures lost { OnErr result ((t : List ℕ) → local_of t self.new ≡ blank) }
-        ensures fails { R.is_clean store.new ≡ true
-            → IfErr result (IsJudged (R.is_foreign store.old) (MayRefuse (R.medium store.old) (R.medium store.new))) }
-    {
-        let parts = &mut self.parts;
-        match parts.hold(alloc, moment, cache, store) {
-            Ok(()) => Ok(()),
-            Err(failure) => {
-                self.parts.clear(alloc);
-                Err(failure)
-            }
-        }
-    }
-
-    /// Accepts items of a tenant that the instance made at a moment, and counts their stamps: the best are held, and what is
-    /// planned goes by these. `drawn` is the place of the next word where words were drawn for them. No count may pass 2^62.
-    ///
-    /// # Errors
-    /// `PatternNotBuilt` where there are alerts to plan, and a pattern of the routes that are in use then gave no answer;
-    /// `StoreRefused` where one of the items is stored; or out of memory. The rows are as before, or as committed.
-    pub fn accept<R: Rows>(
-        &mut self,
-        alloc: Global,
-        tenant: &TenantName,
-        moment: Moment,
-        items: Vec<Item>,
-        drawn: Option<Place>,
-        cache: &mut PatternCache,
-        store: &mut R,
-    ) -> Result<(), Fault>
-        requires fits { 0 < length items.items → (local_of tenant.now self.old).ledger.stamps + length items.items ≤ greatest_count }
-        requires open { R.is_open store.old ≡ true }
-        ensures does { OnOk result (Makes tenant.now (kept moment items.items drawn) self.old self.new) }
-        ensures lost { OnErr result ((t : List ℕ) → local_of t self.new ≡ blank) }
-        ensures asked { Asked result cache.old cache.new }
-        ensures fault { IfErr result (StopsCommitting cache.new.refused items.items (local_of tenant.now self.old)) }
-        ensures clean { R.is_clean store.new ≡ true → R.is_clean store.old ≡ true }
-        ensures open { OnOk result (R.is_open store.new ≡ true) }
-        ensures stores { R.is_clean store.new ≡ true → AreStored self.old (R.pairs store.old) → OnOk result (AreStored self.new (R.pairs store.new)) }
-        ensures left { R.is_clean store.new ≡ true → AreStored self.old (R.pairs store.old) → LeavesStore
-            (λ t. local_of t self.old) (λ t. kept_for tenant.now moment items.items drawn t (local_of t self.old))
-            (R.rejects tenant.now items.items) (fault_in result) (R.medium store.old) (R.medium store.new) (R.pairs store.new) }
-        ensures untouched { has_stored items.items ≡ false → store.new ≡ store.old }
-    {
-        let parts = &mut self.parts;
-        match parts.commit(alloc, tenant, moment, items, drawn, cache, store) {
-            Ok(()) => Ok(()),
-            Err(fault) => {
-                self.parts.clear(alloc);
-                Err(fault)
-            }
-        }
-    }
-
-    /// A tick, of all tenants: what is retired at the moment goes, and then what is due is done once, in order: by when it is
-    /// due, by tenant, groups before attempts. Gives the tries that go out. A tick costs what is due and what goes.
-    ///
-    /// # Errors
-    /// `CountsExhausted` where a count of a tenant would pass 2^62, `PatternNotBuilt` where a pattern that may mute alerts of a
-    /// group gave no answer, `StoreRefused` where silences retire, or out of memory. The rows are as before, or without the
-    /// silences that retire.
-    pub fn tick<R: Rows>(
-        &mut self,
-        alloc: Global,
-        instance: u8,
-        incarnation: u32,
-        moment: Moment,
-        limits: &LimitBook,
-        cache: &mut PatternCache,
-        store: &mut R,
-    ) -> Result<Vec<Dispatch>, Fault>
-        requires { R.is_open store.old ≡ true }
-        ensures ticks { IfOk result (λ all. TicksAll (here_for instance incarnation moment limits.now) (λ t. local_of t self.old) (λ t. local_of t self.new) all.items) }
-        ensures lost { OnErr result ((t : List ℕ) → local_of t self.new ≡ blank) }
-        ensures asked { Asked result cache.old cache.new }
-        ensures fault { IfErr result (StopsTicking (here_for instance incarnation moment limits.now) (λ t. local_of t self.old) cache.new.refused) }
-        ensures clean { R.is_clean store.new ≡ true → R.is_clean store.old ≡ true }
-        ensures open { OnOk result (R.is_open store.new ≡ true) }
-        ensures stores { R.is_clean store.new ≡ true → AreStored self.old (R.pairs store.old) → OnOk result (AreStored self.new (R.pairs store.new)) }
-        ensures left { R.is_clean store.new ≡ true → AreStored self.old (R.pairs store.old) → LeavesStore
-            (λ t. local_of t self.old) (λ t. retired moment (local_of t self.old))
-            ⊥ (fault_in result) (R.medium store.old) (R.medium store.new) (R.pairs store.new) }
-    {
-        let parts = &mut self.parts;
-        match parts.tick(alloc, instance, incarnation, moment, limits, cache, store) {
-            Ok(all) => Ok(all),
-            Err(fault) => {
-                self.parts.clear(alloc);
-                Err(fault)
-            }
-        }
-    }
-
-    /// Whether the outcome of this try of a tenant's attempt is awaited.
-    #[tactic(auto, unfolding(crate::specs::Held::local_of, crate::specs::Delivery::is_awaited))]
-    pub fn is_awaited(&self, tenant: &TenantName, number: u64, tries: u8) -> bool
-        ensures { result ≡ is_awaited number tries (local_of tenant.now self.now) }
-    {
-        self.parts.agenda.is_awaited(tenant, number, tries)
-    }
-
-    /// Takes the outcome of a try of a tenant's attempt: the status of the webhook's answer, or `None` where there was none.
-    /// `false`, and nothing changes, where no outcome of that try is awaited.
-    ///
-    /// # Errors
-    /// `CountsExhausted` where the stamp of what is recorded would pass 2^62, or out of memory.
-    pub fn outcome(
-        &mut self,
-        alloc: Global,
-        tenant: &TenantName,
-        here: &Here,
-        number: u64,
-        tries: u8,
-        status: Option<u16>,
-    ) -> Result<bool, Fault>
-        ensures does { OnOk result (Does tenant.now (outcome here.now number tries status) self.old self.new) }
-        ensures awaited { IfOk result (λ awaited. awaited ≡ is_awaited number tries (local_of tenant.now self.old)) }
-        ensures fits { IfOk result (λ _. (outcome here.now number tries status (local_of tenant.now self.old)).fits ≡ true) }
-        ensures stored { OnOk result ((t : List ℕ) → stored_in (local_of t self.new).held ≡ stored_in (local_of t self.old).held) }
-        ensures lost { OnErr result ((t : List ℕ) → local_of t self.new ≡ blank) }
-        ensures fault { IfErr result (StopsFor (outcome here.now number tries status (local_of tenant.now self.old))) }
-    {
-        let parts = &mut self.parts;
-        match parts.outcome(alloc, tenant, here, number, tries, status) {
-            Ok(awaited) => Ok(awaited),
-            Err(fault) => {
-                self.parts.clear(alloc);
-                Err(fault)
-            }
-        }
+        self.holdings.in_use(alloc, tenant)
     }
 }

@@ -3,7 +3,8 @@
 ghost use Rattle.std.specs.Prelude.{◌≡◌, ◌⊎◌, ◌<◌, ◌++◌, ℕ, List, Some, IfErr, OnErr, OnOk, false, length, nat_lt};
 ghost use Rattle.std.specs.Prelude.{true};
 ghost use Rattle.am_rows.specs.Refusing.{MayRefuse};
-ghost use Rattle.am_rows.specs.Rows.{Keeps, Makes as MakesRows, has_stored, is_stored, put_rows, rows_of, without_silences};
+ghost use Rattle.am_rows.specs.Rows.{Keeps, Makes as MakesRows, has_stored, is_stored, put_rows, rows_of};
+ghost use Rattle.am_rows.specs.Rows.{without_silences};
 ghost use Rattle.am_replica.specs.Storing.{StopsStoring, fault_for, fault_in, silence_named};
 
 use am_item::{Fault, Item, SilenceId, Thing, ThingKey};
@@ -13,7 +14,7 @@ use am_text::Failure;
 use std::alloc::{AllocError, Global};
 
 /// Commits items of a tenant. Where none of them is stored the store isn't called.
-pub(crate) fn commit<R: Rows>(
+pub fn commit<R: Rows>(
     alloc: Global,
     store: &mut R,
     tenant: &TenantName,

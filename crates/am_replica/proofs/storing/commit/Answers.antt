@@ -1,5 +1,5 @@
 use Rattle.std.proofs.Common.{◌∙◌, sym}
-use Rattle.am_replica.proofs.StoredRows.{no_puts}
+use Rattle.am_replica.proofs.Rows.{no_puts}
 use Rattle.am_replica.proofs.storing.commit.Goals as goal
 
 pub returns-then-not-has_stored-clause-put : goal.returns-then-not-has_stored-clause-put

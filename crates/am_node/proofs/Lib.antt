@@ -1,0 +1,17 @@
+mod Accepted
+mod AlertSets
+mod Begun
+mod Flagged
+mod Handling
+mod Interleaved
+mod Kept
+mod Leaving
+mod Locals
+mod Muteds
+mod Outcomes
+mod Planned
+mod Recordings
+mod Sequence
+mod StoredRows
+mod StoredTicks
+mod Ticks

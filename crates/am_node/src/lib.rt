@@ -1,0 +1,17 @@
+//! What an instance has of all tenants: what it holds, what it has planned for that, and what it counts.
+#![tactic(auto)]
+
+mod accepting;
+mod delivery;
+mod dispatch;
+mod holding;
+mod made;
+mod muted;
+mod node;
+mod parts;
+mod retiring;
+mod ticking;
+
+pub use dispatch::Dispatch;
+pub use made::Made;
+pub use node::Node;

@@ -1,0 +1,16 @@
+pub mod ByRoutes
+pub mod Coming
+pub mod Counting
+pub mod Fates
+pub mod Flagged
+pub mod Flushable
+pub mod Flushes
+pub mod Followed
+pub mod Leaving
+pub mod Meeting
+pub mod Parts
+pub mod Puts
+pub mod Reasons
+pub mod Turns
+pub mod Unmuted
+pub mod Untried

@@ -1,0 +1,134 @@
+//! Notices on their way.
+
+ghost use Rattle.std.specs.Prelude.{◌≡◌, ◌++◌, [], true, IfErr, IfOk, OnOk};
+ghost use Rattle.am_context.specs.Stopping.{StopsPast};
+ghost use Rattle.am_notifier.specs.Delivery.{IsUntried, MayTell, notified, sent, told, with_outcome, with_retry};
+ghost use Rattle.am_notifier.specs.Notifies.{Makes, notifies_of};
+ghost use Rattle.am_notifier.specs.Steps.{Does};
+ghost use Rattle.am_outlet.specs.Attempts.{next_of, outcome_of};
+
+use crate::flushing::Flush;
+use crate::notifier::Notifier;
+use crate::sets::no_sets;
+use am_context::{Context, Receipt};
+use am_item::Fault;
+use am_outlet::{Notice, Outcome, Sending};
+use am_telling::Telling;
+use am_tenant::TenantName;
+use am_text::Moment;
+use std::alloc::{AllocError, Global};
+
+impl Notifier {
+    /// Tells a webhook of a tenant what a flush says, and adds to the flush the first try of a notice that goes out:
+    /// none where
+    /// its minute has no notice left; or what is to be recorded, where there is nothing to tell. No attempt of the
+    /// notice's key
+    /// may be open.
+    ///
+    /// # Errors
+    /// `CountsExhausted` where a count would pass 2^62, or out of memory.
+    pub(crate) fn tell(
+        &mut self,
+        alloc: Global,
+        tenant: &TenantName,
+        context: &Context,
+        telling: Telling,
+        flush: &mut Flush,
+    ) -> Result<(), Fault>
+        requires { MayTell telling (notifies_of tenant.now self.old) }
+        ensures does { OnOk result (Does tenant.now (told context.now telling) self.old self.new) }
+        ensures sendings { OnOk result (flush.new.sendings.items
+            ≡ flush.old.sendings.items ++ (told context.now telling (notifies_of tenant.now self.old)).sendings) }
+        ensures receipts { OnOk result (flush.new.receipts.items
+            ≡ flush.old.receipts.items ++ (told context.now telling (notifies_of tenant.now self.old)).receipts) }
+        ensures fits { OnOk result ((told context.now telling (notifies_of tenant.now self.old)).fits ≡ true) }
+        ensures fault { IfErr result (StopsPast (told context.now telling (notifies_of tenant.now self.old)).fits) }
+    {
+        match telling {
+            Telling::Notify(notice) => {
+                let sending = self.notify(alloc, tenant, context, notice)?;
+                add(&mut flush.sendings, sending)?;
+            }
+            Telling::Keep { key, span } => flush.receipts.push(Receipt {
+                key,
+                firing: no_sets(alloc),
+                resolved: no_sets(alloc),
+                span,
+            })?,
+        }
+        Ok(())
+    }
+
+    // Sends a notice, where its minute has one left.
+    fn notify(
+        &mut self,
+        alloc: Global,
+        tenant: &TenantName,
+        context: &Context,
+        notice: Notice,
+    ) -> Result<Option<Sending>, Fault>
+        requires { IsUntried notice.key (notifies_of tenant.now self.old) }
+        ensures does { OnOk result (Does tenant.now (notified context.now notice) self.old self.new) }
+        ensures sendings { IfOk result (λ sending. sent sending
+            ≡ (notified context.now notice (notifies_of tenant.now self.old)).sendings) }
+        ensures receipts { OnOk result ((notified context.now notice (notifies_of tenant.now self.old)).receipts ≡ []) }
+        ensures fits { OnOk result ((notified context.now notice (notifies_of tenant.now self.old)).fits ≡ true) }
+        ensures fault { IfErr result (StopsPast (notified context.now notice (notifies_of tenant.now self.old)).fits) }
+    {
+        let limit = context.limits.notices;
+        if !self.allowances.take(alloc, tenant, limit, context.moment)? {
+            return Ok(None);
+        }
+        match self.agenda.start(alloc, tenant, notice) {
+            Ok(sending) => Ok(Some(sending)),
+            Err(fault) => Err(fault),
+        }
+    }
+
+    /// Takes the outcome of a try of a tenant's attempt: the status of the webhook's answer, or `None` where there was
+    /// none.
+    ///
+    /// An error is out of memory.
+    pub fn outcome(
+        &mut self,
+        alloc: Global,
+        tenant: &TenantName,
+        moment: Moment,
+        number: u64,
+        tries: u8,
+        status: Option<u16>,
+    ) -> Result<Outcome, AllocError>
+        ensures does { OnOk result (Makes tenant.now (with_outcome number tries moment status) self.old self.new) }
+        ensures outcome { IfOk result (λ outcome. outcome
+            ≡ outcome_of number tries moment status (notifies_of tenant.now self.old).plan.desk.open_ones) }
+    {
+        self.agenda
+            .outcome(alloc, tenant, number, tries, moment, status)
+    }
+
+    /// The next try of a tenant's attempt, where it is due: then it goes out, with the same bytes. An error is out of
+    /// memory.
+    pub fn retry(
+        &mut self,
+        alloc: Global,
+        tenant: &TenantName,
+        moment: Moment,
+        number: u64,
+    ) -> Result<Option<Sending>, AllocError>
+        ensures does { OnOk result (Makes tenant.now (with_retry number moment) self.old self.new) }
+        ensures sending { IfOk result (λ sending. sending
+            ≡ next_of number moment (notifies_of tenant.now self.old).plan.desk) }
+    {
+        self.agenda.retry(alloc, tenant, number, moment)
+    }
+}
+
+// Adds what goes out, where something does.
+fn add(sendings: &mut Vec<Sending>, sending: Option<Sending>) -> Result<(), AllocError>
+    ensures { OnOk result (sendings.new.items ≡ sendings.old.items ++ sent sending) }
+{
+    if let Some(sending) = sending {
+        sendings.push(sending)?;
+    }
+    Ok(())
+}

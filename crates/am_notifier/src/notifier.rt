@@ -1,0 +1,77 @@
+//! What an instance notifies of, of all tenants.
+
+ghost use Rattle.std.specs.Prelude.{◌≡◌, ℕ, List, IfOk};
+ghost use Rattle.am_notifier.specs.Notifies.{notifies_of, nothing};
+ghost use Rattle.am_outlet.specs.Attempts.{attempt_at, awaits_outcome};
+ghost use Rattle.am_timer.specs.Queue.{due_at, timers_of};
+ghost use Rattle.am_agenda.specs.Plan.{timers_in};
+
+use am_agenda::Agenda;
+use am_limit::Allowances;
+use am_tenant::TenantName;
+use am_text::Moment;
+use am_timer::Timer;
+use std::alloc::{AllocError, Global};
+
+/// What is planned of all tenants, and how many notices each was given. It is told what came and what went of what is
+/// held,
+/// and is shown what is held where it needs that. A call for one tenant leaves what it has of the others as it was;
+/// after an
+/// error it is of use only to be cleared.
+pub struct Notifier {
+    pub(crate) agenda: Agenda,
+    pub(crate) allowances: Allowances,
+}
+
+// Written out, so that a crate which owns a notifier has no need to prove anew how each of its parts is dropped.
+impl Drop for Notifier {
+    fn drop(self) {
+        let Notifier { agenda, allowances } = self;
+        drop(agenda);
+        drop(allowances);
+    }
+}
+
+impl Notifier {
+    /// Nothing planned of any tenant.
+    ///
+    /// An error is out of memory.
+    #[tactic(auto, unfolding(crate::specs::Notifies::notifies_of))]
+    pub fn new(alloc: Global) -> Result<Notifier, AllocError>
+        ensures { IfOk result (λ notifier. (t : List ℕ) → notifies_of t notifier ≡ nothing) }
+    {
+        Ok(Notifier {
+            agenda: Agenda::new(alloc)?,
+            allowances: Allowances::new(alloc),
+        })
+    }
+
+    /// Forgets all that is planned of all tenants, as a crash does. It takes no memory.
+    #[tactic(auto, unfolding(crate::specs::Notifies::notifies_of))]
+    pub fn clear(&mut self, alloc: Global)
+        ensures { (t : List ℕ) → notifies_of t self.new ≡ nothing }
+    {
+        self.agenda.clear(alloc);
+        self.allowances.clear();
+    }
+
+    /// Whether the outcome of this try of a tenant's attempt is awaited.
+    #[tactic(auto, unfolding(crate::specs::Notifies::notifies_of))]
+    pub fn is_awaited(&self, tenant: &TenantName, number: u64, tries: u8) -> bool
+        ensures { result ≡ awaits_outcome tries (attempt_at number (notifies_of tenant.now self.now).plan.desk.open_ones) }
+    {
+        self.agenda.is_awaited(tenant, number, tries)
+    }
+
+    /// The timers that are due at a moment, in order: by when they are due, by tenant, groups before attempts.
+    ///
+    /// An error is out of memory.
+    #[tactic(auto, unfolding(crate::specs::Notifies::notifies_of))]
+    pub fn due(&mut self, alloc: Global, moment: Moment) -> Result<Vec<Timer>, AllocError>
+        ensures due { IfOk result (λ due. (t : List ℕ)
+            → timers_of t due.items ≡ due_at moment (timers_in t (notifies_of t self.old).plan)) }
+        ensures stays { self.new ≡ self.old }
+    {
+        self.agenda.due(alloc, moment)
+    }
+}

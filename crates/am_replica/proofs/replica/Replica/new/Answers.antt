@@ -1,6 +1,0 @@
-use Rattle.am_replica.proofs.Kept.{blank_planned}
-use Rattle.am_replica.proofs.Planned.{all_blank}
-use Rattle.am_replica.proofs.replica.Replica.new.Goals as goal
-
-pub invariant_of-result : goal.invariant_of-result
-invariant_of-result c = all_blank c.in_ok-parts.parts blank_planned c.in_ok-parts.ensures
