@@ -9,14 +9,15 @@ use Rattle.am_labels.specs.declared.Label.{Label}
 use Rattle.am_members.specs.declared.group.Group.{Group}
 use Rattle.am_current.specs.Current.{configuration_in}
 use Rattle.am_outlet.specs.Attempts.{after_outcome, outcome_of}
-use Rattle.am_replica.specs.Flushing.{members_but, sent_among}
+use Rattle.am_node.specs.Flushing.{members_but}
+use Rattle.am_notifier.specs.Flushing.{sent_among}
 use Rattle.am_telling.specs.Tellings.{tellings}
 use Rattle.std.specs.Prelude.{codes, ◌==◌}
 use Rattle.am_outlet.specs.declared.outcome.Outcome.{Outcome}
 use Rattle.am_outlet.specs.declared.outcome.Outcome.TheVariants.{NotOpen, Delivered, Again, GivenUp}
-use Rattle.am_replica.specs.Delivery as replica
-use Rattle.am_replica.specs.Local.{Local as ReplicaLocal, Reaction as ReplicaReaction, Said as ReplicaSaid, Replies as ReplicaReplies, Tells as ReplicaTells}
-use Rattle.am_replica.specs.declared.here.Here.{Here as ReplicaHere}
+use Rattle.am_node.specs.Delivery as replica
+use Rattle.am_node.specs.Local.{Local as ReplicaLocal, Reaction as ReplicaReaction, Said as ReplicaSaid, Replies as ReplicaReplies, Tells as ReplicaTells}
+use Rattle.am_context.specs.declared.context.Context.{Context as NodeContext}
 use Rattle.am_ring.specs.Instances.{is_among}
 use Rattle.am_telling.specs.declared.telling.Telling.{Telling}
 use Rattle.am_telling.specs.declared.telling.Telling.TheVariants.{Notify, Keep}
@@ -118,7 +119,7 @@ none_said [] = refl
 none_said (ReplicaReplies c b ∷ said) = none_said said
 none_said (ReplicaTells s ∷ said) = none_said said
 
-by_replica_counted : (f : ReplicaHere → ReplicaLocal → ReplicaReaction) (here : Here) → AreCounted here (by_replica f here)
+by_replica_counted : (f : NodeContext → ReplicaLocal → ReplicaReaction) (here : Here) → AreCounted here (by_replica f here)
 by_replica_counted f here l =
     subst (λ ms. Counts here.instance here.incarnation l.ledger.messages ms l.ledger.messages)
     (sym (none_said (f (replica_here here) (replica_local here l)).said)) refl

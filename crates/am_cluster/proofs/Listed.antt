@@ -9,7 +9,8 @@ use Rattle.am_labels.specs.declared.Label.{Label}
 use Rattle.am_members.specs.declared.group.Group.{Group}
 use Rattle.am_current.specs.Current.{configuration_in}
 use Rattle.am_outlet.specs.Attempts.{after_outcome, outcome_of}
-use Rattle.am_replica.specs.Flushing.{members_but, sent_among}
+use Rattle.am_node.specs.Flushing.{members_but}
+use Rattle.am_notifier.specs.Flushing.{sent_among}
 use Rattle.am_telling.specs.Tellings.{tellings}
 use Rattle.std.specs.Prelude.{codes, ◌==◌, option_map, unwrap_or}
 use Rattle.std.specs.List.{list_all}
@@ -18,9 +19,9 @@ use Rattle.am_cluster.proofs.Counted.{messages-append, none_said}
 use Rattle.am_cluster.proofs.PeerMaps.{at_other, at_same, peer_cases}
 use Rattle.am_outlet.specs.declared.outcome.Outcome.{Outcome}
 use Rattle.am_outlet.specs.declared.outcome.Outcome.TheVariants.{NotOpen, Delivered, Again, GivenUp}
-use Rattle.am_replica.specs.Delivery as replica
-use Rattle.am_replica.specs.Local.{Local as ReplicaLocal, Reaction as ReplicaReaction}
-use Rattle.am_replica.specs.declared.here.Here.{Here as ReplicaHere}
+use Rattle.am_node.specs.Delivery as replica
+use Rattle.am_node.specs.Local.{Local as ReplicaLocal, Reaction as ReplicaReaction}
+use Rattle.am_context.specs.declared.context.Context.{Context as NodeContext}
 use Rattle.am_ring.specs.Instances.{is_among}
 use Rattle.am_telling.specs.declared.telling.Telling.{Telling}
 use Rattle.am_telling.specs.declared.telling.Telling.TheVariants.{Notify, Keep}
@@ -82,7 +83,7 @@ send_all_listed epoch here to body plain = each_listed here (λ i. send_in epoch
 
 -- ---- notices
 
-by_replica_listed : (f : ReplicaHere → ReplicaLocal → ReplicaReaction) (here : Here) → AreListed here (by_replica f here)
+by_replica_listed : (f : NodeContext → ReplicaLocal → ReplicaReaction) (here : Here) → AreListed here (by_replica f here)
 by_replica_listed f here l =
     still here l (by_replica f here l) refl (none_said (f (replica_here here) (replica_local here l)).said)
 

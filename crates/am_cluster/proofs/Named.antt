@@ -6,7 +6,7 @@ use Rattle.std.proofs.lemmas.Bool.{and_parts, cases_eq, eq-eqb, false≢true, ne
 use Rattle.am_item.specs.declared.item.Item.{Item}
 use Rattle.am_ring.specs.Replicas.{replicas}
 use Rattle.am_rows.specs.Rows.{stored_in}
-use Rattle.am_setup.specs.Setup.{all_differ, numbers}
+use Rattle.am_ring.specs.Instances.{all_differ, all_instances}
 use Rattle.am_cluster.specs.Arriving.{arrive}
 use Rattle.am_cluster.specs.Courses.{after, after_all, at_restart, changed, course_by, delivered, handled_by, posted_in, refusal_of, with_event}
 use Rattle.am_cluster.specs.Delivery.{outcome}
@@ -187,7 +187,7 @@ pub all_react_kept : (f : ℕ → Here → Local → Reaction) (m : ℕ) (p : Pr
 unfolding react_all
 all_react_kept f m p c k =
     let turns : (i : ℕ) → Turn p (reaction_at f m p) i = turns_of f m p c in
-    all_kept p (reaction_at f m p) m numbers (λ i. (reaction_at f m p i).local) turns (distinct_by numbers refl)
+    all_kept p (reaction_at f m p) m all_instances (λ i. (reaction_at f m p i).local) turns (distinct_by all_instances refl)
     (λ i. counts_grow i (p.roster.incarnation i) (p.at i).ledger.messages (reaction_at f m p i).local.ledger.messages
     (messages_in (reaction_at f m p i).said) (turns i).counts)
     (λ n e up_to. up_to) k

@@ -9,7 +9,7 @@ use Rattle.am_planning.specs.Planning.{planned_alerts}
 use Rattle.am_ring.specs.Instances.{is_among}
 use Rattle.am_ring.specs.Replicas.{replicas}
 use Rattle.am_rows.specs.Rows.{stored_in}
-use Rattle.am_setup.specs.Setup.{numbers}
+use Rattle.am_ring.specs.Instances.{all_instances}
 use Rattle.am_cluster.specs.Accepting.{accepted}
 use Rattle.am_cluster.specs.Courses.{after, after_all, at_restart, changed, course_by, handled_by, refusal_of, told_all, with_event}
 use Rattle.am_cluster.specs.Events.{Output}
@@ -109,9 +109,9 @@ all_quiet f m p e u =
       cluster = record {
         at = λ i. ap (λ (r : Reaction). r.local) (quiet_at f m p e u i);
         rows = u.rows;
-        sent = ap (λ (g : ℕ → Reaction). p.sent ++ flat_map (λ i. sent_at m (g i).said) numbers) same ∙ append-nil p.sent ∙ u.sent;
+        sent = ap (λ (g : ℕ → Reaction). p.sent ++ flat_map (λ i. sent_at m (g i).said) all_instances) same ∙ append-nil p.sent ∙ u.sent;
       };
-      outputs = ap (λ (g : ℕ → Reaction). flat_map (λ i. put_out_at p i (g i).said) numbers) same;
+      outputs = ap (λ (g : ℕ → Reaction). flat_map (λ i. put_out_at p i (g i).said) all_instances) same;
     }
 
 if_quiet : (t : Bool) (c d : Course) → IsQuiet c → IsQuiet d → IsQuiet (if t then c else d)

@@ -4,7 +4,7 @@ use Rattle.std.specs.Prelude.{◌⊎◌}
 use Rattle.std.proofs.lemmas.Bool.{cases_eq, false≢true}
 use Rattle.am_item.specs.declared.item.Item.{Item}
 use Rattle.am_rows.specs.Rows.{stored_in}
-use Rattle.am_setup.specs.Setup.{numbers}
+use Rattle.am_ring.specs.Instances.{all_instances}
 use Rattle.am_cluster.specs.Courses.{at_restart, changed, with_event}
 use Rattle.am_cluster.specs.Here.{Here}
 use Rattle.am_cluster.specs.Local.{Local, blank}
@@ -75,7 +75,7 @@ pub all_react_one : (f : ℕ → Here → Local → Reaction) (m : ℕ) (p : Pri
     → ((i : ℕ) (here : Here) → AreListed here (f i here)) → AreOne p → AreOne (react_all f m p).cluster
 unfolding react_all
 all_react_one f m p c s a =
-    step p (λ i. (reaction_at f m p i).local) (said_by_all m (reaction_at f m p) numbers) (turns_new f m p numbers c s)
+    step p (λ i. (reaction_at f m p i).local) (said_by_all m (reaction_at f m p) all_instances) (turns_new f m p all_instances c s)
     (λ name current. inl (λ list e.
     subst (λ b. list_at (receiver_of name)
     (if b then f name.from (here_at p m name.from) (p.at name.from) else stays (p.at name.from)).local ≡ Some list) (sym current.up)

@@ -8,7 +8,7 @@ use Rattle.am_ring.specs.Instances.{all_instances, in_order, is_among, is_instan
 use Rattle.am_ring.specs.Replicas.{count_before, replicas}
 use Rattle.am_ring.proofs.Lists.{among-filter}
 use Rattle.am_ring.proofs.Numbers.{among_all}
-use Rattle.am_setup.specs.Setup.{numbers}
+use Rattle.am_ring.specs.Instances.{all_instances}
 use Rattle.am_labels.specs.Hashes.{place}
 use Rattle.am_cluster.specs.Accepting.{accepted}
 use Rattle.am_cluster.specs.Arriving.{arrive}
@@ -132,8 +132,8 @@ all_steady f m p still s =
       stayed = s.stayed;
       newest = s.newest;
       settling = λ i. (each i).settling;
-      sent = any-append settles p.sent (flat_map (λ i. sent_at m (reaction_at f m p i).said) numbers) s.sent
-          (said_plain m (λ i. reaction_at f m p i) each numbers);
+      sent = any-append settles p.sent (flat_map (λ i. sent_at m (reaction_at f m p i).said) all_instances) s.sent
+          (said_plain m (λ i. reaction_at f m p i) each all_instances);
     }
 
 delivered_steady : (decide : Decide) (m : ℕ) (o : Option Message) (p : PrivateCluster) → IfSome o Plain → IsSteady p

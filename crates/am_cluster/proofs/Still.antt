@@ -15,10 +15,11 @@ use Rattle.am_members.specs.declared.group.Group.{Group}
 use Rattle.am_outlet.specs.Attempts.{after_outcome, outcome_of}
 use Rattle.am_outlet.specs.declared.outcome.Outcome.{Outcome}
 use Rattle.am_outlet.specs.declared.outcome.Outcome.TheVariants.{NotOpen, Delivered, Again, GivenUp}
-use Rattle.am_replica.specs.Delivery as replica
-use Rattle.am_replica.specs.Flushing.{members_but, sent_among}
-use Rattle.am_replica.specs.Local.{Local as ReplicaLocal, Reaction as ReplicaReaction}
-use Rattle.am_replica.specs.declared.here.Here.{Here as ReplicaHere}
+use Rattle.am_node.specs.Delivery as replica
+use Rattle.am_node.specs.Flushing.{members_but}
+use Rattle.am_notifier.specs.Flushing.{sent_among}
+use Rattle.am_node.specs.Local.{Local as ReplicaLocal, Reaction as ReplicaReaction}
+use Rattle.am_context.specs.declared.context.Context.{Context as NodeContext}
 use Rattle.am_ring.specs.Instances.{is_among}
 use Rattle.am_telling.specs.Tellings.{tellings}
 use Rattle.am_telling.specs.declared.telling.Telling.{Telling}
@@ -114,7 +115,7 @@ send_all_still epoch here to body plain =
 
 -- ---- notices
 
-by_replica_still : (f : ReplicaHere → ReplicaLocal → ReplicaReaction) (here : Here) → AreStill (by_replica f here)
+by_replica_still : (f : NodeContext → ReplicaLocal → ReplicaReaction) (here : Here) → AreStill (by_replica f here)
 by_replica_still f here l u = record {
   settling = u;
   said = ap (λ (ms : List Message). list_any (λ (m : Message). is_of_settling m.body) ms)

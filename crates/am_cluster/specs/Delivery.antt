@@ -7,7 +7,7 @@ use Rattle.am_labels.specs.declared.Label.{Label}
 use Rattle.am_outlet.specs.Attempts.{after_outcome, attempt_at, awaits_outcome, outcome_of}
 use Rattle.am_outlet.specs.declared.outcome.Outcome.{Outcome}
 use Rattle.am_outlet.specs.declared.outcome.Outcome.TheVariants.{NotOpen, Delivered, Again, GivenUp}
-use Rattle.am_replica.specs.Delivery as replica
+use Rattle.am_node.specs.Delivery as replica
 use Rattle.am_telling.specs.declared.telling.Telling.{Telling}
 use Rattle.am_telling.specs.declared.telling.Telling.TheVariants.{Notify, Keep}
 use Rattle.am_cluster.specs.Here.{Here, others, replica_here}

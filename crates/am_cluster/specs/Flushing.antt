@@ -3,7 +3,8 @@ use Rattle.std.specs.Prelude.{List}
 use Rattle.am_current.specs.Current.{configuration_in}
 use Rattle.am_labels.specs.declared.Label.{Label}
 use Rattle.am_members.specs.declared.group.Group.{Group}
-use Rattle.am_replica.specs.Flushing.{begun as replica_begun, members_but, sent_among}
+use Rattle.am_node.specs.Flushing.{begun as replica_begun, members_but}
+use Rattle.am_notifier.specs.Flushing.{sent_among}
 use Rattle.am_telling.specs.Tellings.{tellings}
 use Rattle.am_cluster.specs.Delivery.{told}
 use Rattle.am_cluster.specs.Here.{Here, replica_here}

@@ -1,6 +1,6 @@
 -- What an instance goes by where something happens to a tenant, beside what it has of the tenant.
 use Rattle.std.specs.Prelude.{ℕ, Bool, not, ◌==◌, List, Option, filter, position}
-use Rattle.am_replica.specs.declared.here.Here.{Here as ReplicaHere}
+use Rattle.am_context.specs.declared.context.Context.{Context as NodeContext}
 use Rattle.am_ring.specs.Instances.{is_among}
 use Rattle.am_cluster.specs.Origins.{TenantLimits}
 use Rattle.am_cluster.specs.Peers.{Peer, peer}
@@ -20,7 +20,7 @@ pub record Here : Type 0 where
   pub incarnations : ℕ → ℕ
 
 -- what an instance by itself goes by
-abbrev pub replica_here : Here → ReplicaHere
+abbrev pub replica_here : Here → NodeContext
 replica_here here = record {
   instance = here.instance;
   incarnation = here.incarnation;

@@ -6,7 +6,7 @@ use Rattle.am_api.specs.Replied.{Decision}
 use Rattle.am_http.specs.declared.request.Request.{Request}
 use Rattle.am_item.specs.declared.item.Item.{Item}
 use Rattle.am_pattern.specs.Kept.{HasRegex}
-use Rattle.am_setup.specs.Setup.{numbers}
+use Rattle.am_ring.specs.Instances.{all_instances}
 use Rattle.am_cluster.specs.Courses.{after}
 use Rattle.am_cluster.specs.Deciding.{Deciding, deciding_at, decision_of}
 use Rattle.am_cluster.specs.Happening.{Happening, Asked, Changed, Delivered, Forced, Limited, Lost, Ticked, Tried}
@@ -41,4 +41,4 @@ patterns_brought Forced = []
 -- those of the tenant: the ones in its rows, and those that all happenings bring
 abbrev pub patterns_in : (rows : ℕ → List Item) → List Happening → List (List ℕ)
 patterns_in rows happenings =
-    flat_map (λ i. patterns_of_items (rows i)) numbers ++ flat_map patterns_brought happenings
+    flat_map (λ i. patterns_of_items (rows i)) all_instances ++ flat_map patterns_brought happenings

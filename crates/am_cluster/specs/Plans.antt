@@ -7,8 +7,8 @@ use Rattle.am_current.specs.Current.{configuration_in}
 use Rattle.am_members.specs.Grouped.{Grouped}
 use Rattle.am_planning.specs.declared.pace.Pace.{Pace}
 use Rattle.am_planning.specs.Planning.{paces_of, planned_alerts}
-use Rattle.am_replica.specs.Local.{Local as ReplicaLocal, Reaction as ReplicaReaction, Said as ReplicaSaid, Replies as ReplicaReplies, Tells as ReplicaTells}
-use Rattle.am_replica.specs.declared.here.Here.{Here as ReplicaHere}
+use Rattle.am_node.specs.Local.{Local as ReplicaLocal, Reaction as ReplicaReaction, Said as ReplicaSaid, Replies as ReplicaReplies, Tells as ReplicaTells}
+use Rattle.am_context.specs.declared.context.Context.{Context as NodeContext}
 use Rattle.am_cluster.specs.Here.{Here, position_here, replica_here}
 use Rattle.am_cluster.specs.Local.{Local, is_settled}
 use Rattle.am_cluster.specs.Reactions.{Reaction, Replies, Said, Tells}
@@ -61,7 +61,7 @@ said_by (ReplicaReplies connection bytes) = Replies connection bytes
 said_by (ReplicaTells sending) = Tells sending
 
 -- the instance does what it would do by itself
-abbrev pub by_replica : (ReplicaHere → ReplicaLocal → ReplicaReaction) → Here → Local → Reaction
+abbrev pub by_replica : (NodeContext → ReplicaLocal → ReplicaReaction) → Here → Local → Reaction
 by_replica react here local =
     let r : ReplicaReaction = react (replica_here here) (replica_local here local) in
     record { local = with_replica r.local local; said = map said_by r.said; fits = r.fits }

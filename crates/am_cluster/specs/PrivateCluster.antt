@@ -6,7 +6,7 @@ use Rattle.am_item.specs.Key.{key_of}
 use Rattle.am_item.specs.declared.item.Item.{Item}
 use Rattle.am_ring.specs.Replicas.{replicas}
 use Rattle.am_rows.specs.Rows.{stored_in}
-use Rattle.am_setup.specs.Setup.{numbers}
+use Rattle.am_ring.specs.Instances.{all_instances}
 use Rattle.am_wire.specs.Messages.{spelling}
 use Rattle.am_cluster.specs.Events.{Notice, Output, Reply, Send}
 use Rattle.am_cluster.specs.Here.{Here}
@@ -91,10 +91,10 @@ unfoldable pub react_all : (ℕ → Here → Local → Reaction) → (moment : �
 react_all reaction moment p = record {
   cluster = record p {
     at = λ i. (reaction_at reaction moment p i).local;
-    sent = p.sent ++ flat_map (λ i. sent_at moment (reaction_at reaction moment p i).said) numbers;
+    sent = p.sent ++ flat_map (λ i. sent_at moment (reaction_at reaction moment p i).said) all_instances;
   };
-  outputs = flat_map (λ i. put_out_at p i (reaction_at reaction moment p i).said) numbers;
-  fits = list_all (λ i. (reaction_at reaction moment p i).fits) numbers;
+  outputs = flat_map (λ i. put_out_at p i (reaction_at reaction moment p i).said) all_instances;
+  fits = list_all (λ i. (reaction_at reaction moment p i).fits) all_instances;
 }
 
 -- ---- stores

@@ -2,7 +2,7 @@
 use Rattle.std.specs.Prelude.{ℕ, zero, suc, Bool, ◌&&◌, not, ◌==◌, nat_lt, List, [], ◌∷◌, ◌++◌, filter, find, Option, Some, None}
 use Rattle.std.specs.List.{filter_map, list_any}
 use Rattle.am_http.specs.declared.request.Request.{Request}
-use Rattle.am_setup.specs.Setup.{numbers}
+use Rattle.am_ring.specs.Instances.{all_instances}
 use Rattle.am_cluster.specs.Courses.{course_by, refusal_of}
 use Rattle.am_cluster.specs.Events.{Notice, Output, Reply, Send}
 use Rattle.am_cluster.specs.Happening.{Happening, Asked, Changed, Delivered, Forced, Lost, Ticked}
@@ -124,7 +124,7 @@ each_learns (i ∷ more) play = each_learns more (happens (Changed (Learns i)) p
 
 abbrev pub rounds_learn : ℕ → Play → Play
 rounds_learn zero play = play
-rounds_learn (suc most) play = rounds_learn most (each_learns (filter (is_behind play.cluster) numbers) play)
+rounds_learn (suc most) play = rounds_learn most (each_learns (filter (is_behind play.cluster) all_instances) play)
 
 -- ---- lines
 

@@ -4,7 +4,7 @@ use Rattle.am_serve.specs.Lanes.{waiting_of}
 use Rattle.am_world.specs.Runs.{Forgets}
 use Rattle.am_world.specs.Simulation.{put_out, Step}
 use Rattle.am_world.specs.declared.event.Event.{Event}
-use Rattle.am_world.specs.declared.event.Output.{Output}
+use Rattle.am_instance.specs.declared.output.Output.{Output}
 use Rattle.am_world.specs.declared.state.State.{State}
 use Rattle.am_gateway.specs.Gateway.{GivesReply, Handles, LetsTick, TellsWorld}
 use Rattle.am_gateway.specs.Sorting.{Queues, QueuesSome, TryLanes}

@@ -3,8 +3,8 @@ use Rattle.std.specs.Prelude.{if◌then◌else◌}
 use Rattle.am_serve.specs.Lanes.{under_way_of, waiting_of}
 use Rattle.am_server.specs.declared.service.Notice.{Notice}
 use Rattle.am_tenant.specs.Names.{same}
-use Rattle.am_world.specs.declared.event.Output.{Output}
-use Rattle.am_world.specs.declared.event.Output.TheVariants as output
+use Rattle.am_instance.specs.declared.output.Output.{Output}
+use Rattle.am_instance.specs.declared.output.Output.TheVariants as output
 use Rattle.am_gateway.specs.Sorting.{notices_of, or_else, reply_on, Queues, QueuesSome, TryLanes}
 use Rattle.am_gateway.specs.declared.gateway.Try.{Try}
 

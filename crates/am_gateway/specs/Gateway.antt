@@ -8,7 +8,7 @@ use Rattle.am_server.specs.declared.service.Notice.{Notice}
 use Rattle.am_tenant.specs.Names.{same}
 use Rattle.am_world.specs.declared.event.Event.{Event}
 use Rattle.am_world.specs.declared.event.Event.TheVariants as event
-use Rattle.am_world.specs.declared.event.Output.{Output}
+use Rattle.am_instance.specs.declared.output.Output.{Output}
 use Rattle.am_world.specs.declared.state.State.{State}
 use Rattle.am_world.specs.Refusal.{refusal}
 use Rattle.am_world.specs.Runs.{Forgets}

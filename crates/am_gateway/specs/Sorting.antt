@@ -5,8 +5,8 @@ use Rattle.am_serve.specs.Lanes.{waiting_of}
 use Rattle.am_serve.specs.declared.lanes.Lane.{Lane}
 use Rattle.am_server.specs.declared.service.Notice.{Notice}
 use Rattle.am_tenant.specs.Names.{same}
-use Rattle.am_world.specs.declared.event.Output.{Output}
-use Rattle.am_world.specs.declared.event.Output.TheVariants as output
+use Rattle.am_instance.specs.declared.output.Output.{Output}
+use Rattle.am_instance.specs.declared.output.Output.TheVariants as output
 use Rattle.am_gateway.specs.declared.gateway.Try.{Try}
 
 -- the connection is the one that is named, if one is

@@ -2,14 +2,14 @@
 use Rattle.std.proofs.Common.{◌≡◌, ◌∙◌, ℕ, ◌+◌, Bool, true, false, is_none, List, [], ◌∷◌, ◌++◌, MatchOption, Option, None, Some, refl, sym, ap}
 use Rattle.am_world.specs.declared.event.Event.TheVariants as event
 use Rattle.am_world.specs.declared.event.Event.{Event}
-use Rattle.am_world.specs.declared.event.Output.{Output}
+use Rattle.am_instance.specs.declared.output.Output.{Output}
 use Rattle.am_item.specs.declared.item.Item.{Item}
 use Rattle.am_world.specs.declared.state.State.{State}
 use Rattle.am_world.specs.Refusal.{refusal}
 use Rattle.am_world.specs.Runs.{Alone, Forgets}
 use Rattle.am_setup.specs.Setup.{Origin}
 use Rattle.am_world.specs.Simulation.{Opens, Step, fault_count, put_out, refused_by}
-use Rattle.am_world.specs.Ticks.{Either}
+use Rattle.am_instance.specs.Ticks.{Either}
 use Rattle.am_world.specs.View.{first_watch, names_once}
 use Rattle.am_world.proofs.Steps.{Steps, alone}
 use Rattle.am_scenario.specs.Line.{command_of}

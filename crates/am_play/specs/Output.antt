@@ -3,9 +3,9 @@ use Rattle.std.specs.Prelude.{ℕ, Bool, false, List, [], ◌∷◌, ◌++◌, �
 use Rattle.std.specs.List.{list_any}
 use Rattle.std.specs.Str.Lossy.{utf8_lossy}
 use Rattle.json.specs.Print.{quoted}
-use Rattle.am_world.specs.declared.event.AttemptName.{AttemptName}
-use Rattle.am_world.specs.declared.event.Output.{Output}
-use Rattle.am_world.specs.declared.event.Output.TheVariants.{Reply, Notice}
+use Rattle.am_instance.specs.declared.output.AttemptName.{AttemptName}
+use Rattle.am_instance.specs.declared.output.Output.{Output}
+use Rattle.am_instance.specs.declared.output.Output.TheVariants.{Reply, Notice}
 
 -- bytes as a JSON text, in which those that are no UTF-8 stand as U+FFFD
 abbrev pub json_text : List ℕ → List ℕ

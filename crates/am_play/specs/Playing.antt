@@ -8,7 +8,7 @@ use Rattle.am_world.specs.Runs.{Forgets}
 use Rattle.am_setup.specs.Setup.{Origin}
 use Rattle.am_world.specs.Refusal.{refusal}
 use Rattle.am_world.specs.Simulation.{Opens, Step, fault_count, put_out, refused_by}
-use Rattle.am_world.specs.Ticks.{Either}
+use Rattle.am_instance.specs.Ticks.{Either}
 use Rattle.am_scenario.specs.declared.command.Command.{Command}
 use Rattle.am_scenario.specs.declared.command.Command.TheVariants.{Skip, At, Tick, Open, Bytes, Call, Limits, Pump, Hook}
 use Rattle.am_play.specs.declared.play.Played.{Played}

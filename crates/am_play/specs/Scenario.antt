@@ -2,7 +2,7 @@
 use Rattle.std.specs.Prelude.{◌≡◌, ◌⊎◌, ℕ, List, [], ◌++◌, Option, IfSome}
 use Rattle.am_item.specs.declared.item.Item.{Item}
 use Rattle.am_world.specs.Runs.{Alone}
-use Rattle.am_world.specs.Shelves.{Shelf}
+use Rattle.am_instance.specs.Shelves.{Shelf}
 use Rattle.am_world.specs.Simulation.{Opens}
 use Rattle.am_world.specs.declared.state.State.{State}
 use Rattle.am_setup.specs.Setup.{Origin}

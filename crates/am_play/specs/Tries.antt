@@ -1,8 +1,8 @@
 -- The tries that go out by notices.
 use Rattle.std.specs.Prelude.{List, [], ◌∷◌}
 use Rattle.std.specs.List.{flat_map}
-use Rattle.am_world.specs.declared.event.Output.{Output}
-use Rattle.am_world.specs.declared.event.Output.TheVariants.{Reply, Notice}
+use Rattle.am_instance.specs.declared.output.Output.{Output}
+use Rattle.am_instance.specs.declared.output.Output.TheVariants.{Reply, Notice}
 use Rattle.am_play.specs.declared.report.Try.{Try}
 
 -- the try that goes out by an output: a notice is one

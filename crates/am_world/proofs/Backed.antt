@@ -2,12 +2,14 @@
 use Rattle.std.proofs.Common.{◌≡◌, ◌∙◌, ◌==◌, inl, inr, ℕ, List, Some, Result, Ok, Err, OnOk, sym, ap, subst, arith}
 use Rattle.std.proofs.lemmas.Bool.{cases_Bool}
 use Rattle.std.proofs.lemmas.Bool.Decides.{nat_tests}
-use Rattle.am_replica.specs.Local.{Local}
+use Rattle.am_node.specs.Local.{Local}
 use Rattle.am_rows.specs.Rows.{stored_in}
-use Rattle.am_world.specs.Shelves.{IsBacked, IsBackedAt, Shelf}
-use Rattle.am_world.specs.Places.{instance_at, local_at, local_in, local_where}
+use Rattle.am_world.specs.Shelves.{IsBackedAt}
+use Rattle.am_instance.specs.Shelves.{IsBacked, Shelf}
+use Rattle.am_world.specs.Places.{instance_at, local_at, local_where}
+use Rattle.am_instance.specs.Instance.{local_in}
 use Rattle.am_world.proofs.InstancesLemmas.{Changed, local_here, up_here}
-use Rattle.am_world.specs.declared.instance.Instance.{Instance}
+use Rattle.am_instance.specs.declared.instance.Instance.{Instance}
 
 pub backed_here : (i : ℕ) (xs : List Instance) (y : Instance) (shelf : Shelf) → instance_at i xs ≡ Some y → IsBacked y shelf → IsBackedAt i xs shelf
 backed_here i xs y shelf here backed = record {

@@ -1,5 +1,6 @@
 -- patterns that were refused a build, and what that leaves of others
-use Rattle.std.proofs.Common.{◌≡◌, ◌∙◌, ◌||◌, inl, inr, arith, ℕ, Bool, true, false, List, [], ◌∷◌, ◌++◌, All, refl, sym, ap}
+use Rattle.std.proofs.Common.{◌≡◌, ◌∙◌, ◌||◌, inl, inr, arith, ℕ, Bool, true, false, List, [], ◌∷◌, ◌++◌, All, refl}
+use Rattle.std.proofs.Common.{sym, ap}
 use Rattle.std.specs.List.{Contains}
 use Rattle.std.specs.Str.{bytes_eq}
 use Rattle.std.proofs.lemmas.Grind.{flat_map-append}
@@ -12,34 +13,16 @@ use Rattle.am_match.specs.Checking.{AreRefusedRightly}
 use Rattle.am_pattern.specs.Refused.{IsRefusedRightly, has_text}
 use Rattle.am_world.specs.declared.event.Event.{Event}
 use Rattle.am_world.specs.declared.event.Event.TheVariants.{Open, Bytes, Close, Limits, Tick, Outcome}
-use Rattle.am_world.specs.declared.event.Output.{Output}
-use Rattle.am_world.specs.declared.instance.Instance.{Instance}
+use Rattle.am_instance.specs.declared.output.Output.{Output}
+use Rattle.am_instance.specs.declared.instance.Instance.{Instance}
 use Rattle.am_world.specs.declared.state.State.{State}
-use Rattle.am_world.specs.Places.{AreBuilt, HasMore, KeepRefused, refused_at}
+use Rattle.am_world.specs.Places.{AreBuilt, KeepRefused, refused_at}
+use Rattle.am_instance.specs.Instance.{HasMore}
 use Rattle.am_world.specs.PrivateCluster.{Happening, patterns_brought, patterns_in}
 use Rattle.am_world.specs.Simulation.{KeepsBuilds, refused_by}
+use Rattle.am_instance.proofs.Growing.{more_then, more_nothing, more_among}
 
 -- ---- what grows
-
-pub more_then : (xs ys zs : List (List ℕ)) → HasMore xs ys → HasMore ys zs → HasMore xs zs
-more_then xs ys zs (first, is) (next, then) = (first ++ next, then ∙ ap (λ l. l ++ next) is ∙ append_assoc xs first next)
-
-pub more_nothing : (xs ys : List (List ℕ)) → ys ≡ xs → HasMore xs ys
-more_nothing xs ys e = ([], e ∙ sym (append-nil xs))
-
--- what nothing was added to has more of any kind
-pub adds_none : (texts old new : List (List ℕ)) → new ≡ old → AddsAmong texts old new
-adds_none texts old new e = record { more = []; refused = e ∙ sym (append-nil old); each = All-nil _ }
-
--- and what only texts of none were added to, stays
-no_more : (more : List (List ℕ)) → All (λ text. Contains (let none : List (List ℕ) = [] in none) text) more → more ≡ []
-no_more [] each = refl
-no_more (text ∷ more) each =
-    let there = All-contains (λ text. Contains (let none : List (List ℕ) = [] in none) text) (text ∷ more) text each (0, omega arith, refl) in
-    let within = there.1 in absurd (omega (arith, within))
-
-pub added_none : (old new : List (List ℕ)) → AddsAmong [] old new → new ≡ old
-added_none old new adds = adds.refused ∙ ap (λ more. old ++ more) (no_more adds.more adds.each) ∙ append-nil old
 
 -- an event that refuses no build
 pub builds_kept : (w w' : State) (e : Event) (i : ℕ) (outs : List Output) → refused_by w' i ≡ refused_by w i → KeepsBuilds w e i outs w'
@@ -49,9 +32,6 @@ builds_kept w w' (Close c) i outs same = same
 builds_kept w w' (Limits tenant limits) i outs same = same
 builds_kept w w' (Tick m) i outs same = same
 builds_kept w w' (Outcome attempt tries m status) i outs same = same
-
-pub more_among : (texts old new : List (List ℕ)) → AddsAmong texts old new → HasMore old new
-more_among texts old new adds = (adds.more, adds.refused)
 
 -- and what any event leaves
 pub builds_more : (w w' : State) (e : Event) (i : ℕ) (outs : List Output) → KeepsBuilds w e i outs w' → HasMore (refused_by w i) (refused_by w' i)

@@ -1,5 +1,6 @@
 -- an event whose one instance stopped
-use Rattle.std.proofs.Common.{◌≡◌, ◌∙◌, inl, inr, ℕ, ◌+◌, ◌-◌, ◌^◌, ◌<◌, ◌≤◌, ◌==◌, nat_eq, suc, true, false, List, [], ◌∷◌, Option, None, Some, IsSome, refl, sym, ap, arith, length, filter, min}
+use Rattle.std.proofs.Common.{◌≡◌, ◌∙◌, inl, inr, ℕ, ◌+◌, ◌-◌, ◌^◌, ◌<◌, ◌≤◌, ◌==◌, nat_eq, suc, true, false, List}
+use Rattle.std.proofs.Common.{[], ◌∷◌, Option, None, Some, IsSome, refl, sym, ap, arith, length, filter, min}
 use Rattle.std.proofs.lemmas.List.{append-nil}
 use Rattle.std.proofs.lemmas.Bool.{cases_Bool}
 use Rattle.std.proofs.lemmas.Bool.Decides.{nat_tests}
@@ -7,13 +8,14 @@ use Rattle.am_limit.specs.Books.{limits_of}
 use Rattle.am_limit.specs.declared.limits.Limits as limit
 use Rattle.am_world.specs.declared.event.Event.{Event}
 use Rattle.am_world.specs.declared.event.Event.TheVariants.{Limits}
-use Rattle.am_world.specs.declared.instance.Instance.{Instance}
+use Rattle.am_instance.specs.declared.instance.Instance.{Instance}
 use Rattle.am_world.specs.declared.state.State.{State}
 use Rattle.am_world.specs.Moments.{clock_after}
-use Rattle.am_world.specs.Places.{IsDownAt, KeepRefused, SameElsewhere, incarnation_at, instance_at, incarnation_where, roster_of}
+use Rattle.am_world.specs.Places.{IsDownAt, KeepRefused, SameElsewhere, incarnation_at, instance_at}
+use Rattle.am_world.specs.Places.{incarnation_where, roster_of}
 use Rattle.am_world.specs.Refusal.{refusal}
 use Rattle.am_world.specs.Roster.{roster_after}
-use Rattle.am_setup.specs.Setup.{numbers}
+use Rattle.am_ring.specs.Instances.{all_instances}
 use Rattle.am_world.specs.Simulation.{Faulted, StoppedBy, fault_count, faults_of, put_out, works}
 use Rattle.am_world.proofs.Built.{keep_equal}
 use Rattle.am_world.proofs.InstancesLemmas.{CountsFrom}
@@ -33,7 +35,7 @@ count_once n i (m ∷ ms) (first, rest) = elim (cases_Bool (nat_eq m i)) [
 
 one_fault : (i : ℕ) → faults_of (λ j. j == i) ≡ 1
 one_fault i =
-    let most = count_once 1 i numbers (refl, (refl, (refl, (refl, (refl, (refl, (refl, (refl, tt)))))))) in
+    let most = count_once 1 i all_instances (refl, (refl, (refl, (refl, (refl, (refl, (refl, (refl, tt)))))))) in
     omega arith
 
 pub faulted_at : (w w' : State) (e : Event) (i : ℕ) → refusal w e ≡ None → works w e i ≡ true → IsDownAt i w'.instances → StoppedBy w e i w' →

@@ -1,26 +1,33 @@
 -- the instance of a number, by its place
-use Rattle.std.proofs.Common.{◌≡◌, ◌∙◌, inl, inr, ℕ, ◌+◌, ◌==◌, ◌<◌, zero, suc, nat_eq, Bool, true, false, List, [], ◌∷◌, ◌++◌, ◌&&◌, nat_le, length, map, slice_set, find, Option, Some, None, ◌≤◌, IsSome, is_some, OnOk, Result, Ok, Err, slice_get, slice_index_or, refl, sym, ap, arith, if◌then◌else◌}
+use Rattle.std.proofs.Common.{◌≡◌, ◌∙◌, inl, inr, ℕ, ◌+◌, ◌==◌, ◌<◌, zero, suc, nat_eq, Bool, true, false, List, []}
+use Rattle.std.proofs.Common.{◌∷◌, ◌++◌, ◌&&◌, nat_le, length, map, slice_set, find, Option, Some, None, ◌≤◌, IsSome}
+use Rattle.std.proofs.Common.{is_some, OnOk, Result, Ok, Err, slice_get, slice_index_or, refl, sym, ap, arith}
+use Rattle.std.proofs.Common.{if◌then◌else◌}
 use Rattle.std.proofs.lemmas.Bool.{cases_Bool}
 use Rattle.std.proofs.lemmas.Bool.Decides.{nat_tests}
 use Rattle.std.proofs.lemmas.List.{length-map}
 use Rattle.std.proofs.lemmas.Option.{slice_get_read, slice_get_within}
-use Rattle.am_world.specs.declared.instance.Instance.{Instance}
+use Rattle.am_instance.specs.declared.instance.Instance.{Instance}
 use Rattle.am_api.specs.Replied.{Decision}
 use Rattle.am_http.specs.Connections.{bytes_of, left_open}
 use Rattle.am_http.specs.declared.request.Fed.{Fed}
 use Rattle.am_http.specs.declared.request.Request.{Request}
-use Rattle.am_world.specs.declared.event.Output.{Output}
-use Rattle.am_world.specs.Places.{AreNumbered, HasMore, IsDownAt, IsReadOnce, KeepRefused, SameElsewhere, bytes_at, bytes_where, here_in, here_of, incarnation_at, incarnation_where, instance_at, local_at, local_in, local_where, reads, refused_at, refused_where, roster_of, up_at, up_where}
+use Rattle.am_instance.specs.declared.output.Output.{Output}
+use Rattle.am_world.specs.Places.{AreNumbered, IsDownAt, IsReadOnce, KeepRefused, SameElsewhere, bytes_at}
+use Rattle.am_world.specs.Places.{bytes_where, here_in, incarnation_at, incarnation_where, instance_at, local_at}
+use Rattle.am_world.specs.Places.{local_where, refused_at, refused_where, roster_of, up_at, up_where}
+use Rattle.am_instance.specs.Instance.{HasMore, here_of, local_in, reads}
 use Rattle.am_http.specs.Verdict.{verdict}
-use Rattle.am_replica.specs.Local.{blank}
+use Rattle.am_node.specs.Local.{blank}
 use Rattle.am_tenant.specs.Names.{same}
-use Rattle.am_world.specs.Reaction.{Brought, Here, MayDecide, Terms, asked_for, brought, decision_at}
+use Rattle.am_instance.specs.Reaction.{Brought, Here, MayDecide, Terms, asked_for, brought, decision_at}
 use Rattle.am_world.specs.Roster.{IsSameRoster}
-use Rattle.am_setup.specs.Setup.{is_instance, numbers}
-use Rattle.am_world.specs.Taking.{Brings, Takes, taken_at}
-use Rattle.am_world.proofs.Built.{more_nothing}
+use Rattle.am_ring.specs.Instances.{all_instances, is_instance}
+use Rattle.am_world.specs.Taking.{Takes, taken_at}
+use Rattle.am_instance.specs.Taking.{Brings}
+use Rattle.am_instance.proofs.Growing.{more_nothing}
 
--- numbers that count on from n
+-- all_instances that count on from n
 abbrev NumberedFrom : ℕ → List Instance → Type 0
 NumberedFrom n [] = Unit {0}
 NumberedFrom n (x ∷ xs) = (x.number ≡ n) × NumberedFrom (suc n) xs
@@ -38,7 +45,7 @@ numbered-map n (x ∷ xs) (m ∷ ms) e (first, rest) =
     (head ∙ first, numbered-map (suc n) xs ms tail rest)
 
 numbered : (xs : List Instance) → AreNumbered xs → NumberedFrom 1 xs
-numbered xs e = numbered-map 1 xs numbers e (refl, (refl, (refl, (refl, (refl, (refl, (refl, (refl, tt))))))))
+numbered xs e = numbered-map 1 xs all_instances e (refl, (refl, (refl, (refl, (refl, (refl, (refl, (refl, tt))))))))
 
 at_from : (n p : ℕ) (xs : List Instance) → NumberedFrom n xs → find (λ (x : Instance). x.number == n + p) xs ≡ slice_get xs p
 at_from n p [] counts = refl
@@ -180,7 +187,7 @@ number_of i (y ∷ xs) x e = elim (cases_Bool (nat_eq y.number i)) [
   | inr h ↦ number_of i xs x (rw h at e)
 ]
 
--- only the numbers 1 to 8 have an instance
+-- only the all_instances 1 to 8 have an instance
 pub found_within : (xs : List Instance) (i : ℕ) (x : Instance) → AreNumbered xs → instance_at i xs ≡ Some x → is_instance i ≡ true
 found_within xs zero x e found = let none = sym (at_zero xs e) ∙ found in cc
 found_within xs (suc j) x e found =

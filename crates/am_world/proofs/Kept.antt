@@ -1,5 +1,7 @@
 -- each kind of event but bytes keeps the simulation
-use Rattle.std.proofs.Common.{◌≡◌, ◌∙◌, inl, inr, ℕ, ◌||◌, ◌==◌, nat_eq, nat_lt, Bool, true, false, List, [], ◌∷◌, ◌++◌, Option, None, Some, IsSome, is_some, ◌&&◌, refl, sym, ap, arith, max, ◌≤◌, if◌then◌else◌}
+use Rattle.std.proofs.Common.{◌≡◌, ◌∙◌, inl, inr, ℕ, ◌||◌, ◌==◌, nat_eq, nat_lt, Bool, true, false, List, [], ◌∷◌}
+use Rattle.std.proofs.Common.{◌++◌, Option, None, Some, IsSome, is_some, ◌&&◌, refl, sym, ap, arith, max, ◌≤◌}
+use Rattle.std.proofs.Common.{if◌then◌else◌}
 use Rattle.std.proofs.lemmas.List.{append-nil}
 use Rattle.std.proofs.lemmas.Bool.{cases_Bool}
 use Rattle.std.proofs.lemmas.Bool.Decides.{nat_tests}
@@ -7,12 +9,14 @@ use Rattle.am_world.specs.declared.event.Event.{Event}
 use Rattle.am_world.specs.declared.event.Event.TheVariants.{Open, Bytes, Limits, Tick}
 use Rattle.am_world.specs.declared.event.Refused.{Refused}
 use Rattle.am_world.specs.declared.event.Refused.TheVariants.{MomentRefused}
-use Rattle.am_world.specs.declared.instance.Instance.{Instance}
+use Rattle.am_instance.specs.declared.instance.Instance.{Instance}
 use Rattle.am_world.specs.declared.state.State.{State}
 use Rattle.am_world.specs.Moments.{clock_after, last_moment}
 use Rattle.am_world.specs.Outputs.{front_told}
-use Rattle.am_world.specs.Places.{IsReadOnce, SameElsewhere, bytes_at, incarnation_at, local_at, refused_at, roster_of, up_at}
-use Rattle.am_world.specs.PrivateCluster.{AreAllBuilt, Course, Happening, AsksBuilt, Limited, PrivateCluster, Ticked, after_all, course, fits_all, ticks, told_all, unchanged}
+use Rattle.am_world.specs.Places.{IsReadOnce, SameElsewhere, bytes_at, incarnation_at, local_at, refused_at}
+use Rattle.am_world.specs.Places.{roster_of, up_at}
+use Rattle.am_world.specs.PrivateCluster.{AreAllBuilt, Course, Happening, AsksBuilt, Limited, PrivateCluster, Ticked}
+use Rattle.am_world.specs.PrivateCluster.{after_all, course, fits_all, ticks, told_all, unchanged}
 use Rattle.am_world.specs.Roster.{IsSameRoster, Roster, roster_after}
 use Rattle.am_limit.specs.Books.{limits_of}
 use Rattle.am_limit.specs.declared.limits.Limits as limit
@@ -83,7 +87,8 @@ follows_open v w w' c i up reading same f = rw (sym (f.roster.up i) ∙ up) (rec
   roster = roster_then _ _ _ same f.roster;
 })
 
--- An event that changes nothing of what a world has of any tenant, is nothing to any cluster and puts nothing out. What is
+-- An event that changes nothing of what a world has of any tenant, is nothing to any cluster and puts nothing out. What
+-- is
 -- read may change.
 pub kept_quiet : (w w' : State) (e : Event) → ((v : Watch) → Follows v w → Follows (watch v e) w') →
     ((t : List ℕ) (v : Watch) (p : PrivateCluster) → Premises t v p w →

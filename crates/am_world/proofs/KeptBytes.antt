@@ -1,5 +1,6 @@
 -- bytes keep the simulation, whatever their verdict
-use Rattle.std.proofs.Common.{◌≡◌, inl, inr, ◌∙◌, ℕ, ◌==◌, ◌&&◌, nat_lt, true, false, List, [], ◌∷◌, ◌++◌, Option, None, Some, refl, sym, ap, arith, if◌then◌else◌, nat_eq}
+use Rattle.std.proofs.Common.{◌≡◌, inl, inr, ◌∙◌, ℕ, ◌==◌, ◌&&◌, nat_lt, true, false, List, [], ◌∷◌, ◌++◌, Option}
+use Rattle.std.proofs.Common.{None, Some, refl, sym, ap, arith, if◌then◌else◌, nat_eq}
 use Rattle.std.proofs.lemmas.List.{append-nil}
 use Rattle.std.proofs.lemmas.Bool.{cases_Bool}
 use Rattle.std.proofs.lemmas.Bool.Decides.{nat_tests}
@@ -15,18 +16,21 @@ use Rattle.am_limit.specs.Books.{limits_of}
 use Rattle.am_tenant.specs.Names.{same}
 use Rattle.am_tenant.proofs.Same.{same_tells}
 use Rattle.am_world.specs.declared.event.Event.TheVariants.{Bytes}
-use Rattle.am_world.specs.declared.event.Output.TheVariants.{Reply}
-use Rattle.am_world.specs.declared.instance.Instance.{Instance}
+use Rattle.am_instance.specs.declared.output.Output.TheVariants.{Reply}
+use Rattle.am_instance.specs.declared.instance.Instance.{Instance}
 use Rattle.am_world.specs.declared.state.State.{State}
 use Rattle.am_world.specs.Moments.{effective, last_moment}
 use Rattle.am_world.specs.Outputs.{answered_by, answered_on, are_owned, front_outputs, front_told, outputs_of, owner}
-use Rattle.am_world.specs.Places.{SameElsewhere, bytes_at, bytes_where, here_in, instance_at, local_at, local_where, roster_of}
-use Rattle.am_world.specs.PrivateCluster.{Asked, Course, PrivateCluster, after, after_all, course, fits_all, here_at, put_out_at, terms_at, told, told_all}
-use Rattle.am_replica.specs.Local.{Reaction}
-use Rattle.am_world.specs.Reaction.{Brought, Here, asked, brought, carried_out, decision_at, terms_of, terms_with}
+use Rattle.am_world.specs.Places.{SameElsewhere, bytes_at, bytes_where, here_in, instance_at, local_at, local_where}
+use Rattle.am_world.specs.Places.{roster_of}
+use Rattle.am_world.specs.PrivateCluster.{Asked, Course, PrivateCluster, after, after_all, course, fits_all, here_at}
+use Rattle.am_world.specs.PrivateCluster.{put_out_at, terms_at, told, told_all}
+use Rattle.am_node.specs.Local.{Reaction}
+use Rattle.am_instance.specs.Reaction.{Brought, Here, asked, brought, carried_out, decision_at, terms_of, terms_with}
 use Rattle.am_world.specs.Roster.{IsSameRoster, put_at}
 use Rattle.am_world.specs.Simulation.{Follows, Kept, Later, Stands, bytes_read}
-use Rattle.am_world.specs.View.{AskedAs, FrontAnswered, Reading, Seen, Shut, Table, Watch, adds, asked_by, asked_on, look, noted, seen_as, watch}
+use Rattle.am_world.specs.View.{AskedAs, FrontAnswered, Reading, Seen, Shut, Table, Watch, adds, asked_by, asked_on}
+use Rattle.am_world.specs.View.{look, noted, seen_as, watch}
 use Rattle.am_world.proofs.Kept.{itself, kept_nothing, roster_then, same_again}
 
 -- ---- what is read

@@ -1,15 +1,16 @@
 -- the outcome of a try keeps the simulation
-use Rattle.std.proofs.Common.{◌≡◌, ◌⊎◌, ◌∙◌, ℕ, ◌&&◌, nat_lt, inl, inr, Bool, true, false, is_some, List, [], ◌∷◌, ◌++◌, Option, Some, None, refl, sym, ap, if◌then◌else◌}
+use Rattle.std.proofs.Common.{◌≡◌, ◌⊎◌, ◌∙◌, ℕ, ◌&&◌, nat_lt, inl, inr, Bool, true, false, is_some, List, [], ◌∷◌}
+use Rattle.std.proofs.Common.{◌++◌, Option, Some, None, refl, sym, ap, if◌then◌else◌}
 use Rattle.std.proofs.lemmas.List.{append-nil}
 use Rattle.am_limit.specs.Books.{limits_of}
 use Rattle.am_outlet.specs.declared.outcome.Outcome.TheVariants as fate
 use Rattle.am_outlet.specs.declared.outcome.Outcome.{Outcome as Fate}
-use Rattle.am_replica.specs.declared.here.Here.{Here as ReplicaHere}
-use Rattle.am_replica.specs.Delivery.{outcome, recorded, settled}
-use Rattle.am_replica.specs.Local.{Local, Reaction}
+use Rattle.am_context.specs.declared.context.Context.{Context as NodeContext}
+use Rattle.am_node.specs.Delivery.{outcome, recorded, settled}
+use Rattle.am_node.specs.Local.{Local, Reaction}
 use Rattle.am_tenant.specs.Names.{same}
 use Rattle.am_tenant.proofs.Same.{eq_from_same, same-refl, same_tells}
-use Rattle.am_world.specs.declared.event.AttemptName.{AttemptName}
+use Rattle.am_instance.specs.declared.output.AttemptName.{AttemptName}
 use Rattle.am_world.specs.declared.event.Event.TheVariants.{Outcome}
 use Rattle.am_world.specs.declared.event.Refused.{Refused}
 use Rattle.am_world.specs.declared.event.Refused.TheVariants.{MomentRefused, NotAwaited}
@@ -17,8 +18,9 @@ use Rattle.am_world.specs.declared.state.State.{State}
 use Rattle.am_world.specs.Moments.{effective, last_moment}
 use Rattle.am_world.specs.Outputs.{front_told}
 use Rattle.am_world.specs.Places.{SameElsewhere, awaits_at, bytes_at, here_in, local_at, refused_at, roster_of}
-use Rattle.am_world.specs.PrivateCluster.{AreAllBuilt, Course, PrivateCluster, Tried, after_all, awaits, course, fits_all, handled, here_at, put_out_at, told_all, unchanged}
-use Rattle.am_world.specs.Reaction.{in_replica, terms_of}
+use Rattle.am_world.specs.PrivateCluster.{AreAllBuilt, Course, PrivateCluster, Tried, after_all, awaits, course}
+use Rattle.am_world.specs.PrivateCluster.{fits_all, handled, here_at, put_out_at, told_all, unchanged}
+use Rattle.am_instance.specs.Reaction.{in_node, terms_of}
 use Rattle.am_world.specs.Roster.{IsSameRoster, put_at}
 use Rattle.am_world.specs.Simulation.{Kept, Stands, fault_count, put_out}
 use Rattle.am_world.specs.View.{adds, watch}
@@ -28,14 +30,14 @@ use Rattle.am_world.proofs.RefusalSeen.{awaits_same}
 use Rattle.am_world.proofs.Turns.{local_same}
 
 -- an outcome says nothing
-settled_silent : (here : ReplicaHere) (fate : Fate) (local : Local) → (settled here fate local).said ≡ []
+settled_silent : (here : NodeContext) (fate : Fate) (local : Local) → (settled here fate local).said ≡ []
 unfolding recorded
 settled_silent here fate.NotOpen local = refl
 settled_silent here (fate.Delivered notice) local = refl
 settled_silent here (fate.Again due) local = refl
 settled_silent here fate.GivenUp local = refl
 
-outcome_silent : (here : ReplicaHere) (number tries : ℕ) (status : Option ℕ) (local : Local) → (outcome here number tries status local).said ≡ []
+outcome_silent : (here : NodeContext) (number tries : ℕ) (status : Option ℕ) (local : Local) → (outcome here number tries status local).said ≡ []
 unfolding outcome
 outcome_silent here number tries status local = settled_silent here _ _
 
@@ -80,7 +82,7 @@ by_reaction p i r = record { cluster = record p { at = put_at p.at i r.local }; 
 
 tried_taken : (p : PrivateCluster) (i k number tries m : ℕ) (status : Option ℕ) → nat_lt last_moment m ≡ false →
     awaits p i k number tries ≡ true → course p (Tried i k number tries m status)
-    ≡ by_reaction p i (outcome (in_replica (here_at p (effective m p.clock) i)) number tries status (p.at i))
+    ≡ by_reaction p i (outcome (in_node (here_at p (effective m p.clock) i)) number tries status (p.at i))
 unfolding course
 tried_taken p i k number tries m status allowed awaited = rw (allowed, awaited) refl
 
@@ -89,24 +91,24 @@ tried_course : (attempt : AttemptName) (tries m : ℕ) (status : Option ℕ) (w 
     nat_lt last_moment m ≡ false → awaits_at attempt tries w.instances ≡ true →
     course p (Tried attempt.instance attempt.incarnation attempt.number tries m status)
     ≡ by_reaction p attempt.instance
-    (outcome (in_replica (here_in (effective m w.clock) (terms_of w.service_key w.limits attempt.tenant) attempt.instance w.instances))
+    (outcome (in_node (here_in (effective m w.clock) (terms_of w.service_key w.limits attempt.tenant) attempt.instance w.instances))
     attempt.number tries status (local_at attempt.tenant attempt.instance w.instances))
 tried_course attempt tries m status w p s allowed awaited =
     let i = attempt.instance in
     tried_taken p i attempt.incarnation attempt.number tries m status allowed (sym (awaits_same w attempt tries p s) ∙ awaited)
-    ∙ ap (λ h. by_reaction p i (outcome (in_replica h) attempt.number tries status (p.at i))) (here_same attempt.tenant i m w p s)
+    ∙ ap (λ h. by_reaction p i (outcome (in_node h) attempt.number tries status (p.at i))) (here_same attempt.tenant i m w p s)
     ∙ ap (λ l. by_reaction p i (outcome
-    (in_replica (here_in (effective m w.clock) (terms_of w.service_key w.limits attempt.tenant) i w.instances)) attempt.number tries status l))
+    (in_node (here_in (effective m w.clock) (terms_of w.service_key w.limits attempt.tenant) i w.instances)) attempt.number tries status l))
     (sym (s.local i))
 
 -- the tenant of the attempt has what its cluster has of it, which says nothing; every other has what it had
 tried_alone : (t : List ℕ) (w w' : State) (p : PrivateCluster) (attempt : AttemptName) (tries m : ℕ) (status : Option ℕ) → Stands t w p →
     nat_lt last_moment m ≡ false → awaits_at attempt tries w.instances ≡ true →
     local_at t attempt.instance w'.instances ≡ (if same t attempt.tenant
-    then (outcome (in_replica (here_in (effective m w.clock) (terms_of w.service_key w.limits attempt.tenant) attempt.instance w.instances))
+    then (outcome (in_node (here_in (effective m w.clock) (terms_of w.service_key w.limits attempt.tenant) attempt.instance w.instances))
     attempt.number tries status (local_at t attempt.instance w.instances)).local
     else local_at t attempt.instance w.instances) →
-    (outcome (in_replica (here_in (effective m w.clock) (terms_of w.service_key w.limits attempt.tenant) attempt.instance w.instances))
+    (outcome (in_node (here_in (effective m w.clock) (terms_of w.service_key w.limits attempt.tenant) attempt.instance w.instances))
     attempt.number tries status (local_at attempt.tenant attempt.instance w.instances)).fits ≡ true →
     SameElsewhere attempt.instance w.instances w'.instances → w'.clock ≡ w.clock → w'.limits ≡ w.limits → w'.service_key ≡ w.service_key →
     IsSameRoster (roster_of w'.instances) (roster_of w.instances) →
@@ -119,7 +121,7 @@ tried_alone t w w' p attempt tries m status s allowed awaited local fit others c
       let is = tried_course attempt tries m status w p stands allowed awaited in
       let here = rw (e.1, same-refl attempt.tenant) at local in
       let reaction : Reaction =
-      outcome (in_replica (here_in (effective m w.clock) (terms_of w.service_key w.limits attempt.tenant) attempt.instance w.instances))
+      outcome (in_node (here_in (effective m w.clock) (terms_of w.service_key w.limits attempt.tenant) attempt.instance w.instances))
       attempt.number tries status (local_at attempt.tenant attempt.instance w.instances) in
       let reacts : Reacts attempt.tenant attempt.instance w w' reaction = record {
         here = here;
@@ -147,10 +149,10 @@ tried_alone t w w' p attempt tries m status s allowed awaited local fit others c
 pub kept_outcome : (w w' : State) (attempt : AttemptName) (tries m : ℕ) (status : Option ℕ) → nat_lt last_moment m ≡ false →
     awaits_at attempt tries w.instances ≡ true →
     ((t : List ℕ) → local_at t attempt.instance w'.instances ≡ (if same t attempt.tenant
-    then (outcome (in_replica (here_in (effective m w.clock) (terms_of w.service_key w.limits attempt.tenant) attempt.instance w.instances))
+    then (outcome (in_node (here_in (effective m w.clock) (terms_of w.service_key w.limits attempt.tenant) attempt.instance w.instances))
     attempt.number tries status (local_at t attempt.instance w.instances)).local
     else local_at t attempt.instance w.instances)) →
-    (outcome (in_replica (here_in (effective m w.clock) (terms_of w.service_key w.limits attempt.tenant) attempt.instance w.instances))
+    (outcome (in_node (here_in (effective m w.clock) (terms_of w.service_key w.limits attempt.tenant) attempt.instance w.instances))
     attempt.number tries status (local_at attempt.tenant attempt.instance w.instances)).fits ≡ true →
     SameElsewhere attempt.instance w.instances w'.instances → ((c i : ℕ) → bytes_at c i w'.instances ≡ bytes_at c i w.instances) →
     IsSameRoster (roster_of w'.instances) (roster_of w.instances) → ((i : ℕ) → refused_at i w'.instances ≡ refused_at i w.instances) →

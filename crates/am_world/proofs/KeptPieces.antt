@@ -1,5 +1,7 @@
--- a piece of a connection keeps the simulation, also where it makes a request whole that is refused for a pattern of its own
-use Rattle.std.proofs.Common.{◌≡◌, ◌⊎◌, inl, inr, ◌∙◌, ℕ, nat_lt, true, false, List, ◌++◌, Some, refl, sym, ap, arith, nat_eq, subst}
+-- a piece of a connection keeps the simulation, also where it makes a request whole that is refused for a pattern of
+-- its own
+use Rattle.std.proofs.Common.{◌≡◌, ◌⊎◌, inl, inr, ◌∙◌, ℕ, nat_lt, true, false, List, ◌++◌, Some, refl, sym, ap, arith}
+use Rattle.std.proofs.Common.{nat_eq, subst}
 use Rattle.std.proofs.lemmas.Bool.{cases_Bool}
 use Rattle.std.proofs.lemmas.Bool.Decides.{nat_tests}
 use Rattle.am_api.specs.Replied.{Decision}
@@ -10,25 +12,30 @@ use Rattle.am_http.specs.declared.request.Request.{Request}
 use Rattle.am_limit.specs.Books.{limits_of}
 use Rattle.am_limit.specs.declared.limits.Limits.{Limits}
 use Rattle.am_muting.specs.Failing.{AddsAmong}
-use Rattle.am_replica.specs.Local.{Reaction}
+use Rattle.am_node.specs.Local.{Reaction}
 use Rattle.am_tenant.specs.Names.{same}
 use Rattle.am_tenant.proofs.Same.{same_tells}
 use Rattle.am_world.specs.declared.event.Event.{Event}
 use Rattle.am_world.specs.declared.event.Event.TheVariants.{Bytes}
-use Rattle.am_world.specs.declared.event.Output.{Output}
-use Rattle.am_world.specs.declared.instance.Instance.{Instance}
+use Rattle.am_instance.specs.declared.output.Output.{Output}
+use Rattle.am_instance.specs.declared.instance.Instance.{Instance}
 use Rattle.am_world.specs.declared.state.State.{State}
 use Rattle.am_world.specs.Moments.{effective, last_moment}
-use Rattle.am_world.specs.Places.{SameElsewhere, bytes_at, incarnation_at, incarnation_where, local_at, local_where, refused_at, refused_where, roster_of, up_at, up_where}
+use Rattle.am_world.specs.Places.{SameElsewhere, bytes_at, incarnation_at, incarnation_where, local_at, local_where}
+use Rattle.am_world.specs.Places.{refused_at, refused_where, roster_of, up_at, up_where}
 use Rattle.am_world.specs.PrivateCluster.{AreAllBuilt, Course, PrivateCluster, answered, here_at, put_out_at}
-use Rattle.am_world.specs.Reaction.{AcceptsBuilt, IsRefusedBuild, MayDecide, Terms, asked_for, carried_out, decision_at, terms_of}
+use Rattle.am_instance.specs.Reaction.{AcceptsBuilt, IsRefusedBuild, MayDecide, Terms, asked_for, carried_out}
+use Rattle.am_instance.specs.Reaction.{decision_at, terms_of}
 use Rattle.am_world.specs.Roster.{IsSameRoster, put_at}
-use Rattle.am_world.specs.Simulation.{IsRefusedAlone, KeepsBuilds, Kept, Later, RefusesBuild, Stands, fault_count, put_out, refused_by}
+use Rattle.am_world.specs.Simulation.{IsRefusedAlone, KeepsBuilds, Kept, Later, RefusesBuild, Stands, fault_count}
+use Rattle.am_world.specs.Simulation.{put_out, refused_by}
 use Rattle.am_world.specs.Taking.{Takes, taken_at}
 use Rattle.am_world.specs.View.{AskedAs, Watch, adds, asked_by, look, watch}
-use Rattle.am_world.proofs.Built.{added_none}
+use Rattle.am_instance.proofs.Growing.{added_none}
 use Rattle.am_world.proofs.Kept.{roster_then}
-use Rattle.am_world.proofs.KeptBytes.{IsRight, Reacts, brings, decision_in, fits_bytes, front_bytes, gives, here_same, look_here, of_tenant, owned_bytes, reading_after, says, seen_reading, sees, stands_bytes, stands_reacts, then_seen, told_bytes}
+use Rattle.am_world.proofs.KeptBytes.{IsRight, Reacts, brings, decision_in, fits_bytes, front_bytes, gives, here_same}
+use Rattle.am_world.proofs.KeptBytes.{look_here, of_tenant, owned_bytes, reading_after, says, seen_reading, sees}
+use Rattle.am_world.proofs.KeptBytes.{stands_bytes, stands_reacts, then_seen, told_bytes}
 
 roster_taken : (n c : ℕ) (bytes : List ℕ) (m : ℕ) (terms : List ℕ → Terms) (xs ys : List Instance) (outs outs' : List Output) →
     Takes n c bytes m terms xs ys outs outs' → IsSameRoster (roster_of ys) (roster_of xs)

@@ -1,6 +1,5 @@
 mod Backed
 mod Built
-mod Deciding
 mod Faults
 mod InstancesLemmas
 mod Kept
@@ -15,6 +14,5 @@ mod RefusalSeen
 mod Shelved
 mod Run
 pub mod Steps
-mod Ticking
 mod Turns
 mod Working

@@ -1,20 +1,26 @@
 -- instances as they are opened
-use Rattle.std.proofs.Common.{◌≡◌, ◌∙◌, inl, inr, ℕ, Bool, true, false, List, [], ◌∷◌, ◌++◌, length, Option, Some, None, Result, Ok, Err, IfErr, OnOk, ◌==◌, find, map, refl, slice_get, subst, suc, sym, ap, arith, if◌then◌else◌}
+use Rattle.std.proofs.Common.{◌≡◌, ◌∙◌, inl, inr, ℕ, Bool, true, false, List, [], ◌∷◌, ◌++◌, length, Option, Some}
+use Rattle.std.proofs.Common.{None, Result, Ok, Err, IfErr, OnOk, ◌==◌, find, map, refl, slice_get, subst, suc, sym}
+use Rattle.std.proofs.Common.{ap, arith, if◌then◌else◌}
 use Rattle.std.proofs.lemmas.Bool.{cases_Bool}
 use Rattle.std.proofs.lemmas.Bool.Decides.{nat_tests}
 use Rattle.am_http.specs.Connections.{bytes_of}
 use Rattle.am_limit.specs.Books.{limits_of}
-use Rattle.am_world.specs.declared.instance.Instance.{Instance}
+use Rattle.am_instance.specs.declared.instance.Instance.{Instance}
 use Rattle.am_world.specs.declared.state.State.{State}
-use Rattle.am_world.specs.Places.{AreNumbered, IsDownAt, SameElsewhere, bytes_at, bytes_where, incarnation_at, incarnation_where, instance_at, local_at, local_in, local_where, refused_at, refused_where, roster_of, up_at, up_where}
+use Rattle.am_world.specs.Places.{AreNumbered, IsDownAt, SameElsewhere, bytes_at, bytes_where, incarnation_at}
+use Rattle.am_world.specs.Places.{incarnation_where, instance_at, local_at, local_where, refused_at, refused_where}
+use Rattle.am_world.specs.Places.{roster_of, up_at, up_where}
+use Rattle.am_instance.specs.Instance.{IsDown, local_in}
 use Rattle.am_world.specs.PrivateCluster.{opened, opened_at}
-use Rattle.am_replica.specs.Local.{blank}
+use Rattle.am_node.specs.Local.{blank}
 use Rattle.am_world.specs.Roster.{IsSameRoster, opened_roster, serves}
-use Rattle.am_setup.specs.Setup.{Origin, is_instance}
+use Rattle.am_ring.specs.Instances.{is_instance}
+use Rattle.am_setup.specs.Setup.{Origin}
 use Rattle.am_world.specs.Simulation.{Follows, Stands}
 use Rattle.am_world.specs.View.{first_watch}
 use Rattle.am_item.specs.declared.item.Item.{Item}
-use Rattle.am_replica.specs.Accepting.{accepted}
+use Rattle.am_node.specs.Accepting.{accepted}
 use Rattle.am_rows.specs.Refusing.{IsJudged, MayRefuse}
 use Rattle.am_rows.specs.Rows.{rows_of}
 use Rattle.am_rows.specs.declared.rows.Rows.{Ghosts}
@@ -22,8 +28,10 @@ use Rattle.am_rows.specs.declared.refusal.StoreRefusal.{StoreRefusal}
 use Rattle.am_text.specs.declared.failure.Failure.{Failure}
 use Rattle.am_text.specs.declared.failure.Failure.TheVariants as failure
 use Rattle.am_world.specs.Opening.{FailsAt, FailsToOpen, refusal_for, store_at}
-use Rattle.am_world.specs.Shelves.{AreBacked, IsStartedAt, Shelf, shelf_at}
-use Rattle.am_world.proofs.InstancesLemmas.{Changed, bytes_here, found_within, incarnation_here, local_here, missing_number, refused_here, up_here}
+use Rattle.am_world.specs.Shelves.{AreBacked, IsStartedAt, shelf_at}
+use Rattle.am_instance.specs.Shelves.{Shelf}
+use Rattle.am_world.proofs.InstancesLemmas.{Changed, bytes_here, found_within, incarnation_here, local_here}
+use Rattle.am_world.proofs.InstancesLemmas.{missing_number, refused_here, up_here}
 use Rattle.am_world.proofs.Shelved.{backed_down}
 
 -- an instance in its first incarnation that is down and has nothing
@@ -105,8 +113,12 @@ numbers_push (y ∷ xs) x = ap (λ ns. y.number ∷ ns) (numbers_push xs x)
 
 -- ---- an instance that is started
 
-pub blank_here : (i : ℕ) (xs : List Instance) (x : Instance) → instance_at i xs ≡ Some x → IsDownAt i xs → (t : List ℕ) → local_in t x ≡ blank
-blank_here i xs x here down t = sym (local_here t i xs x here) ∙ down.lost t
+pub down_there : (i : ℕ) (xs : List Instance) (x : Instance) → instance_at i xs ≡ Some x → IsDownAt i xs → IsDown x
+down_there i xs x here down = record {
+  up = sym (up_here i xs x here) ∙ down.up;
+  unread = λ c. sym (bytes_here c i xs x here) ∙ down.unread c;
+  lost = λ t. sym (local_here t i xs x here) ∙ down.lost t;
+}
 
 pub started_here : {A E : Type 0} (r : Result A E) (i moment : ℕ) (xs ys : List Instance) (x y : Instance) (old new : Shelf) → instance_at i xs ≡ Some x → Changed i xs ys y
     → IsDownAt i xs → OnOk r (y.up ≡ true) → (new.is_clean ≡ true → OnOk r ((t : List ℕ) → local_in t y ≡ accepted moment (rows_of t old.pairs) blank)) → y.front ≡ x.front

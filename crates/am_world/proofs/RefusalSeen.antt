@@ -1,11 +1,13 @@
 -- in a world of which what is known is so, an event is refused as it says
-use Rattle.std.proofs.Common.{◌≡◌, ◌∙◌, ℕ, List, true, false, is_some, IsSome, Option, None, Some, option_map, refl, sym, find}
+use Rattle.std.proofs.Common.{◌≡◌, ◌∙◌, ℕ, List, true, false, is_some, IsSome, Option, None, Some, option_map, refl}
+use Rattle.std.proofs.Common.{sym, find}
 use Rattle.am_world.specs.declared.event.Event.{Event}
 use Rattle.am_world.specs.declared.event.Event.TheVariants.{Open, Bytes, Close, Limits, Tick, Outcome}
-use Rattle.am_world.specs.declared.instance.Instance.{Instance}
+use Rattle.am_instance.specs.declared.instance.Instance.{Instance}
 use Rattle.am_world.specs.declared.state.State.{State}
-use Rattle.am_world.specs.declared.event.AttemptName.{AttemptName}
-use Rattle.am_world.specs.Places.{AreNumbered, awaits_at, reader_of, reads}
+use Rattle.am_instance.specs.declared.output.AttemptName.{AttemptName}
+use Rattle.am_world.specs.Places.{AreNumbered, awaits_at, reader_of}
+use Rattle.am_instance.specs.Instance.{reads}
 use Rattle.am_world.specs.PrivateCluster.{PrivateCluster, awaits}
 use Rattle.am_world.specs.Refusal.{is_read, refusal, refusal_seen}
 use Rattle.am_world.specs.Simulation.{Follows, Stands, bytes_read}

@@ -1,5 +1,6 @@
 -- from single steps to whole runs; no kind of event is named here but in what a table remembers
-use Rattle.std.proofs.Common.{IsTrue, ◌&&◌, ◌≡◌, ◌≢◌, ◌⊎◌, inl, inr, ◌∙◌, ℕ, nat_lt, Bool, true, false, is_some, List, [], ◌∷◌, ◌++◌, Option, None, Some, refl, sym, ap, arith, if◌then◌else◌, nat_eq}
+use Rattle.std.proofs.Common.{IsTrue, ◌&&◌, ◌≡◌, ◌≢◌, ◌⊎◌, inl, inr, ◌∙◌, ℕ, nat_lt, Bool, true, false, is_some, List}
+use Rattle.std.proofs.Common.{[], ◌∷◌, ◌++◌, Option, None, Some, refl, sym, ap, arith, if◌then◌else◌, nat_eq}
 use Rattle.std.proofs.Math.Seq.{drop-append_seam, take-append_seam}
 use Rattle.std.proofs.lemmas.Bool.Decides.{nat_tests}
 use Rattle.std.proofs.lemmas.List.{append-nil, append_assoc}
@@ -9,16 +10,20 @@ use Rattle.am_api.specs.Patterns.{patterns_of_request}
 use Rattle.am_item.specs.declared.item.Item.{Item}
 use Rattle.am_world.specs.declared.event.Event.{Event}
 use Rattle.am_world.specs.declared.event.Event.TheVariants.{Open, Bytes, Close, Limits, Tick, Outcome}
-use Rattle.am_world.specs.declared.event.Output.{Output}
+use Rattle.am_instance.specs.declared.output.Output.{Output}
 use Rattle.am_world.specs.declared.state.State.{State}
 use Rattle.am_world.specs.Moments.{last_moment}
-use Rattle.am_world.specs.Outputs.{are_owned, front_outputs, front_told, front_told_all, is_front, is_tenant, outputs_of, owner}
+use Rattle.am_world.specs.Outputs.{are_owned, front_outputs, front_told, front_told_all, is_front, is_tenant}
+use Rattle.am_world.specs.Outputs.{outputs_of, owner}
 use Rattle.am_world.specs.Places.{AreBuilt, KeepRefused}
-use Rattle.am_world.specs.PrivateCluster.{Happening, PrivateCluster, after, after_all, fits, fits_all, opened, patterns_in, told, told_all}
+use Rattle.am_world.specs.PrivateCluster.{Happening, PrivateCluster, after, after_all, fits, fits_all, opened}
+use Rattle.am_world.specs.PrivateCluster.{patterns_in, told, told_all}
 use Rattle.am_world.specs.Runs.{Alone, Headline, Prefixes, Run}
 use Rattle.am_setup.specs.Setup.{Origin}
-use Rattle.am_world.specs.Simulation.{Faulted, Follows, IsAsAlone, IsRefusedAlone, Kept, Later, Opens, Premises, Stands, Step, fault_count, put_out, refused_by}
-use Rattle.am_world.specs.View.{AskedAs, FrontAnswered, Reading, Seen, Shut, Table, Watch, adds, first_watch, left, look, names_once, noted, opens_new, table_after, view, watch, watch_all}
+use Rattle.am_world.specs.Simulation.{Faulted, Follows, IsAsAlone, IsRefusedAlone, Kept, Later, Opens, Premises}
+use Rattle.am_world.specs.Simulation.{Stands, Step, fault_count, put_out, refused_by}
+use Rattle.am_world.specs.View.{AskedAs, FrontAnswered, Reading, Seen, Shut, Table, Watch, adds, first_watch, left}
+use Rattle.am_world.specs.View.{look, names_once, noted, opens_new, table_after, view, watch, watch_all}
 use Rattle.am_world.proofs.Built.{built_before, built_parts, builds_more, keep_equal, keep_then, none_refused}
 
 -- ---- what was decided of a connection stays decided

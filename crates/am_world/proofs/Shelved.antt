@@ -1,19 +1,24 @@
 -- What the stores have beside their instances, as one of each changes.
-use Rattle.std.proofs.Common.{◌≡◌, ◌∙◌, inl, inr, ℕ, ◌+◌, ◌==◌, ◌<◌, zero, suc, get_or, nat_eq, Bool, true, false, List, [], length, map, slice_set, Option, Some, None, IsSome, option_map, slice_get, refl, sym, ap, arith, subst, if◌then◌else◌}
+use Rattle.std.proofs.Common.{◌≡◌, ◌∙◌, inl, inr, ℕ, ◌+◌, ◌==◌, ◌<◌, zero, suc, get_or, nat_eq, Bool, true, false}
+use Rattle.std.proofs.Common.{List, [], length, map, slice_set, Option, Some, None, IsSome, option_map, slice_get}
+use Rattle.std.proofs.Common.{refl, sym, ap, arith, subst, if◌then◌else◌}
 use Rattle.std.proofs.Math.ListN.{length-set}
 use Rattle.std.proofs.lemmas.Bool.{cases_Bool, true≢false}
 use Rattle.std.proofs.lemmas.Bool.Decides.{nat_tests}
 use Rattle.std.proofs.lemmas.List.{length-map}
 use Rattle.std.proofs.lemmas.Option.{slice_get-map}
-use Rattle.am_setup.specs.Setup.{is_instance, numbers}
-use Rattle.am_replica.specs.Local.{Local}
+use Rattle.am_ring.specs.Instances.{all_instances, is_instance}
+use Rattle.am_node.specs.Local.{Local}
 use Rattle.am_rows.specs.Rows.{stored_in}
-use Rattle.am_world.specs.Shelves.{AreBacked, AreClean, AreQuiet, IsBackedAt, NeverCleaner, Shelf, shelf_at, shelf_where}
-use Rattle.am_world.specs.Places.{IsDownAt, SameElsewhere, bytes_at, bytes_where, local_at, local_where, up_at, up_where}
-use Rattle.am_world.specs.declared.instance.Instance.{Instance}
+use Rattle.am_world.specs.Shelves.{AreBacked, AreClean, AreQuiet, IsBackedAt, NeverCleaner, shelf_at, shelf_where}
+use Rattle.am_instance.specs.Shelves.{Shelf}
+use Rattle.am_world.specs.Places.{IsDownAt, SameElsewhere, bytes_at, bytes_where, local_at, local_where, up_at}
+use Rattle.am_world.specs.Places.{up_where}
+use Rattle.am_instance.specs.declared.instance.Instance.{Instance}
 use Rattle.am_limit.specs.declared.limits.Limits.{Limits}
-use Rattle.am_world.specs.declared.event.Output.{Output}
-use Rattle.am_world.specs.Ticks.{Either, StopsAt, TicksAt}
+use Rattle.am_instance.specs.declared.output.Output.{Output}
+use Rattle.am_world.specs.Ticks.{StopsAt, TicksAt}
+use Rattle.am_instance.specs.Ticks.{Either}
 use Rattle.am_world.proofs.InstancesLemmas.{set_get}
 
 module _ {R : Type 0} (f : R → Shelf) (xs : List R) where
@@ -189,8 +194,8 @@ pub quiet_turn : (i moment : ℕ) (limits : List (List ℕ × Limits)) (goes_on 
 quiet_turn i moment limits true xs ys before after ticks quiet down c = ticks.reading c ∙ quiet (sym ticks.up ∙ down) c
 quiet_turn i moment limits false xs ys before after stops quiet down c = stops.down.unread c
 
--- the numbers are those of the instances
-pub number_is : (i : ℕ) → i < 8 → get_or numbers i 0 ≡ i + 1
+-- the all_instances are those of the instances
+pub number_is : (i : ℕ) → i < 8 → get_or all_instances i 0 ≡ i + 1
 number_is zero low = refl
 number_is (suc zero) low = refl
 number_is (suc (suc zero)) low = refl
@@ -201,7 +206,7 @@ number_is (suc (suc (suc (suc (suc (suc zero)))))) low = refl
 number_is (suc (suc (suc (suc (suc (suc (suc zero))))))) low = refl
 number_is (suc (suc (suc (suc (suc (suc (suc (suc n)))))))) low = absurd (omega arith)
 
-pub number_exists : (i : ℕ) → i < 8 → is_instance (get_or numbers i 0) ≡ true
+pub number_exists : (i : ℕ) → i < 8 → is_instance (get_or all_instances i 0) ≡ true
 number_exists i low = ap is_instance (number_is i low) ∙ within
   where
     within : is_instance (i + 1) ≡ true

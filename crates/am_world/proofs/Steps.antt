@@ -2,7 +2,7 @@
 use Rattle.std.proofs.Common.{◌≡◌, ◌≢◌, ◌∙◌, ℕ, List, [], ◌∷◌, ◌++◌, sym, ap}
 use Rattle.am_item.specs.declared.item.Item.{Item}
 use Rattle.am_world.specs.declared.event.Event.{Event}
-use Rattle.am_world.specs.declared.event.Output.{Output}
+use Rattle.am_instance.specs.declared.output.Output.{Output}
 use Rattle.am_world.specs.declared.state.State.{State}
 use Rattle.am_world.specs.Places.{AreBuilt, KeepRefused}
 use Rattle.am_world.specs.PrivateCluster.{PrivateCluster, after_all, opened, patterns_in}
@@ -11,7 +11,8 @@ use Rattle.am_setup.specs.Setup.{Origin}
 use Rattle.am_world.specs.Simulation.{Follows, Opens, Stands, Step, fault_count, put_out, refused_by}
 use Rattle.am_world.specs.View.{Watch, adds, first_watch, names_once, view, watch}
 use Rattle.am_world.proofs.Built.{keep_equal, keep_then}
-use Rattle.am_world.proofs.Run.{Given, Ran, alone_of, first_alone, given_opening, ran_nothing, ran_more, rest_given, step_faults, step_kept, step_refused}
+use Rattle.am_world.proofs.Run.{Given, Ran, alone_of, first_alone, given_opening, ran_nothing, ran_more, rest_given}
+use Rattle.am_world.proofs.Run.{step_faults, step_kept, step_refused}
 
 -- what a world put out says nothing of what it reads and has
 forgets_follows : (v : Watch) (w w' : State) → Forgets w w' → Follows v w → Follows v w'

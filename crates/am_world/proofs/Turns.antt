@@ -1,5 +1,7 @@
 -- what a tick of all instances comes to, where none stopped and where some did
-use Rattle.std.proofs.Common.{◌≡◌, ◌≢◌, ◌∙◌, inl, inr, ℕ, ◌+◌, ◌<◌, ◌≤◌, ◌==◌, nat_eq, suc, Bool, true, false, not, ◌&&◌, ◌||◌, is_some, List, [], ◌∷◌, ◌++◌, map, filter, length, Option, refl, sym, ap, arith, if◌then◌else◌}
+use Rattle.std.proofs.Common.{◌≡◌, ◌≢◌, ◌∙◌, inl, inr, ℕ, ◌+◌, ◌<◌, ◌≤◌, ◌==◌, nat_eq, suc, Bool, true, false, not}
+use Rattle.std.proofs.Common.{◌&&◌, ◌||◌, is_some, List, [], ◌∷◌, ◌++◌, map, filter, length, Option, refl, sym, ap}
+use Rattle.std.proofs.Common.{arith, if◌then◌else◌}
 use Rattle.std.specs.List.{flat_map, list_all, list_any}
 use Rattle.std.proofs.lemmas.Bool.{cases_Bool}
 use Rattle.std.proofs.lemmas.Bool.Decides.{nat_tests}
@@ -7,18 +9,21 @@ use Rattle.std.proofs.lemmas.List.{append-nil, append_assoc}
 use Rattle.std.proofs.lemmas.List.Elements.{filter-append}
 use Rattle.std.proofs.lemmas.List.Folds.{list_all-append}
 use Rattle.am_limit.specs.declared.limits.Limits.{Limits}
-use Rattle.am_replica.specs.declared.dispatch.Dispatch.{Dispatch}
-use Rattle.am_replica.specs.Local.{Reaction}
-use Rattle.am_replica.specs.Ticks.{here_for, said_of}
+use Rattle.am_node.specs.declared.dispatch.Dispatch.{Dispatch}
+use Rattle.am_node.specs.Local.{Reaction}
+use Rattle.am_node.specs.Ticks.{context_for, said_of}
 use Rattle.am_tenant.specs.Names.{same}
 use Rattle.am_tenant.proofs.Same.{same_tells}
-use Rattle.am_world.specs.declared.event.Output.{Output}
-use Rattle.am_world.specs.declared.instance.Instance.{Instance}
+use Rattle.am_instance.specs.declared.output.Output.{Output}
+use Rattle.am_instance.specs.declared.instance.Instance.{Instance}
 use Rattle.am_world.specs.Outputs.{are_owned, front_outputs, is_front, is_tenant, outputs_of, owner}
-use Rattle.am_world.specs.Places.{IsDownAt, KeepRefused, SameElsewhere, bytes_at, bytes_where, cause_at, cause_where, incarnation_at, incarnation_where, instance_at, local_at, local_where, refused_at, refused_where, roster_of, up_at, up_where}
-use Rattle.am_world.specs.Reaction.{notice, output_of, tick_if}
+use Rattle.am_world.specs.Places.{IsDownAt, KeepRefused, SameElsewhere, bytes_at, bytes_where, cause_at, cause_where}
+use Rattle.am_world.specs.Places.{incarnation_at, incarnation_where, instance_at, local_at, local_where, refused_at}
+use Rattle.am_world.specs.Places.{refused_where, roster_of, up_at, up_where}
+use Rattle.am_instance.specs.Reaction.{notice, output_of, tick_if}
 use Rattle.am_world.specs.Roster.{IsSameRoster}
-use Rattle.am_world.specs.Ticks.{CauseAt, TakeTurns, TakesTurn, TicksAt, notice_from}
+use Rattle.am_world.specs.Ticks.{CauseAt, TakeTurns, TakesTurn, TicksAt}
+use Rattle.am_instance.specs.Ticks.{notice_from}
 use Rattle.am_world.specs.View.{Watch}
 use Rattle.am_world.proofs.Built.{keep_equal, keep_then}
 use Rattle.am_world.proofs.InstancesLemmas.{CountsFrom}
@@ -70,11 +75,11 @@ owned u i k (d ∷ all) = owned u i k all
 -- the tick of an instance for a tenant
 abbrev pub turn : List ℕ → (moment : ℕ) → List (List ℕ × Limits) → List Instance → ℕ → Reaction
 turn t moment limits xs i =
-    tick_if (up_at i xs) t (here_for i (incarnation_at i xs) moment limits t) (local_at t i xs)
+    tick_if (up_at i xs) t (context_for i (incarnation_at i xs) moment limits t) (local_at t i xs)
 
 abbrev turn_where : List ℕ → (moment : ℕ) → List (List ℕ × Limits) → ℕ → Option Instance → Reaction
 turn_where t moment limits i o =
-    tick_if (up_where o) t (here_for i (incarnation_where o) moment limits t) (local_where t o)
+    tick_if (up_where o) t (context_for i (incarnation_where o) moment limits t) (local_where t o)
 
 same_turn : (t : List ℕ) (moment : ℕ) (limits : List (List ℕ × Limits)) (xs ys : List Instance) (i : ℕ) →
     instance_at i ys ≡ instance_at i xs → turn t moment limits ys i ≡ turn t moment limits xs i

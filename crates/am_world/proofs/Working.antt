@@ -1,28 +1,34 @@
 -- what an instance does at a tick and with an outcome, and why it stops, told by its number
-use Rattle.std.proofs.Common.{◌≡◌, ◌∙◌, ℕ, ◌+◌, ◌==◌, ◌<◌, zero, suc, nat_eq, Bool, true, false, List, [], ◌∷◌, ◌&&◌, length, Option, Some, None, ◌≤◌, slice_get, slice_index_or, refl, sym, ap, arith, if◌then◌else◌}
+use Rattle.std.proofs.Common.{◌≡◌, ◌∙◌, ℕ, ◌+◌, ◌==◌, ◌<◌, zero, suc, nat_eq, Bool, true, false, List, [], ◌∷◌, ◌&&◌}
+use Rattle.std.proofs.Common.{length, Option, Some, None, ◌≤◌, slice_get, slice_index_or, refl, sym, ap, arith}
+use Rattle.std.proofs.Common.{if◌then◌else◌}
 use Rattle.std.proofs.lemmas.Bool.Decides.{nat_tests}
 use Rattle.std.proofs.lemmas.Option.{slice_get_read}
-use Rattle.am_world.specs.declared.instance.Instance.{Instance}
+use Rattle.am_instance.specs.declared.instance.Instance.{Instance}
 use Rattle.am_http.specs.Connections.{bytes_of}
 use Rattle.am_http.specs.declared.request.Request.{Request}
-use Rattle.am_world.specs.declared.event.Output.{Output}
-use Rattle.am_world.specs.Places.{AreNumbered, HasMore, awaits_at, cause_at, here_in, here_of, incarnation_at, instance_at, local_at, local_in, refused_at, up_at}
+use Rattle.am_instance.specs.declared.output.Output.{Output}
+use Rattle.am_world.specs.Places.{AreNumbered, awaits_at, cause_at, here_in, incarnation_at, instance_at, local_at}
+use Rattle.am_world.specs.Places.{refused_at, up_at}
+use Rattle.am_instance.specs.Instance.{HasMore, here_of, local_in}
 use Rattle.am_limit.specs.declared.limits.Limits.{Limits}
-use Rattle.am_replica.specs.Delivery.{is_awaited, outcome}
-use Rattle.am_replica.specs.Local.{Local}
-use Rattle.am_replica.specs.Ticks.{StopsTicking, here_for}
+use Rattle.am_node.specs.Delivery.{is_awaited, outcome}
+use Rattle.am_node.specs.Local.{Local}
+use Rattle.am_node.specs.Ticks.{StopsTicking, context_for}
 use Rattle.am_tenant.specs.Names.{same}
-use Rattle.am_world.specs.declared.event.AttemptName.{AttemptName}
-use Rattle.am_world.specs.Reaction.{Here, IsCause, Terms, in_replica}
-use Rattle.am_setup.specs.Setup.{is_instance, numbers}
-use Rattle.am_world.specs.Ticks.{Either, Stops, StopsAt, TakesTurn, Ticks, TicksAt}
+use Rattle.am_instance.specs.declared.output.AttemptName.{AttemptName}
+use Rattle.am_instance.specs.Reaction.{Here, IsCause, Terms, in_node}
+use Rattle.am_ring.specs.Instances.{all_instances, is_instance}
+use Rattle.am_world.specs.Ticks.{StopsAt, TakesTurn, TicksAt}
+use Rattle.am_instance.specs.Ticks.{Either, Stops, Ticks}
 use Rattle.am_item.specs.declared.fault.Fault.{Fault}
 use Rattle.am_item.specs.declared.fault.Fault.TheVariants.{OutOfMemory, CountsExhausted, PatternNotBuilt, StoreRefused}
 use Rattle.am_http.specs.declared.request.Fed.{Fed}
 use Rattle.am_http.specs.declared.request.Fed.TheVariants as fed
-use Rattle.am_replica.specs.declared.here.Here.{Here as ReplicaHere}
-use Rattle.am_replica.specs.Held.{StopsFor as StopsReacting}
-use Rattle.am_world.proofs.InstancesLemmas.{Changed, CountsFrom, bytes_here, down_here, here_here, incarnation_here, local_here, number_of, refused_grown, refused_here, up_exists, up_here}
+use Rattle.am_context.specs.declared.context.Context.{Context as NodeContext}
+use Rattle.am_node.specs.Held.{StopsFor as StopsReacting}
+use Rattle.am_world.proofs.InstancesLemmas.{Changed, CountsFrom, bytes_here, down_here, here_here, incarnation_here}
+use Rattle.am_world.proofs.InstancesLemmas.{local_here, number_of, refused_grown, refused_here, up_exists, up_here}
 
 same_or_more : (i : ℕ) (xs ys : List Instance) (x y : Instance) → instance_at i xs ≡ Some x → Changed i xs ys y →
     y.incarnation ≡ x.incarnation → incarnation_at i ys ≡ incarnation_at i xs
@@ -50,7 +56,7 @@ unfolding cause_at
 cause_here i xs x e = rw e refl
 
 -- a cause depends on what is had and known of each tenant alone
-same_cause : (fault : Fault) (here here' : List ℕ → ReplicaHere) (before before' : List ℕ → Local) (refused : List (List ℕ)) →
+same_cause : (fault : Fault) (here here' : List ℕ → NodeContext) (before before' : List ℕ → Local) (refused : List (List ℕ)) →
     ((t : List ℕ) → here' t ≡ here t) → ((t : List ℕ) → before' t ≡ before t) →
     StopsTicking here before refused fault → StopsTicking here' before' refused fault
 same_cause OutOfMemory here here' before before' refused heres sames cause = cause
@@ -63,12 +69,12 @@ stops_here : (i moment : ℕ) (limits : List (List ℕ × Limits)) (xs ys : List
     StopsAt i moment limits xs ys before after
 stops_here i moment limits xs ys x y before after here change number stops = record {
   worked = up_here i xs x here ∙ stops.worked;
-  down = down_here i ys y change.here stops.down stops.unread stops.lost;
+  down = down_here i ys y change.here stops.down.up stops.down.unread stops.down.lost;
   cause = record {
     fault = stops.fault;
     told = cause_here i ys y change.here ∙ stops.told;
-    cause = rw (refused_here i ys y change.here) (same_cause stops.fault (here_for x.number x.incarnation moment limits)
-        (here_for i (incarnation_at i xs) moment limits) (λ t. local_in t x) (λ t. local_at t i xs) y.cache.refused
+    cause = rw (refused_here i ys y change.here) (same_cause stops.fault (context_for x.number x.incarnation moment limits)
+        (context_for i (incarnation_at i xs) moment limits) (λ t. local_in t x) (λ t. local_at t i xs) y.cache.refused
         (λ t. rw (incarnation_here i xs x here, ← number) refl) (λ t. local_here t i xs x here) stops.cause);
   };
   silent = stops.silent;
@@ -102,11 +108,11 @@ numbers_at n (suc k) (m ∷ ns) (first, rest) item found =
     let most = later.1 in
     (omega arith, omega arith)
 
--- each of the numbers is an instance's
-pub number_exists : (k item : ℕ) → k < 8 → item ≡ slice_index_or numbers k item → is_instance item ≡ true
+-- each of the all_instances is an instance's
+pub number_exists : (k item : ℕ) → k < 8 → item ≡ slice_index_or all_instances k item → is_instance item ≡ true
 number_exists k item less is =
-    let both = numbers_at 1 k numbers (refl, (refl, (refl, (refl, (refl, (refl, (refl, (refl, tt)))))))) item
-    (slice_get_read numbers 8 k item refl less is) in
+    let both = numbers_at 1 k all_instances (refl, (refl, (refl, (refl, (refl, (refl, (refl, (refl, tt)))))))) item
+    (slice_get_read all_instances 8 k item refl less is) in
     let least = both.0 in
     let most = both.1 in
     grind (arith, nat_tests)
@@ -118,20 +124,20 @@ exists_up xs numbered i up = up_exists i xs numbered up
 -- the outcome at a place
 pub outcome_here : (i moment : ℕ) (terms : Terms) (number tries : ℕ) (status : Option ℕ) (xs ys : List Instance) (x y : Instance) (t s : List ℕ) →
     instance_at i xs ≡ Some x → Changed i xs ys y →
-    local_in t y ≡ (if same t s then (outcome (in_replica (here_of x moment terms)) number tries status (local_in t x)).local else local_in t x) →
-    local_at t i ys ≡ (if same t s then (outcome (in_replica (here_in moment terms i xs)) number tries status (local_at t i xs)).local else local_at t i xs)
+    local_in t y ≡ (if same t s then (outcome (in_node (here_of x moment terms)) number tries status (local_in t x)).local else local_in t x) →
+    local_at t i ys ≡ (if same t s then (outcome (in_node (here_in moment terms i xs)) number tries status (local_at t i xs)).local else local_at t i xs)
 outcome_here i moment terms number tries status xs ys x y t s here change local =
     local_here t i ys y change.here ∙ local
-    ∙ ap (λ h. if same t s then (outcome (in_replica h) number tries status (local_in t x)).local else local_in t x) (sym (here_here i moment terms xs x here))
-    ∙ ap (λ l. if same t s then (outcome (in_replica (here_in moment terms i xs)) number tries status l).local else l) (sym (local_here t i xs x here))
+    ∙ ap (λ h. if same t s then (outcome (in_node h) number tries status (local_in t x)).local else local_in t x) (sym (here_here i moment terms xs x here))
+    ∙ ap (λ l. if same t s then (outcome (in_node (here_in moment terms i xs)) number tries status l).local else l) (sym (local_here t i xs x here))
 
 pub outcome_fits : (i moment : ℕ) (terms : Terms) (number tries : ℕ) (status : Option ℕ) (xs : List Instance) (x : Instance) (s : List ℕ) →
     instance_at i xs ≡ Some x →
-    (outcome (in_replica (here_of x moment terms)) number tries status (local_in s x)).fits ≡ true →
-    (outcome (in_replica (here_in moment terms i xs)) number tries status (local_at s i xs)).fits ≡ true
+    (outcome (in_node (here_of x moment terms)) number tries status (local_in s x)).fits ≡ true →
+    (outcome (in_node (here_in moment terms i xs)) number tries status (local_at s i xs)).fits ≡ true
 outcome_fits i moment terms number tries status xs x s here fits =
-    ap (λ h. (outcome (in_replica h) number tries status (local_at s i xs)).fits) (here_here i moment terms xs x here)
-    ∙ ap (λ l. (outcome (in_replica (here_of x moment terms)) number tries status l).fits) (local_here s i xs x here) ∙ fits
+    ap (λ h. (outcome (in_node h) number tries status (local_at s i xs)).fits) (here_here i moment terms xs x here)
+    ∙ ap (λ l. (outcome (in_node (here_of x moment terms)) number tries status l).fits) (local_here s i xs x here) ∙ fits
 
 pub awaits_here : (attempt : AttemptName) (tries : ℕ) (xs : List Instance) (x : Instance) → instance_at attempt.instance xs ≡ Some x → (b : Bool) →
     b ≡ ((x.incarnation == attempt.incarnation) && is_awaited attempt.number tries (local_in attempt.tenant x)) → b ≡ awaits_at attempt tries xs
@@ -167,7 +173,7 @@ bytes_cause_here i moment told fault terms xs ys x y here change cause =
 -- with an outcome
 pub outcome_cause_here : (i moment : ℕ) (terms : Terms) (number tries : ℕ) (status : Option ℕ) (fault : Fault) (xs : List Instance) (x : Instance)
     (s : List ℕ) → instance_at i xs ≡ Some x →
-    StopsReacting (outcome (in_replica (here_of x moment terms)) number tries status (local_in s x)) fault →
-    StopsReacting (outcome (in_replica (here_in moment terms i xs)) number tries status (local_at s i xs)) fault
+    StopsReacting (outcome (in_node (here_of x moment terms)) number tries status (local_in s x)) fault →
+    StopsReacting (outcome (in_node (here_in moment terms i xs)) number tries status (local_at s i xs)) fault
 outcome_cause_here i moment terms number tries status fault xs x s here cause =
     rw (local_here s i xs x here, incarnation_here i xs x here, ← number_of i xs x here) cause

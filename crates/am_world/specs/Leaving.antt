@@ -7,49 +7,24 @@ use Rattle.am_http.specs.declared.request.Fed.TheVariants as fed
 use Rattle.am_http.specs.declared.request.Request.{Request}
 use Rattle.am_item.specs.declared.fault.Fault.{Fault}
 use Rattle.am_item.specs.declared.item.Item.{Item}
-use Rattle.am_replica.specs.Local.{Local}
-use Rattle.am_replica.specs.Retiring.{retired}
-use Rattle.am_replica.specs.Storing.{LeavesStore}
-use Rattle.am_setup.specs.Setup.{is_instance}
+use Rattle.am_node.specs.Local.{Local}
+use Rattle.am_node.specs.Retiring.{retired}
+use Rattle.am_node.specs.Storing.{LeavesStore}
+use Rattle.am_ring.specs.Instances.{is_instance}
 use Rattle.am_world.specs.declared.event.Event.{Event}
 use Rattle.am_world.specs.declared.event.Event.TheVariants as event
-use Rattle.am_world.specs.declared.instance.Instance.{Instance}
+use Rattle.am_instance.specs.declared.instance.Instance.{Instance}
 use Rattle.am_world.specs.declared.state.State.{State}
 use Rattle.am_world.specs.Moments.{effective}
 use Rattle.am_world.specs.Places.{bytes_at, cause_at, here_in, local_at, up_at}
-use Rattle.am_world.specs.Reaction.{Here, brought, decision_at, terms_of}
-use Rattle.am_world.specs.Shelves.{Shelf, shelf_at}
+use Rattle.am_instance.specs.Reaction.{Here, terms_of}
+use Rattle.am_world.specs.Shelves.{shelf_at}
+use Rattle.am_instance.specs.Shelves.{Shelf}
+use Rattle.am_instance.specs.Leaving.{taken_in, BringsRejected, stop_for, LeavesShelf}
 
--- what is decided on a request, where tenants have this
-abbrev pub decided_on : (Request → Here) → (List ℕ → Local) → Request → Decision
-decided_on here locals request = decision_at (here request) request (locals request.tenant)
-
--- what tenants have once bytes of this verdict were taken in, where all goes well
-abbrev pub taken_in : Fed → (Request → Here) → (moment connection : ℕ) → (List ℕ → Local) → List ℕ → Local
-taken_in told here moment connection locals = (brought told (decided_on here locals) moment connection locals).local
-
--- no store takes what they bring
-abbrev pub BringsRejected : (List ℕ → List Item → Type 0) → Fed → (Request → Here) → (List ℕ → Local) → Type 0
-BringsRejected Rejects fed.Waits here locals = ⊥
-BringsRejected Rejects (fed.Refused reason) here locals = ⊥
-BringsRejected Rejects fed.Ready here locals = ⊥
-BringsRejected Rejects (fed.Request request) here locals = Rejects request.tenant (decided_on here locals request).items
-
--- the fault for which an instance stopped, where it is down
-abbrev pub stop_for : (up : Bool) → Option Fault → Option Fault
-stop_for true cause = None
-stop_for false cause = cause
-
+-- the fault for which the instance of a number stopped, where it is down
 abbrev pub stop_at : ℕ → List Instance → Option Fault
 stop_at i instances = stop_for (up_at i instances) (cause_at i instances)
-
--- its rows are those of what tenants had, or of what they have where all goes well; and where the store refused, that
--- had a cause. Nothing is said where its disk did not return what was written
-abbrev pub LeavesShelf : (before after : List ℕ → Local) (Rejected : Type 0) → Option Fault → (old new : Shelf) → Type 0
-LeavesShelf before after Rejected fault old new =
-    new.is_clean ≡ true → LeavesStore before after Rejected fault old.medium new.medium new.pairs
-
--- ---- by the event
 
 -- a piece of a connection, of which the instance had read these bytes, if it reads it
 abbrev pub piece_in : Option (List ℕ) → (piece : List ℕ) → (Request → Here) → (moment connection : ℕ) → (List ℕ → Local)

@@ -2,7 +2,6 @@ pub mod Moments
 pub mod Outputs
 pub mod Places
 pub mod PrivateCluster
-pub mod Reaction
 pub mod Refusal
 pub mod Roster
 pub mod Runs

@@ -1,5 +1,6 @@
 -- whose an output is
-use Rattle.std.specs.Prelude.{ℕ, Bool, true, false, ◌++◌, is_some, List, [], ◌∷◌, Option, None, Some, filter, if◌then◌else◌}
+use Rattle.std.specs.Prelude.{ℕ, Bool, true, false, ◌++◌, is_some, List, [], ◌∷◌, Option, None, Some, filter}
+use Rattle.std.specs.Prelude.{if◌then◌else◌}
 use Rattle.std.specs.List.{list_all}
 use Rattle.am_http.specs.Verdict.{verdict}
 use Rattle.am_http.specs.declared.request.Fed.{Fed}
@@ -8,10 +9,10 @@ use Rattle.am_http.specs.Replies.{ready_reply}
 use Rattle.am_tenant.specs.Names.{same}
 use Rattle.am_world.specs.declared.event.Event.{Event}
 use Rattle.am_world.specs.declared.event.Event.TheVariants.{Open, Bytes, Close, Limits, Tick, Outcome}
-use Rattle.am_world.specs.declared.event.Output.{Output}
-use Rattle.am_world.specs.declared.event.Output.TheVariants.{Reply, Notice}
+use Rattle.am_instance.specs.declared.output.Output.{Output}
+use Rattle.am_instance.specs.declared.output.Output.TheVariants.{Reply, Notice}
 use Rattle.am_world.specs.Moments.{is_too_late}
-use Rattle.am_world.specs.Reaction.{refusal_reply}
+use Rattle.am_instance.specs.Reaction.{refusal_reply}
 use Rattle.am_world.specs.View.{Seen, Reading, AskedAs, FrontAnswered, Shut, Watch, look, watch}
 
 -- an output is a tenant's, or the front's, which no tenant sees

@@ -1,34 +1,28 @@
 -- what stands at the place of an instance
-use Rattle.std.specs.Prelude.{◌≡◌, ℕ, ◌==◌, ◌&&◌, Bool, false, is_some, List, [], ◌++◌, map, find, Option, None, Some, IsSome, option_map}
-use Rattle.am_http.specs.Connections.{bytes_of}
+use Rattle.std.specs.Prelude.{◌≡◌, ℕ, ◌==◌, ◌&&◌, Bool, false, List, [], map, find}
+use Rattle.std.specs.Prelude.{Option, None, Some, IsSome, option_map}
+use Rattle.am_http.specs.declared.request.Request.{Request}
 use Rattle.am_item.specs.declared.fault.Fault.{Fault}
 use Rattle.am_match.specs.Checking.{AreRefusedRightly}
-use Rattle.am_replica.specs.Delivery.{is_awaited}
-use Rattle.am_replica.specs.Held.{local_of}
-use Rattle.am_replica.specs.Local.{Local, blank}
-use Rattle.am_world.specs.declared.event.AttemptName.{AttemptName}
-use Rattle.am_world.specs.declared.instance.Instance.{Instance}
-use Rattle.am_world.specs.Reaction.{Here, Terms}
+use Rattle.am_node.specs.Delivery.{is_awaited, outcome}
+use Rattle.am_node.specs.Local.{Local, Reaction, blank}
+use Rattle.am_instance.specs.Instance.{HasMore, bytes_in, local_in, reads, refused_in, terms_in}
+use Rattle.am_instance.specs.declared.given.Occasion.{Occasion}
+use Rattle.am_instance.specs.declared.output.AttemptName.{AttemptName}
+use Rattle.am_instance.specs.declared.instance.Instance.{Instance}
+use Rattle.am_instance.specs.Reaction.{Here, Terms, in_node}
 use Rattle.am_world.specs.Roster.{Roster}
-use Rattle.am_setup.specs.Setup.{numbers}
+use Rattle.am_ring.specs.Instances.{all_instances}
 
 -- all eight instances, in order of number
 abbrev pub AreNumbered : List Instance → Type 0
-AreNumbered instances = map (λ (x : Instance). x.number) instances ≡ numbers
+AreNumbered instances = map (λ (x : Instance). x.number) instances ≡ all_instances
 
 -- the instance of a number
 unfoldable pub instance_at : ℕ → List Instance → Option Instance
 instance_at i instances = find (λ (x : Instance). x.number == i) instances
 
--- all that the instance has of the tenant
-unfoldable pub local_in : List ℕ → Instance → Local
-local_in t x = local_of t x.replica
-
--- what the instance goes by at a moment, for a tenant on these terms
-abbrev pub here_of : Instance → ℕ → Terms → Here
-here_of x moment terms = record { instance = x.number; incarnation = x.incarnation; moment = moment; terms = terms }
-
--- .. at a place
+-- all that the instance at a place has of the tenant
 abbrev pub local_where : List ℕ → Option Instance → Local
 local_where t None = blank
 local_where t (Some x) = local_in t x
@@ -39,14 +33,10 @@ local_at t i instances = local_where t (instance_at i instances)
 -- the bytes so far of a connection that the instance reads
 abbrev pub bytes_where : ℕ → Option Instance → Option (List ℕ)
 bytes_where c None = None
-bytes_where c (Some x) = bytes_of c x.front
+bytes_where c (Some x) = bytes_in c x
 
 unfoldable pub bytes_at : ℕ → ℕ → List Instance → Option (List ℕ)
 bytes_at c i instances = bytes_where c (instance_at i instances)
-
--- the instance reads the connection
-abbrev pub reads : ℕ → Instance → Bool
-reads c x = is_some (bytes_of c x.front)
 
 -- the number of the instance that reads the connection
 unfoldable pub reader_of : ℕ → List Instance → Option ℕ
@@ -89,17 +79,23 @@ abbrev pub here_in : ℕ → Terms → ℕ → List Instance → Here
 here_in moment terms i instances =
     record { instance = i; incarnation = incarnation_at i instances; moment = moment; terms = terms }
 
+-- what the instance of a number goes by at a request on an occasion
+abbrev pub situation_at : ℕ → List Instance → Occasion → Request → Here
+situation_at i instances occasion = λ request. here_in occasion.moment (terms_in occasion request.tenant) i instances
+
+-- the reaction of an attempt's instance to the outcome of one of its tries on an occasion
+abbrev pub outcome_at : List Instance → Occasion → AttemptName → (tries : ℕ) → Option ℕ → Local → Reaction
+outcome_at instances occasion attempt tries status local =
+    outcome (in_node (here_in occasion.moment (terms_in occasion attempt.tenant) attempt.instance instances))
+    attempt.number tries status local
+
 -- the patterns that an instance was refused the build of
 abbrev pub refused_where : Option Instance → List (List ℕ)
 refused_where None = []
-refused_where (Some x) = x.cache.refused
+refused_where (Some x) = refused_in x
 
 unfoldable pub refused_at : ℕ → List Instance → List (List ℕ)
 refused_at i instances = refused_where (instance_at i instances)
-
--- the later texts begin with the earlier ones
-abbrev pub HasMore : List (List ℕ) → List (List ℕ) → Type 0
-HasMore old new = (more : List (List ℕ)) × (new ≡ old ++ more)
 
 -- no instance forgets such a pattern
 abbrev pub KeepRefused : List Instance → List Instance → Type 0
@@ -118,6 +114,13 @@ pub record IsDownAt (i : ℕ) (instances : List Instance) : Type 0 where
 -- every other instance is as it was
 abbrev pub SameElsewhere : ℕ → List Instance → List Instance → Type 0
 SameElsewhere i before after = (j : ℕ) → (j == i) ≡ false → instance_at j after ≡ instance_at j before
+
+-- no other instance changed than the one of a number, which is the same instance still, and no pattern that was refused
+-- its build is forgotten
+pub record ChangesAt (i : ℕ) (before after : List Instance) : Type 0 where
+  pub others : SameElsewhere i before after
+  pub incarnation : incarnation_at i after ≡ incarnation_at i before
+  pub refused : KeepRefused before after
 
 -- at most one instance reads the connection
 abbrev pub IsReadOnce : ℕ → List Instance → Type 0

@@ -1,5 +1,6 @@
 -- what one tenant would have if nobody else were there: what is due is computed anew, with no queue
-use Rattle.std.specs.Prelude.{ℕ, Bool, true, ◌&&◌, ◌==◌, List, [], ◌∷◌, ◌++◌, map, Option, Some, None, is_some, if◌then◌else◌}
+use Rattle.std.specs.Prelude.{ℕ, Bool, true, ◌&&◌, ◌==◌, List, [], ◌∷◌, ◌++◌, map, Option, Some, None, is_some}
+use Rattle.std.specs.Prelude.{if◌then◌else◌}
 use Rattle.std.specs.List.{flat_map, list_all}
 use Rattle.am_api.specs.Patterns.{patterns_of_request}
 use Rattle.am_api.specs.Replied.{Decision}
@@ -7,16 +8,18 @@ use Rattle.am_http.specs.declared.request.Request.{Request}
 use Rattle.am_item.specs.declared.item.Item.{Item}
 use Rattle.am_limit.specs.declared.limits.Limits.{Limits}
 use Rattle.am_limit.specs.Limits.{default_limits}
-use Rattle.am_replica.specs.Accepting.{accepted}
-use Rattle.am_replica.specs.Delivery.{is_awaited, outcome}
-use Rattle.am_replica.specs.Local.{Local, Reaction, Said, blank}
-use Rattle.am_world.specs.declared.event.Output.{Output}
+use Rattle.am_node.specs.Accepting.{accepted}
+use Rattle.am_node.specs.Delivery.{is_awaited, outcome}
+use Rattle.am_node.specs.Local.{Local, Reaction, Said, blank}
+use Rattle.am_instance.specs.declared.output.Output.{Output}
 use Rattle.am_world.specs.declared.event.Refused.{Refused}
 use Rattle.am_world.specs.declared.event.Refused.TheVariants.{MomentRefused, NotAwaited}
 use Rattle.am_world.specs.Moments.{effective, is_refused_tick, is_too_late}
-use Rattle.am_world.specs.Reaction.{AcceptsBuilt, Here, Terms, asked, carried_out, decision_at, in_replica, output_of, terms_with, tick_if}
+use Rattle.am_instance.specs.Reaction.{AcceptsBuilt, Here, Terms, asked, carried_out, decision_at, in_node}
+use Rattle.am_instance.specs.Reaction.{output_of, terms_with, tick_if}
 use Rattle.am_world.specs.Roster.{Roster, opened_roster, put_at, serves}
-use Rattle.am_setup.specs.Setup.{Origin, numbers}
+use Rattle.am_ring.specs.Instances.{all_instances}
+use Rattle.am_setup.specs.Setup.{Origin}
 
 -- one thing that happens to the tenant
 pub data Happening : Type 0 where
@@ -26,8 +29,8 @@ pub data Happening : Type 0 where
   Limited : (limits : Limits) → Happening
   -- the clock was told this moment
   Ticked : (moment : ℕ) → Happening
-  -- a try of the attempt of this number at the instance, in this incarnation, came to an end, at an event with this moment of
-  -- its own: with the status of an answer, or without one
+  -- a try of the attempt of this number at the instance, in this incarnation, came to an end, at an event with this
+  -- moment of its own: with the status of an answer, or without one
   Tried : (instance incarnation number tries moment : ℕ) (status : Option ℕ) → Happening
 
 -- whose it is and the service's key never change; instances go by their number
@@ -39,7 +42,8 @@ pub record PrivateCluster : Type 0 where
   pub roster : Roster
   pub at : ℕ → Local
 
--- what happened to the cluster: what it is afterwards, what it put out, in order, and whether no count passed the greatest
+-- what happened to the cluster: what it is afterwards, what it put out, in order, and whether no count passed the
+-- greatest
 pub record Course : Type 0 where
   pub cluster : PrivateCluster
   pub outputs : List Output
@@ -86,7 +90,7 @@ react reaction moment i p =
 
 -- the instance ticks where it is up
 abbrev pub tick_at : PrivateCluster → (moment i : ℕ) → Reaction
-tick_at p moment i = tick_if (p.roster.up i) p.tenant (in_replica (here_at p moment i)) (p.at i)
+tick_at p moment i = tick_if (p.roster.up i) p.tenant (in_node (here_at p moment i)) (p.at i)
 
 -- the instance answers a request that came over the connection by this decision
 abbrev pub answered : (connection instance moment : ℕ) → Decision → PrivateCluster → Course
@@ -97,8 +101,8 @@ answered connection i moment decision p =
 abbrev pub ticks : ℕ → PrivateCluster → Course
 ticks moment p = record {
   cluster = record p { clock = moment; at = λ i. (tick_at p moment i).local };
-  outputs = flat_map (λ i. put_out_at p i (tick_at p moment i).said) numbers;
-  fits = list_all (λ i. (tick_at p moment i).fits) numbers;
+  outputs = flat_map (λ i. put_out_at p i (tick_at p moment i).said) all_instances;
+  fits = list_all (λ i. (tick_at p moment i).fits) all_instances;
 }
 
 -- the instance awaits the outcome of this try
@@ -123,7 +127,7 @@ handled p (Asked connection i moment request) =
 handled p (Limited limits) = unchanged (record p { limits = limits })
 handled p (Ticked moment) = ticks moment p
 handled p (Tried i k number tries moment status) =
-    react (λ here local. outcome (in_replica here) number tries status local) (effective moment p.clock) i p
+    react (λ here local. outcome (in_node here) number tries status local) (effective moment p.clock) i p
 
 -- what is refused changes nothing
 unfoldable pub course : PrivateCluster → Happening → Course

@@ -31,7 +31,8 @@ is_read (Some (AskedAs tenant)) = false
 is_read (Some FrontAnswered) = false
 is_read (Some Shut) = false
 
--- the same by what happened before alone: what is known from the events, the last tick, and each tenant's private cluster
+-- the same by what happened before alone: what is known from the events, the last tick, and each tenant's private
+-- cluster
 abbrev pub refusal_seen : Watch → ℕ → (List ℕ → PrivateCluster) → Event → Option Refused
 refusal_seen v clock alone (Open c i) = if v.roster.up i then None else Some InstanceNotUp
 refusal_seen v clock alone (Bytes c moment piece) =

@@ -1,6 +1,7 @@
 -- the instances: which there are, which of them are up, and which start of each it is
 use Rattle.std.specs.Prelude.{◌≡◌, ℕ, Bool, ◌==◌, if◌then◌else◌}
-use Rattle.am_setup.specs.Setup.{Origin, is_instance}
+use Rattle.am_ring.specs.Instances.{is_instance}
+use Rattle.am_setup.specs.Setup.{Origin}
 use Rattle.am_world.specs.declared.event.Event.{Event}
 use Rattle.am_world.specs.declared.event.Event.TheVariants.{Open, Bytes, Close, Limits, Tick, Outcome}
 

@@ -2,7 +2,7 @@
 use Rattle.std.specs.Prelude.{ℕ, ◌≡◌, ◌⊎◌, true, List, [], ◌∷◌, ◌++◌, length, take, drop}
 use Rattle.am_item.specs.declared.item.Item.{Item}
 use Rattle.am_world.specs.declared.event.Event.{Event}
-use Rattle.am_world.specs.declared.event.Output.{Output}
+use Rattle.am_instance.specs.declared.output.Output.{Output}
 use Rattle.am_world.specs.declared.state.State.{State}
 use Rattle.am_world.specs.Outputs.{outputs_of, front_outputs, front_told_all, are_owned}
 use Rattle.am_world.specs.Places.{AreBuilt}
@@ -81,10 +81,11 @@ pub record Forgets (w w' : State) : Type 0 where
   pub service_key : w'.service_key ≡ w.service_key
   pub faults : fault_count w' ≡ fault_count w
 
--- of all that was put out since the opening, each tenant's outputs are those of its private cluster, which begins with the
--- tenant's rows and sees what the events are to the tenant, unless a pattern of the tenant's is among those that were refused a build; the others are the
--- front's, and what it says to bytes alone
-pub record Alone (origin : Origin) (rows : List ℕ → ℕ → List Item) (es : List Event) (refused : ℕ → List (List ℕ)) (outs : List Output) : Type 0 where
+-- of all that was put out since the opening, each tenant's outputs are those of its private cluster, which begins with
+-- the tenant's rows and sees what the events are to the tenant, unless a pattern of the tenant's is among those that
+-- were refused a build; the others are the front's, and what it says to bytes alone
+pub record Alone (origin : Origin) (rows : List ℕ → ℕ → List Item) (es : List Event) (refused : ℕ → List (List ℕ))
+    (outs : List Output) : Type 0 where
   pub tenants : (t : List ℕ) → AreBuilt refused (patterns_in (view t (first_watch origin) es)) →
       outputs_of t (watch_all (first_watch origin) es) outs ≡
       told_all (opened origin (rows t) t) (view t (first_watch origin) es)

@@ -1,32 +1,18 @@
 -- What a store has beside the instance whose store it is.
-use Rattle.std.specs.Prelude.{◌≡◌, ℕ, zero, suc, Bool, true, false, List, [], length, map, slice_get, Option, Some, None}
+use Rattle.std.specs.Prelude.{◌≡◌, ℕ, zero, suc, Bool, true, false, List, [], length, map, slice_get, Option, Some}
+use Rattle.std.specs.Prelude.{None}
 use Rattle.am_item.specs.declared.item.Item.{Item}
 use Rattle.am_rows.specs.Refusing.{Medium}
 use Rattle.am_rows.specs.Rows.{rows_of, stored_in}
 use Rattle.am_rows.specs.declared.rows.Rows.{Ghosts}
-use Rattle.am_setup.specs.Setup.{is_instance}
-use Rattle.am_replica.specs.Accepting.{accepted}
-use Rattle.am_replica.specs.Local.{blank}
-use Rattle.am_world.specs.Places.{bytes_at, incarnation_at, local_at, local_in, refused_at, up_at}
-use Rattle.am_world.specs.declared.instance.Instance.{Instance}
+use Rattle.am_ring.specs.Instances.{is_instance}
+use Rattle.am_node.specs.Accepting.{accepted}
+use Rattle.am_node.specs.Local.{blank}
+use Rattle.am_world.specs.Places.{bytes_at, incarnation_at, local_at, refused_at, up_at}
+use Rattle.am_instance.specs.declared.instance.Instance.{Instance}
+use Rattle.am_instance.specs.Shelves.{Shelf, shelf_of}
 
--- what is seen of a store: what it has of all tenants; whether its disk has returned what was written; whether it is open,
--- so that no call was refused since it was opened; and what it is kept on
-pub record Shelf : Type 0 where
-  pub pairs : List (List ℕ × Item)
-  pub is_clean : Bool
-  pub is_open : Bool
-  pub medium : Medium
-
-abbrev pub shelf_of : {R : Type 0} → Ghosts R → R → Shelf
-shelf_of g store = record {
-  pairs = g.pairs store;
-  is_clean = g.is_clean store;
-  is_open = g.is_open store;
-  medium = g.medium store;
-}
-
--- .. of stores, in their order
+-- what is seen of stores, in their order
 abbrev pub shelves_of : {R : Type 0} → Ghosts R → List R → List Shelf
 shelves_of g stores = map (shelf_of g) stores
 
@@ -50,16 +36,12 @@ rows_in shelves t i = rows_of t (shelf_at i shelves).pairs
 abbrev pub AreClean : List Shelf → Type 0
 AreClean shelves = (i : ℕ) → is_instance i ≡ true → (shelf_at i shelves).is_clean ≡ true
 
--- where the instance is up, its store is open, and has what is held of each tenant, as long as its disk has returned what was
--- written
-pub record IsBacked (x : Instance) (shelf : Shelf) : Type 0 where
-  pub opens : x.up ≡ true → shelf.is_open ≡ true
-  pub stores : x.up ≡ true → shelf.is_clean ≡ true → (t : List ℕ) → rows_of t shelf.pairs ≡ stored_in (local_in t x).held
-
--- the same of the instance of a number
+-- the store of the instance of a number: where that is up, it is open, and has what is held of each tenant, as long as
+-- its disk has returned what was written
 pub record IsBackedAt (i : ℕ) (xs : List Instance) (shelf : Shelf) : Type 0 where
   pub opens : up_at i xs ≡ true → shelf.is_open ≡ true
-  pub stores : up_at i xs ≡ true → shelf.is_clean ≡ true → (t : List ℕ) → rows_of t shelf.pairs ≡ stored_in (local_at t i xs).held
+  pub stores : up_at i xs ≡ true → shelf.is_clean ≡ true → (t : List ℕ) →
+      rows_of t shelf.pairs ≡ stored_in (local_at t i xs).held
 
 -- who is down reads nothing
 abbrev pub AreQuiet : List Instance → Type 0
@@ -75,8 +57,8 @@ pub record AreBacked (xs : List Instance) (shelves : List Shelf) : Type 0 where
 abbrev pub NeverCleaner : (old new : List Shelf) → Type 0
 NeverCleaner old new = (i : ℕ) → (shelf_at i new).is_clean ≡ true → (shelf_at i old).is_clean ≡ true
 
--- an instance was started at a moment: it is up, and holds of each tenant what its store had; it reads nothing, and is else
--- as it was
+-- an instance was started at a moment: it is up, and holds of each tenant what its store had; it reads nothing, and is
+-- else as it was
 pub record IsStartedAt (i moment : ℕ) (xs ys : List Instance) (old new : Shelf) : Type 0 where
   pub up : up_at i ys ≡ true
   pub held : new.is_clean ≡ true → (t : List ℕ) → local_at t i ys ≡ accepted moment (rows_of t old.pairs) blank

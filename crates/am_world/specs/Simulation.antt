@@ -1,9 +1,10 @@
 -- that the world stands for the private cluster of every tenant at once, and that each event keeps it so
-use Rattle.std.specs.Prelude.{ℕ, ◌≡◌, ◌⊎◌, ◌==◌, if◌then◌else◌, ◌+◌, ◌^◌, ◌-◌, Bool, true, false, is_some, List, [], ◌∷◌, ◌++◌, Option, None, Some, length, filter, min, max}
+use Rattle.std.specs.Prelude.{ℕ, ◌≡◌, ◌⊎◌, ◌==◌, if◌then◌else◌, ◌+◌, ◌^◌, ◌-◌, Bool, true, false, is_some, List, []}
+use Rattle.std.specs.Prelude.{◌∷◌, ◌++◌, Option, None, Some, length, filter, min, max}
 use Rattle.am_world.specs.declared.event.Event.{Event}
 use Rattle.am_world.specs.declared.event.Event.TheVariants as event
-use Rattle.am_world.specs.declared.event.Output.{Output}
-use Rattle.am_world.specs.declared.event.Output.TheVariants.{Reply}
+use Rattle.am_instance.specs.declared.output.Output.{Output}
+use Rattle.am_instance.specs.declared.output.Output.TheVariants.{Reply}
 use Rattle.am_world.specs.declared.state.State.{State}
 use Rattle.am_api.specs.Replied.{Decision}
 use Rattle.am_http.specs.Replies.{reply}
@@ -16,18 +17,21 @@ use Rattle.am_item.specs.declared.item.Item.{Item}
 use Rattle.am_limit.specs.Books.{limits_of}
 use Rattle.am_limit.specs.declared.limits.Limits.{Limits}
 use Rattle.am_muting.specs.Failing.{AddsAmong}
-use Rattle.am_replica.specs.Delivery.{outcome}
-use Rattle.am_replica.specs.Held.{StopsFor as StopsReacting}
-use Rattle.am_replica.specs.Ticks.{StopsTicking, here_for}
+use Rattle.am_node.specs.Delivery.{outcome}
+use Rattle.am_node.specs.Held.{StopsFor as StopsReacting}
+use Rattle.am_node.specs.Ticks.{StopsTicking, context_for}
 use Rattle.am_tenant.specs.Names.{same}
 use Rattle.am_world.specs.Moments.{clock_after, effective}
 use Rattle.am_world.specs.Outputs.{outputs_of, front_outputs, front_told, are_owned}
-use Rattle.am_world.specs.Places.{instance_at, here_in, local_at, bytes_at, cause_at, up_at, incarnation_at, refused_at, roster_of, IsDownAt, KeepRefused}
-use Rattle.am_world.specs.PrivateCluster.{PrivateCluster, AreAllBuilt, Asked, answered, opened, after_all, told_all, fits_all}
-use Rattle.am_world.specs.Reaction.{IsCause, IsRefusedBuild, asked_for, in_replica, terms_of}
+use Rattle.am_world.specs.Places.{instance_at, here_in, local_at, bytes_at, cause_at, up_at, incarnation_at}
+use Rattle.am_world.specs.Places.{refused_at, roster_of, IsDownAt, KeepRefused}
+use Rattle.am_world.specs.PrivateCluster.{PrivateCluster, AreAllBuilt, Asked, answered, opened, after_all, told_all}
+use Rattle.am_world.specs.PrivateCluster.{fits_all}
+use Rattle.am_instance.specs.Reaction.{IsCause, IsRefusedBuild, asked_for, in_node, terms_of}
 use Rattle.am_world.specs.Refusal.{refusal}
 use Rattle.am_world.specs.Roster.{IsSameRoster, roster_after}
-use Rattle.am_setup.specs.Setup.{Origin, numbers}
+use Rattle.am_ring.specs.Instances.{all_instances}
+use Rattle.am_setup.specs.Setup.{Origin}
 use Rattle.am_world.specs.View.{Seen, Reading, AskedAs, FrontAnswered, Shut, Watch, first_watch, look, watch, adds}
 
 -- what a world has put out so far, and how many faults came
@@ -36,6 +40,13 @@ put_out w = w.outputs.items
 
 abbrev pub fault_count : State → ℕ
 fault_count w = w.faults
+
+-- but for the instances and the count of faults, the world is as it was
+pub record IsSameBeside (w w' : State) : Type 0 where
+  pub outputs : put_out w' ≡ put_out w
+  pub clock : w'.clock ≡ w.clock
+  pub limits : w'.limits ≡ w.limits
+  pub service_key : w'.service_key ≡ w.service_key
 
 -- the patterns that the instances of a world were refused the build of
 abbrev pub refused_by : State → ℕ → List (List ℕ)
@@ -85,8 +96,9 @@ pub record Later (v u : Watch) : Type 0 where
   pub asked : (c : ℕ) (t : List ℕ) → look c v.table ≡ Some (AskedAs t) → look c u.table ≡ Some (AskedAs t)
   pub answered : (c : ℕ) → look c v.table ≡ Some FrontAnswered → look c u.table ≡ Some FrontAnswered
 
--- the tenant gets of an event what its private cluster makes of it: of these outputs its own are the cluster's, the world
--- has of it what the cluster has, no count passed the greatest, and what was accepted has only patterns that were built
+-- the tenant gets of an event what its private cluster makes of it: of these outputs its own are the cluster's, the
+-- world has of it what the cluster has, no count passed the greatest, and what was accepted has only patterns that were
+-- built
 pub record IsAsAlone (t : List ℕ) (v : Watch) (p : PrivateCluster) (e : Event) (outs : List Output) (w' : State) :
     Type 0 where
   pub stands : Stands t w' (after_all p (adds t v e))
@@ -94,8 +106,8 @@ pub record IsAsAlone (t : List ℕ) (v : Watch) (p : PrivateCluster) (e : Event)
   pub fits : fits_all p (adds t v e) ≡ true
   pub built : AreAllBuilt p (adds t v e)
 
--- A request of the tenant was refused, since a pattern of its own was refused its build: the tenant is told this alone, and has
--- what its cluster has that answers so.
+-- A request of the tenant was refused, since a pattern of its own was refused its build: the tenant is told this alone,
+-- and has what its cluster has that answers so.
 pub record IsRefusedAlone (t : List ℕ) (v : Watch) (p : PrivateCluster) (w : State) (e : Event) (outs : List Output)
     (w' : State) : Type 0 where
   pub connection : ℕ
@@ -106,13 +118,15 @@ pub record IsRefusedAlone (t : List ℕ) (v : Watch) (p : PrivateCluster) (w : S
   pub decision : Decision
   pub refused : IsRefusedBuild (refused_by w instance) (refused_by w' instance) request p.limits decision
   pub stands : Stands t w' (answered connection instance moment decision p).cluster
-  pub told : (u : Watch) → Later (watch v e) u → outputs_of t u outs ≡ (answered connection instance moment decision p).outputs
+  pub told : (u : Watch) → Later (watch v e) u →
+      outputs_of t u outs ≡ (answered connection instance moment decision p).outputs
 
 -- ---- what is refused a build
 
--- A piece made a request whole, of which a pattern was refused its build: the request is refused for it, and that alone is put
--- out. The instance of this number was refused no texts but those that the request asks.
-pub record RefusesBuild (w : State) (c moment : ℕ) (piece : List ℕ) (i : ℕ) (outs : List Output) (w' : State) : Type 0 where
+-- A piece made a request whole, of which a pattern was refused its build: the request is refused for it, and that alone
+-- is put out. The instance of this number was refused no texts but those that the request asks.
+pub record RefusesBuild (w : State) (c moment : ℕ) (piece : List ℕ) (i : ℕ) (outs : List Output) (w' : State) :
+    Type 0 where
   pub before : List ℕ
   pub read : bytes_at c i w.instances ≡ Some before
   pub request : Request
@@ -126,7 +140,8 @@ pub record RefusesBuild (w : State) (c moment : ℕ) (piece : List ℕ) (i : ℕ
 -- an event refuses no build, but where its piece is such a request
 abbrev pub KeepsBuilds : State → Event → ℕ → List Output → State → Type 0
 KeepsBuilds w (event.Open c i) j outs w' = refused_by w' j ≡ refused_by w j
-KeepsBuilds w (event.Bytes c moment piece) j outs w' = (refused_by w' j ≡ refused_by w j) ⊎ RefusesBuild w c moment piece j outs w'
+KeepsBuilds w (event.Bytes c moment piece) j outs w' =
+    (refused_by w' j ≡ refused_by w j) ⊎ RefusesBuild w c moment piece j outs w'
 KeepsBuilds w (event.Close c) j outs w' = refused_by w' j ≡ refused_by w j
 KeepsBuilds w (event.Limits tenant limits) j outs w' = refused_by w' j ≡ refused_by w j
 KeepsBuilds w (event.Tick moment) j outs w' = refused_by w' j ≡ refused_by w j
@@ -141,9 +156,9 @@ limits_after (event.Limits tenant new) t limits = if same t tenant then new else
 limits_after (event.Tick moment) t limits = limits
 limits_after (event.Outcome attempt tries moment status) t limits = limits
 
--- an event that was handled, or refused: for every tenant at once. What is put out is each tenant's, as its cluster says,
--- or the front's, as the bytes of the connections say, and nobody else's. No build is refused but where the event's request is
--- refused for it
+-- an event that was handled, or refused: for every tenant at once. What is put out is each tenant's, as its cluster
+-- says, or the front's, as the bytes of the connections say, and nobody else's. No build is refused but where the
+-- event's request is refused for it
 pub record Kept (w : State) (e : Event) (w' : State) : Type 0 where
   pub follows : (v : Watch) → Follows v w → Follows (watch v e) w'
   pub outs : List Output
@@ -177,8 +192,8 @@ asks_none (event.Limits tenant limits) = true
 asks_none (event.Tick moment) = false
 asks_none (event.Outcome attempt tries moment status) = false
 
--- why an event stops an instance of which it asks work: by what the instance had, and by the patterns that it had been refused
--- the build of then; memory may run out anywhere
+-- why an event stops an instance of which it asks work: by what the instance had, and by the patterns that it had been
+-- refused the build of then; memory may run out anywhere
 abbrev pub StopsBy : State → Event → ℕ → Fault → List (List ℕ) → Type 0
 StopsBy w (event.Open c i) j fault refused = fault ≡ OutOfMemory
 StopsBy w (event.Bytes c moment piece) j fault refused =
@@ -188,9 +203,10 @@ StopsBy w (event.Bytes c moment piece) j fault refused =
 StopsBy w (event.Close c) j fault refused = ⊥
 StopsBy w (event.Limits tenant limits) j fault refused = ⊥
 StopsBy w (event.Tick moment) j fault refused =
-    StopsTicking (here_for j (incarnation_at j w.instances) moment w.limits) (λ t. local_at t j w.instances) refused fault
+    StopsTicking (context_for j (incarnation_at j w.instances) moment w.limits) (λ t. local_at t j w.instances) refused
+    fault
 StopsBy w (event.Outcome attempt tries moment status) j fault refused = StopsReacting (outcome
-    (in_replica (here_in (effective moment w.clock) (terms_of w.service_key w.limits attempt.tenant) j w.instances))
+    (in_node (here_in (effective moment w.clock) (terms_of w.service_key w.limits attempt.tenant) j w.instances))
     attempt.number tries status (local_at attempt.tenant j w.instances)) fault
 
 -- the cause for which an instance is down after an event
@@ -201,10 +217,11 @@ pub record StoppedBy (w : State) (e : Event) (i : ℕ) (w' : State) : Type 0 whe
 
 -- one fault for each instance that stopped, and one where an event asks work of none
 abbrev pub faults_of : (ℕ → Bool) → ℕ
-faults_of stopped = max 1 (length (filter stopped numbers))
+faults_of stopped = max 1 (length (filter stopped all_instances))
 
--- an event that met a fault: it wasn't refused, and instances of which it asked work stopped, one at least where it asks work of
--- any. They are down, each for its cause, and have put nothing out; every instance that had no work is as it was
+-- an event that met a fault: it wasn't refused, and instances of which it asked work stopped, one at least where it
+-- asks work of any. They are down, each for its cause, and have put nothing out; every instance that had no work is as
+-- it was
 pub record Faulted (w : State) (e : Event) (w' : State) : Type 0 where
   pub taken : refusal w e ≡ None
   pub stopped : ℕ → Bool

@@ -99,7 +99,8 @@ adds t v (Close c) = []
 adds t v (Limits tenant limits) = if same t tenant then Limited limits ∷ [] else []
 adds t v (Tick moment) = Ticked moment ∷ []
 adds t v (Outcome attempt tries moment status) =
-    if same t attempt.tenant then Tried attempt.instance attempt.incarnation attempt.number tries moment status ∷ [] else []
+    if same t attempt.tenant
+    then Tried attempt.instance attempt.incarnation attempt.number tries moment status ∷ [] else []
 
 -- what an event list is to the tenant
 abbrev pub view : List ℕ → Watch → List Event → List Happening

@@ -3,26 +3,14 @@
 ghost use Rattle.std.specs.Prelude.{◌≡◌};
 
 use am_http::ConnectionId;
+pub use am_instance::{AttemptName, Output};
 use am_limit::Limits;
 use am_tenant::TenantName;
-use am_text::{Octets, Text};
+use am_text::Octets;
 use std::fmt;
 
 /// The greatest moment that an event may tell, in milliseconds since 1970.
 pub const LAST_MOMENT: u64 = 250_000_000_000_000;
-
-/// An attempt to deliver a notice, by name.
-#[derive(Drop)]
-pub struct AttemptName {
-    /// Whose notice it is.
-    pub tenant: TenantName,
-    /// The instance that makes the attempt, 1 to 8.
-    pub instance: u8,
-    /// Which start of the instance made it.
-    pub incarnation: u32,
-    /// Its number among the tenant's attempts there, from 1 on.
-    pub number: u64,
-}
 
 /// One thing that happens. Events are handled one after the other, each wholly before the next.
 #[derive(Drop)]
@@ -51,33 +39,13 @@ pub enum Event {
     Tick {
         moment: u64,
     },
-    /// A try of an attempt came to an end, at a moment in milliseconds since 1970: with the status of the webhook's answer, or
-    /// without an answer.
+    /// A try of an attempt came to an end, at a moment in milliseconds since 1970: with the status of the webhook's
+    /// answer, or without an answer.
     Outcome {
         attempt: AttemptName,
         tries: u8,
         moment: u64,
         status: Option<u16>,
-    },
-}
-
-/// One thing that goes out.
-#[derive(Drop)]
-pub enum Output {
-    /// The whole reply of a connection.
-    Reply {
-        connection: ConnectionId,
-        bytes: Octets,
-    },
-    /// A try of an attempt at a notice, which goes out to a URL.
-    Notice {
-        attempt: AttemptName,
-        /// Which try of the attempt it is, 1 to 5.
-        tries: u8,
-        /// The URL as it is written.
-        url: Text,
-        /// The bytes of the request: the same at each try.
-        bytes: Octets,
     },
 }
 

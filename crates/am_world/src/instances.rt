@@ -1,27 +1,25 @@
 //! The eight instances, by number.
 
-ghost use Rattle.std.specs.Prelude.{◌≡◌, ◌==◌, ◌+◌, ◌<◌, true, ℕ, List, [], ◌++◌, Option, None, Some, IfOk, IfErr, OnOk, OnErr, IfSome, IfNone, IsSome, IsTrue, find, map, is_some, option_copied, if◌then◌else◌};
+ghost use Rattle.std.specs.Prelude.{◌≡◌, ◌==◌, ◌+◌, ◌<◌, true, ℕ, List, [], ◌++◌, None, Some, IfOk, IfErr, OnOk};
+ghost use Rattle.std.specs.Prelude.{OnErr, IfSome, IfNone, IsSome, IsTrue, find, option_copied, if◌then◌else◌};
 ghost use Rattle.am_http.specs.Verdict.{verdict};
-ghost use Rattle.am_replica.specs.Delivery.{outcome};
-ghost use Rattle.am_replica.specs.Held.{StopsFor as StopsReacting};
+ghost use Rattle.am_node.specs.Held.{StopsFor as StopsReacting};
 ghost use Rattle.am_tenant.specs.Names.{same};
 ghost use Rattle.am_world.specs.Roster.{IsSameRoster};
-ghost use Rattle.am_setup.specs.Setup.{is_instance, numbers};
+ghost use Rattle.am_ring.specs.Instances.{all_instances, is_instance};
 ghost use Rattle.am_rows.specs.Rows.{stored_in};
 ghost use Rattle.am_world.specs.Taking.{Takes};
 ghost use Rattle.am_world.specs.Ticks.{TakeTurns, TakesTurn};
 
-use crate::event::{AttemptName, Output};
-use crate::instance::Instance;
 use am_http::ConnectionId;
+use am_instance::{AttemptName, Instance, Occasion, Output, Piece};
 use am_item::Fault;
-use am_limit::{LimitBook, Limits};
 use am_rows::{Rows, StoreRefusal};
 use am_text::{Failure, Moment};
 use std::alloc::{AllocError, Global};
 use std::marker::Model;
 
-/// The numbers of all instances.
+/// The all_instances of all instances.
 const NUMBERS: [u8; 8] = [1, 2, 3, 4, 5, 6, 7, 8];
 
 /// All instances, in order of number.
@@ -32,7 +30,7 @@ pub struct Instances {
 
 impl Model for Instances {
     ghost use Rattle.std.specs.Prelude.{List};
-    ghost use Rattle.am_world.specs.declared.instance.Instance.{Instance};
+    ghost use Rattle.am_instance.specs.declared.instance.Instance.{Instance};
     ghost use Rattle.am_world.specs.Places.{AreNumbered};
 
     ghost Value = { List Instance };
@@ -44,17 +42,22 @@ impl Model for Instances {
 
 impl Instances {
     ghost use Rattle.am_rows.specs.Refusing.{IsJudged, MayRefuse};
-    ghost use Rattle.am_replica.specs.Retiring.{retired};
+    ghost use Rattle.am_node.specs.Retiring.{retired};
     ghost use Rattle.am_replica.specs.Storing.{fault_in};
-    ghost use Rattle.am_world.specs.Leaving.{BringsRejected, LeavesShelf, stop_at, taken_in};
+    ghost use Rattle.am_world.specs.Leaving.{stop_at};
+    ghost use Rattle.am_instance.specs.Leaving.{BringsRejected, LeavesShelf, taken_in};
     ghost use Rattle.am_world.specs.Opening.{FailsAt};
-    ghost use Rattle.am_world.specs.Shelves.{AreBacked, AreQuiet, IsBackedAt, IsStartedAt, NeverCleaner, shelf_at, shelf_of, shelves_of};
-    ghost use Rattle.am_world.specs.Places.{IsDownAt, IsReadOnce, KeepRefused, SameElsewhere, awaits_at, bytes_at, cause_at, here_in, incarnation_at, instance_at, local_at, reader_of, reads, refused_at, roster_of, up_at};
-    ghost use Rattle.am_replica.specs.Local.{blank};
-    ghost use Rattle.am_world.specs.Reaction.{IsCause, Terms, in_replica, terms_of};
+    ghost use Rattle.am_world.specs.Shelves.{AreBacked, AreQuiet, IsBackedAt, IsStartedAt, NeverCleaner};
+    ghost use Rattle.am_world.specs.Shelves.{shelf_at, shelves_of};
+    ghost use Rattle.am_instance.specs.Shelves.{shelf_of};
+    ghost use Rattle.am_world.specs.Places.{ChangesAt, IsDownAt, IsReadOnce, SameElsewhere};
+    ghost use Rattle.am_world.specs.Places.{awaits_at, bytes_at, cause_at, incarnation_at, instance_at, local_at};
+    ghost use Rattle.am_world.specs.Places.{outcome_at, reader_of, refused_at, roster_of, situation_at, up_at};
+    ghost use Rattle.am_instance.specs.Instance.{reads, terms_in};
+    ghost use Rattle.am_instance.specs.Reaction.{IsCause};
 
-    /// All instances in their first incarnation. All are down and have nothing. Each keeps at most `capacity` patterns built, by
-    /// hashes of which `hash_key` is the secret.
+    /// All instances in their first incarnation. All are down and have nothing. Each keeps at most `capacity` patterns
+    /// built, by hashes of which `hash_key` is the secret.
     pub fn new(
         alloc: Global,
         first: u32,
@@ -63,7 +66,8 @@ impl Instances {
     ) -> Result<Instances, AllocError>
         requires { 0 < capacity }
         ensures down { IfOk result (λ instances. (i : ℕ) → IsDownAt i instances) }
-        ensures incarnation { IfOk result (λ instances. (i : ℕ) → incarnation_at i instances ≡ (if is_instance i then first else 0)) }
+        ensures incarnation { IfOk result (λ instances. (i : ℕ) →
+            incarnation_at i instances ≡ (if is_instance i then first else 0)) }
         ensures refused { IfOk result (λ instances. (i : ℕ) → refused_at i instances ≡ []) }
     {
         let mut list = Vec::with_capacity(alloc, NUMBERS.len())?;
@@ -128,7 +132,7 @@ impl Instances {
     {
         let _ = &self.list;
         match self.at(number) {
-            Some(instance) => instance.up,
+            Some(instance) => instance.is_up(),
             None => false,
         }
     }
@@ -139,7 +143,7 @@ impl Instances {
         ensures { result ≡ cause_at number self.now }
     {
         match self.at(number) {
-            Some(instance) => instance.cause,
+            Some(instance) => instance.cause(),
             None => None,
         }
     }
@@ -153,7 +157,7 @@ impl Instances {
     {
         let _ = &self.list;
         match self.reader(connection) {
-            Some(reader) => Some(reader.number),
+            Some(reader) => Some(reader.number()),
             None => None,
         }
     }
@@ -176,7 +180,7 @@ impl Instances {
         ensures { option_copied result ≡ instance_at number self.now }
     {
         for instance in &self.list {
-            if instance.number == number {
+            if instance.number() == number {
                 return Some(instance);
             }
         }
@@ -218,7 +222,8 @@ impl Instances {
     ) -> Result<(), AllocError>
         requires { IsTrue (up_at number self.old) }
         ensures reading { OnOk result ((c i : ℕ) → bytes_at c i self.new ≡
-            (if i == number then (if c == connection then Some [] else bytes_at c i self.old) else bytes_at c i self.old)) }
+            (if i == number then (if c == connection then Some [] else bytes_at c i self.old)
+            else bytes_at c i self.old)) }
         ensures local { OnOk result ((t : List ℕ) (i : ℕ) → local_at t i self.new ≡ local_at t i self.old) }
         ensures others { SameElsewhere number self.old self.new }
         ensures roster { IsSameRoster (roster_of self.new) (roster_of self.old) }
@@ -239,31 +244,32 @@ impl Instances {
         self.list[place(number)].close(connection);
     }
 
-    /// Lets each instance that is up tick at the moment, in order of number, where tenants have these limits, and puts out the
-    /// tries that go out. Gives how many a fault stopped; these have put nothing out.
+    /// Lets each instance that is up tick on an occasion, in order of number, and puts out the tries that go out. Gives
+    /// how many a fault stopped; these have put nothing out.
     pub fn tick<R: Rows>(
         &mut self,
         alloc: Global,
-        moment: Moment,
-        limits: &LimitBook,
+        occasion: &Occasion<'_>,
         outputs: &mut Vec<Output>,
         stores: &mut [R],
     ) -> u64
         requires { AreBacked self.old (shelves_of R.Rows stores.old) }
-        ensures turns { TakeTurns moment limits.now numbers self.old self.new outputs.old.items outputs.new.items result }
+        ensures turns { TakeTurns occasion.now.moment occasion.now.limits.now all_instances self.old self.new
+            outputs.old.items outputs.new.items result }
         ensures backed { AreBacked self.new (shelves_of R.Rows stores.new) }
         ensures clean { NeverCleaner (shelves_of R.Rows stores.old) (shelves_of R.Rows stores.new) }
-        // No other numbers are those of instances that are up.
+        // No other all_instances are those of instances that are up.
         ensures exist { (i : ℕ) → IsTrue (up_at i self.old) → IsTrue (is_instance i) }
         ensures left { (i : ℕ) → is_instance i ≡ true → up_at i self.old ≡ true → LeavesShelf
-            (λ t. local_at t i self.old) (λ t. retired moment (local_at t i self.old)) ⊥ (stop_at i self.new)
+            (λ t. local_at t i self.old) (λ t. retired occasion.now.moment (local_at t i self.old)) ⊥
+            (stop_at i self.new)
             (shelf_at i (shelves_of R.Rows stores.old)) (shelf_at i (shelves_of R.Rows stores.new)) }
     {
         let _ = &self.list;
         let mut faults = 0u64;
         for number in NUMBERS {
             let store = &mut stores[place(number)];
-            if !self.tick_at(alloc, number, moment, limits, outputs, store) {
+            if !self.tick_at(alloc, number, occasion, outputs, store) {
                 faults += 1;
             }
         }
@@ -275,21 +281,22 @@ impl Instances {
         &mut self,
         alloc: Global,
         number: u8,
-        moment: Moment,
-        limits: &LimitBook,
+        occasion: &Occasion<'_>,
         outputs: &mut Vec<Output>,
         store: &mut R,
     ) -> bool
         requires exists { IsTrue (is_instance number) }
         requires backed { IsBackedAt number self.old (shelf_of R.Rows store.old) }
-        ensures turn { TakesTurn number moment limits.now result self.old self.new outputs.old.items outputs.new.items }
+        ensures turn { TakesTurn number occasion.now.moment occasion.now.limits.now result self.old self.new
+            outputs.old.items outputs.new.items }
         ensures clean { R.is_clean store.new ≡ true → R.is_clean store.old ≡ true }
         ensures backed { IsBackedAt number self.new (shelf_of R.Rows store.new) }
         ensures left { up_at number self.old ≡ true → LeavesShelf
-            (λ t. local_at t number self.old) (λ t. retired moment (local_at t number self.old)) ⊥ (stop_at number self.new)
+            (λ t. local_at t number self.old) (λ t. retired occasion.now.moment (local_at t number self.old)) ⊥
+            (stop_at number self.new)
             (shelf_of R.Rows store.old) (shelf_of R.Rows store.new) }
     {
-        self.list[place(number)].tick(alloc, moment, limits, outputs, store)
+        self.list[place(number)].tick(alloc, occasion, outputs, store)
     }
 
     /// Whether the outcome of this try of an attempt is awaited.
@@ -304,89 +311,67 @@ impl Instances {
         }
     }
 
-    /// Gives the instance of an attempt the outcome of one of its tries, at a moment and where the attempt's tenant has these
-    /// limits.
+    /// Gives the instance of an attempt the outcome of one of its tries on an occasion.
     pub fn take_outcome(
         &mut self,
         alloc: Global,
         attempt: &AttemptName,
         tries: u8,
-        moment: Moment,
-        limits: Limits,
+        occasion: &Occasion<'_>,
         status: Option<u16>,
     ) -> Result<(), Fault>
         requires { IsTrue (is_instance attempt.now.instance) }
-        ensures local { OnOk result ((terms : Terms) → terms.limits ≡ limits → (t : List ℕ) →
-            local_at t attempt.now.instance self.new ≡ (if same t attempt.now.tenant
-            then (outcome (in_replica (here_in moment terms attempt.now.instance self.old)) attempt.now.number tries status
-            (local_at t attempt.now.instance self.old)).local
-            else local_at t attempt.now.instance self.old)) }
-        ensures fits { IfOk result (λ _. (terms : Terms) → terms.limits ≡ limits →
-            (outcome (in_replica (here_in moment terms attempt.now.instance self.old)) attempt.now.number tries status
+        ensures local { OnOk result ((t : List ℕ) → local_at t attempt.now.instance self.new ≡
+            (if same t attempt.now.tenant then (outcome_at self.old occasion.now attempt.now tries status
+            (local_at t attempt.now.instance self.old)).local else local_at t attempt.now.instance self.old)) }
+        ensures fits { IfOk result (λ _. (outcome_at self.old occasion.now attempt.now tries status
             (local_at attempt.now.tenant attempt.now.instance self.old)).fits ≡ true) }
-        ensures cause { IfErr result (λ fault. (terms : Terms) → terms.limits ≡ limits → StopsReacting (outcome
-            (in_replica (here_in moment terms attempt.now.instance self.old)) attempt.now.number tries status
+        ensures cause { IfErr result (λ fault. StopsReacting (outcome_at self.old occasion.now attempt.now tries status
             (local_at attempt.now.tenant attempt.now.instance self.old)) fault) }
-        ensures stored { OnOk result ((t : List ℕ) (i : ℕ) → stored_in (local_at t i self.new).held ≡ stored_in (local_at t i self.old).held) }
+        ensures stored { OnOk result ((t : List ℕ) (i : ℕ) →
+            stored_in (local_at t i self.new).held ≡ stored_in (local_at t i self.old).held) }
         ensures others { SameElsewhere attempt.now.instance self.old self.new }
         ensures reading { (c i : ℕ) → bytes_at c i self.new ≡ bytes_at c i self.old }
         ensures roster { IsSameRoster (roster_of self.new) (roster_of self.old) }
         ensures refused { (i : ℕ) → refused_at i self.new ≡ refused_at i self.old }
     {
-        self.list[place(attempt.instance)].take_outcome(
-            alloc, attempt, tries, moment, limits, status,
-        )
+        self.list[place(attempt.instance)].take_outcome(alloc, attempt, tries, occasion, status)
     }
 
-    /// Gives a piece to the instance that reads its connection, where tenants have these limits and words of this key.
+    /// Gives a piece to the instance that reads its connection, on an occasion.
     pub fn feed<R: Rows>(
         &mut self,
         alloc: Global,
         number: u8,
-        connection: ConnectionId,
-        piece: &[u8],
-        moment: Moment,
-        service_key: &[u8; 32],
-        limits: &LimitBook,
+        piece: &Piece<'_>,
+        occasion: &Occasion<'_>,
         outputs: &mut Vec<Output>,
         store: &mut R,
     ) -> Result<(), Fault>
         requires up { IsTrue (up_at number self.old) }
         requires backed { IsBackedAt number self.old (shelf_of R.Rows store.old) }
-        requires reads { IsSome (bytes_at connection number self.old) }
-        ensures takes { OnOk result ((before : List ℕ) → bytes_at connection number self.old ≡ Some before →
-            Takes number connection (before ++ piece.now) moment (λ t. terms_of service_key.now limits.now t)
+        requires reads { IsSome (bytes_at piece.now.connection number self.old) }
+        ensures takes { OnOk result ((before : List ℕ) → bytes_at piece.now.connection number self.old ≡ Some before →
+            Takes number piece.now.connection (before ++ piece.now.bytes.now) occasion.now.moment
+            (terms_in occasion.now)
             self.old self.new outputs.old.items outputs.new.items) }
         ensures silent { OnErr result (outputs.new.items ≡ outputs.old.items) }
-        ensures cause { IfErr result (λ fault. (before : List ℕ) → bytes_at connection number self.old ≡ Some before →
-            IsCause fault (verdict (before ++ piece.now))
-            (λ request. here_in moment (terms_of service_key.now limits.now request.tenant) number self.old)
+        ensures cause { IfErr result (λ fault. (before : List ℕ) →
+            bytes_at piece.now.connection number self.old ≡ Some before →
+            IsCause fault (verdict (before ++ piece.now.bytes.now)) (situation_at number self.old occasion.now)
             (λ t. local_at t number self.old) (refused_at number self.new)) }
-        ensures others { SameElsewhere number self.old self.new }
-        ensures incarnation { incarnation_at number self.new ≡ incarnation_at number self.old }
+        ensures stays { ChangesAt number self.old self.new }
         ensures clean { R.is_clean store.new ≡ true → R.is_clean store.old ≡ true }
         ensures backed { OnOk result (IsBackedAt number self.new (shelf_of R.Rows store.new)) }
-        ensures refused { KeepRefused self.old self.new }
-        ensures left { (before : List ℕ) → bytes_at connection number self.old ≡ Some before → LeavesShelf
+        ensures left { (before : List ℕ) → bytes_at piece.now.connection number self.old ≡ Some before → LeavesShelf
             (λ t. local_at t number self.old)
-            (taken_in (verdict (before ++ piece.now))
-            (λ request. here_in moment (terms_of service_key.now limits.now request.tenant) number self.old)
-            moment connection (λ t. local_at t number self.old))
-            (BringsRejected R.rejects (verdict (before ++ piece.now))
-            (λ request. here_in moment (terms_of service_key.now limits.now request.tenant) number self.old)
-            (λ t. local_at t number self.old))
+            (taken_in (verdict (before ++ piece.now.bytes.now)) (situation_at number self.old occasion.now)
+            occasion.now.moment piece.now.connection (λ t. local_at t number self.old))
+            (BringsRejected R.rejects (verdict (before ++ piece.now.bytes.now))
+            (situation_at number self.old occasion.now) (λ t. local_at t number self.old))
             (fault_in result) (shelf_of R.Rows store.old) (shelf_of R.Rows store.new) }
     {
-        self.list[place(number)].feed(
-            alloc,
-            connection,
-            piece,
-            moment,
-            service_key,
-            limits,
-            outputs,
-            store,
-        )
+        self.list[place(number)].feed(alloc, piece, occasion, outputs, store)
     }
 
     /// Stops an instance for a fault, as a crash does: it is down, and all that it had is lost.

@@ -2,7 +2,6 @@
 #![tactic(auto)]
 
 pub mod event;
-mod instance;
 mod instances;
 mod opening;
 mod state;

@@ -1,11 +1,13 @@
 //! What a world is beside its stores.
 
-ghost use Rattle.std.specs.Prelude.{◌≡◌, ◌+◌, ◌-◌, ◌^◌, ◌≤◌, ℕ, List, Some, true, length, min, IfErr, IfOk, OnErr, IsOk, IsTrue, MatchOption};
+ghost use Rattle.std.specs.Prelude.{◌≡◌, ◌+◌, ◌-◌, ◌^◌, ◌≤◌, ℕ, List, Some, true, length, min, IfErr, IfOk, OnErr};
+ghost use Rattle.std.specs.Prelude.{IsOk, IsTrue, MatchOption};
 
 use crate::event::{AttemptName, Event, LAST_MOMENT, Output, Refused};
 use crate::instances::{Instances, place};
 use crate::opening::OpenRefusal;
 use am_http::ConnectionId;
+use am_instance::{Occasion, Piece};
 use am_item::Fault;
 use am_limit::{LimitBook, Limits};
 use am_rows::Rows;
@@ -18,7 +20,8 @@ use std::mem;
 /// The instance that serves from the opening on.
 const SERVING: u8 = 1;
 
-/// All instances, the clock, and what was put out so far. Its calls borrow the stores of the instances, in order of number.
+/// All instances, the clock, and what was put out so far. Its calls borrow the stores of the instances, in order of
+/// number.
 pub struct State {
     pub(crate) clock: Moment,
     pub(crate) instances: Instances,
@@ -46,18 +49,19 @@ impl Drop for State {
 }
 
 impl State {
-    ghost use Rattle.am_world.specs.Shelves.{AreBacked, AreClean, NeverCleaner, Shelf, rows_in, shelves_of};
+    ghost use Rattle.am_world.specs.Shelves.{AreBacked, AreClean, NeverCleaner, rows_in, shelves_of};
+    ghost use Rattle.am_instance.specs.Shelves.{Shelf};
     ghost use Rattle.am_world.specs.Moments.{last_moment, effective};
     ghost use Rattle.am_world.specs.Places.{IsDownAt, SameElsewhere, cause_at, incarnation_at, refused_at, up_at};
     ghost use Rattle.am_world.specs.Refusal.{refusal};
     ghost use Rattle.am_world.specs.Runs.{Run, Headline, Prefixes, Forgets};
-    ghost use Rattle.am_setup.specs.Setup.{is_instance};
+    ghost use Rattle.am_ring.specs.Instances.{is_instance};
     ghost use Rattle.am_world.specs.Leaving.{LeavesShelves, stop_at};
     ghost use Rattle.am_world.specs.Opening.{FailsToOpen};
-    ghost use Rattle.am_world.specs.Simulation.{Opens, Step, fault_count, put_out};
+    ghost use Rattle.am_world.specs.Simulation.{IsSameBeside, Opens, Step, fault_count, put_out};
 
-    /// At moment 0, where no connection is open: the instance that serves opens its store, and holds what that has of all
-    /// tenants.
+    /// At moment 0, where no connection is open: the instance that serves opens its store, and holds what that has of
+    /// all tenants.
     ///
     /// # Errors
     /// The store of that instance was refused with `F2` or `F3`; or out of memory.
@@ -125,9 +129,9 @@ impl State {
         self.instances.cause(instance)
     }
 
-    /// Handles one event. A refused one changes nothing. Where the system refuses memory, a store refuses a call, a count passes
-    /// its greatest number, or a pattern that is in use gives no answer, the instance that was handling it stops, puts nothing
-    /// out, and one fault more is counted.
+    /// Handles one event. A refused one changes nothing. Where the system refuses memory, a store refuses a call, a
+    /// count passes its greatest number, or a pattern that is in use gives no answer, the instance that was handling it
+    /// stops, puts nothing out, and one fault more is counted.
     pub fn step<R: Rows>(
         &mut self,
         alloc: Global,
@@ -140,7 +144,8 @@ impl State {
         ensures err { OnErr result ((self.new ≡ self.old) × (stores.new ≡ stores.old)) }
         ensures clean { NeverCleaner (shelves_of R.Rows stores.old) (shelves_of R.Rows stores.new) }
         ensures backed { AreBacked self.new.instances (shelves_of R.Rows stores.new) }
-        ensures left { LeavesShelves R.rejects self.old event.now self.new (shelves_of R.Rows stores.old) (shelves_of R.Rows stores.new) }
+        ensures left { LeavesShelves R.rejects self.old event.now self.new
+            (shelves_of R.Rows stores.old) (shelves_of R.Rows stores.new) }
     {
         match event {
             Event::Open {
@@ -189,10 +194,13 @@ impl State {
         instance: u8,
     ) -> Result<(), Refused>
         ensures step { Step self.old (Event.Open connection instance) self.new }
-        ensures refused { MatchOption (refusal self.old (Event.Open connection instance)) (IsOk result) (λ r. result ≡ Err r) }
+        ensures refused { MatchOption (refusal self.old (Event.Open connection instance))
+            (IsOk result) (λ r. result ≡ Err r) }
         ensures err { OnErr result (self.new ≡ self.old) }
-        ensures backed { (shelves : List Shelf) → AreBacked self.old.instances shelves → AreBacked self.new.instances shelves }
-        ensures unrefused { (i : ℕ) → up_at i self.old.instances ≡ true → stop_at i self.new.instances ≡ Some Fault.StoreRefused → ⊥ }
+        ensures backed { (shelves : List Shelf) →
+            AreBacked self.old.instances shelves → AreBacked self.new.instances shelves }
+        ensures unrefused { (i : ℕ) → up_at i self.old.instances ≡ true →
+            stop_at i self.new.instances ≡ Some Fault.StoreRefused → ⊥ }
     {
         if !self.instances.is_up(instance) {
             return Err(Refused::InstanceNotUp);
@@ -231,18 +239,18 @@ impl State {
             return Err(Refused::NotReading);
         };
         let at = self.effective(moment);
-        let (service_key, limits, outputs) = (&self.service_key, &self.limits, &mut self.outputs);
-        match self.instances.feed(
-            alloc,
-            reader,
-            connection,
-            piece.as_slice(),
-            at,
-            service_key,
-            limits,
-            outputs,
-            &mut stores[place(reader)],
-        ) {
+        let bytes = piece.as_slice();
+        let piece = Piece { connection, bytes };
+        let occasion = Occasion {
+            moment: at,
+            service_key: &self.service_key,
+            limits: &self.limits,
+        };
+        let (outputs, store) = (&mut self.outputs, &mut stores[place(reader)]);
+        match self
+            .instances
+            .feed(alloc, reader, &piece, &occasion, outputs, store)
+        {
             Ok(()) => Ok(()),
             Err(fault) => {
                 self.stop(alloc, reader, fault);
@@ -270,8 +278,13 @@ impl State {
             return Err(Refused::MomentRefused);
         }
         self.clock = self.effective(moment);
-        let (clock, limits, outputs) = (self.clock, &self.limits, &mut self.outputs);
-        let stopped = self.instances.tick(alloc, clock, limits, outputs, stores);
+        let occasion = Occasion {
+            moment: self.clock,
+            service_key: &self.service_key,
+            limits: &self.limits,
+        };
+        let outputs = &mut self.outputs;
+        let stopped = self.instances.tick(alloc, &occasion, outputs, stores);
         self.count_faults(stopped);
         Ok(())
     }
@@ -288,8 +301,10 @@ impl State {
         ensures refused { MatchOption (refusal self.old (Event.Outcome attempt.now tries moment status))
             (IsOk result) (λ r. result ≡ Err r) }
         ensures err { OnErr result (self.new ≡ self.old) }
-        ensures backed { (shelves : List Shelf) → AreBacked self.old.instances shelves → AreBacked self.new.instances shelves }
-        ensures unrefused { (i : ℕ) → up_at i self.old.instances ≡ true → stop_at i self.new.instances ≡ Some Fault.StoreRefused → ⊥ }
+        ensures backed { (shelves : List Shelf) →
+            AreBacked self.old.instances shelves → AreBacked self.new.instances shelves }
+        ensures unrefused { (i : ℕ) → up_at i self.old.instances ≡ true →
+            stop_at i self.new.instances ≡ Some Fault.StoreRefused → ⊥ }
     {
         if moment > LAST_MOMENT {
             return Err(Refused::MomentRefused);
@@ -298,10 +313,14 @@ impl State {
             return Err(Refused::NotAwaited);
         }
         let at = self.effective(moment);
-        let limits = self.limits.of(&attempt.tenant);
+        let occasion = Occasion {
+            moment: at,
+            service_key: &self.service_key,
+            limits: &self.limits,
+        };
         match self
             .instances
-            .take_outcome(alloc, attempt, tries, at, limits, status)
+            .take_outcome(alloc, attempt, tries, &occasion, status)
         {
             Ok(()) => Ok(()),
             Err(fault) => {
@@ -315,8 +334,10 @@ impl State {
         ensures step { Step self.old (Event.Close connection) self.new }
         ensures refused { MatchOption (refusal self.old (Event.Close connection)) (IsOk result) (λ r. result ≡ Err r) }
         ensures err { OnErr result (self.new ≡ self.old) }
-        ensures backed { (shelves : List Shelf) → AreBacked self.old.instances shelves → AreBacked self.new.instances shelves }
-        ensures unrefused { (i : ℕ) → up_at i self.old.instances ≡ true → stop_at i self.new.instances ≡ Some Fault.StoreRefused → ⊥ }
+        ensures backed { (shelves : List Shelf) →
+            AreBacked self.old.instances shelves → AreBacked self.new.instances shelves }
+        ensures unrefused { (i : ℕ) → up_at i self.old.instances ≡ true →
+            stop_at i self.new.instances ≡ Some Fault.StoreRefused → ⊥ }
     {
         let Some(reader) = self.instances.reader_of(connection) else {
             return Err(Refused::NotReading);
@@ -355,10 +376,7 @@ impl State {
         ensures others { SameElsewhere instance self.old.instances self.new.instances }
         ensures incarnation { incarnation_at instance self.new.instances ≡ incarnation_at instance self.old.instances }
         ensures counted { self.new.faults ≡ min (self.old.faults + 1) (2 ^ 64 - 1) }
-        ensures outputs { self.new.outputs.items ≡ self.old.outputs.items }
-        ensures clock { self.new.clock ≡ self.old.clock }
-        ensures limits { self.new.limits ≡ self.old.limits }
-        ensures service_key { self.new.service_key ≡ self.old.service_key }
+        ensures beside { IsSameBeside self.old self.new }
         ensures refused { (i : ℕ) → refused_at i self.new.instances ≡ refused_at i self.old.instances }
     {
         self.instances.stop(alloc, instance, fault);
@@ -369,10 +387,7 @@ impl State {
         ensures counted { self.new.faults ≡ min (self.old.faults + more) (2 ^ 64 - 1) }
         ensures none { more ≡ 0 → self.new.faults ≡ self.old.faults }
         ensures instances { self.new.instances ≡ self.old.instances }
-        ensures outputs { self.new.outputs.items ≡ self.old.outputs.items }
-        ensures clock { self.new.clock ≡ self.old.clock }
-        ensures limits { self.new.limits ≡ self.old.limits }
-        ensures service_key { self.new.service_key ≡ self.old.service_key }
+        ensures beside { IsSameBeside self.old self.new }
     {
         self.faults = self.faults.saturating_add(more);
     }

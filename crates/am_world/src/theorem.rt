@@ -21,11 +21,11 @@ use am_rows::Rows;
 use am_setup::Setup;
 use std::alloc::Global;
 
-/// Opens a world over the stores of its instances and runs a list of events in it. Whatever the other tenants do, what the
-/// world puts out for a tenant is, byte for byte and in order, what a private cluster puts out that has this tenant alone, begins
-/// with the tenant's rows and sees what the events are to it; provided that no fault came, each store is in memory or its disk
-/// has returned what was written, no connection's name is used twice, and no pattern that the tenant brings was refused its
-/// build.
+/// Opens a world over the stores of its instances and runs a list of events in it. Whatever the other tenants do, what
+/// the world puts out for a tenant is, byte for byte and in order, what a private cluster puts out that has this tenant
+/// alone, begins with the tenant's rows and sees what the events are to it; provided that no fault came, each store is
+/// in memory or its disk has returned what was written, no connection's name is used twice, and no pattern that the
+/// tenant brings was refused its build.
 pub fn run_alone<R: Rows + Drop>(
     alloc: Global,
     setup: Setup,
@@ -46,11 +46,11 @@ pub fn run_alone<R: Rows + Drop>(
     Ok(world)
 }
 
-/// Opens two worlds over their stores and runs a list of events in each. A tenant to whom both lists are the same, and of whom
-/// both stores have the same rows, gets the same outputs of both, whatever the lists are to others and the stores have of them,
-/// and whatever the capacities of the caches; provided that both start from the same, no fault came, each store is in memory or
-/// its disk has returned what was written, no connection's name is used twice in a list, and no pattern that the tenant brings
-/// was refused its build.
+/// Opens two worlds over their stores and runs a list of events in each. A tenant to whom both lists are the same, and
+/// of whom both stores have the same rows, gets the same outputs of both, whatever the lists are to others and the
+/// stores have of them, and whatever the capacities of the caches; provided that both start from the same, no fault
+/// came, each store is in memory or its disk has returned what was written, no connection's name is used twice in a
+/// list, and no pattern that the tenant brings was refused its build.
 pub fn run_both<R: Rows + Drop>(
     alloc: Global,
     setup: Setup,
@@ -68,7 +68,8 @@ pub fn run_both<R: Rows + Drop>(
         RunsFrom other_setup.origin (rows_in (shelves_of R.Rows other_stores.items)) other_events.now worlds.1.state) }
     ensures equal { IfOk result (λ worlds. fault_count worlds.0.state ≡ 0 → fault_count worlds.1.state ≡ 0 →
         AreClean worlds.0.shelves → AreClean worlds.1.shelves → setup.origin ≡ other_setup.origin →
-        names_once (first_watch setup.origin) events.now → names_once (first_watch other_setup.origin) other_events.now →
+        names_once (first_watch setup.origin) events.now →
+        names_once (first_watch other_setup.origin) other_events.now →
         (t : List ℕ) →
         rows_in (shelves_of R.Rows stores.items) t
         ≡ rows_in (shelves_of R.Rows other_stores.items) t →
@@ -77,16 +78,18 @@ pub fn run_both<R: Rows + Drop>(
         AreBuilt (refused_by worlds.1.state) (patterns_in (view t (first_watch other_setup.origin) other_events.now)) →
         outputs_of t (watch_all (first_watch setup.origin) events.now) (put_out worlds.0.state) ≡
         outputs_of t (watch_all (first_watch other_setup.origin) other_events.now) (put_out worlds.1.state)) }
-    ensures refused { IfErr result (λ why. FailsToOpen R.Rows stores.items why ⊎ FailsToOpen R.Rows other_stores.items why) }
+    ensures refused { IfErr result (λ why.
+        FailsToOpen R.Rows stores.items why ⊎ FailsToOpen R.Rows other_stores.items why) }
 {
     let world = run_alone(alloc, setup, stores, events)?;
     let other = run_alone(alloc, other_setup, other_stores, other_events)?;
     Ok((world, other))
 }
 
-/// In a world of which what is known is so, and which has of each tenant what the tenant's private cluster has, an event is
-/// refused as the events before it say. (A world always has its eight instances in order of number.)
+/// In a world of which what is known is so, and which has of each tenant what the tenant's private cluster has, an
+/// event is refused as the events before it say. (A world always has its eight instances in order of number.)
 pub fn refusals_are_seen()
-    ensures { (v : Watch) (w : State) (alone : List ℕ → PrivateCluster) (e : Event) → AreNumbered w.instances → Follows v w →
+    ensures { (v : Watch) (w : State) (alone : List ℕ → PrivateCluster) (e : Event) →
+        AreNumbered w.instances → Follows v w →
         ((t : List ℕ) → Stands t w (alone t)) → refusal w e ≡ refusal_seen v w.clock alone e }
 {}

@@ -43,12 +43,12 @@ impl<R: Rows + Drop> World<R> {
     ghost use Rattle.am_world.specs.Shelves.{AreClean, NeverCleaner, rows_in, shelves_of};
     ghost use Rattle.am_world.specs.Simulation.{Opens};
 
-    /// A world at moment 0 over the stores of the eight instances, in order of number. No connection is open. The instance that
-    /// serves opens its store, and holds what that has of all tenants.
+    /// A world at moment 0 over the stores of the eight instances, in order of number. No connection is open. The
+    /// instance that serves opens its store, and holds what that has of all tenants.
     ///
     /// # Errors
-    /// The store of an instance was refused: with `F2`, where a call of the database was, and with `F3`, where it is no store; or
-    /// out of memory. All stores are dropped, each as its last commit left it.
+    /// The store of an instance was refused: with `F2`, where a call of the database was, and with `F3`, where it is no
+    /// store; or out of memory. All stores are dropped, each as its last commit left it.
     pub fn open(alloc: Global, setup: Setup, mut stores: Vec<R>) -> Result<World<R>, OpenRefusal>
         requires { length stores.items ≡ 8 }
         ensures opens { IfOk result (λ world. AreClean world.shelves →
@@ -117,15 +117,17 @@ impl<R: Rows> World<R> {
         self.state.cause(instance)
     }
 
-    /// Handles one event. A refused one changes nothing. Where the system refuses memory, a store refuses a call, a count passes
-    /// its greatest number, or a pattern that is in use gives no answer, the instance that was handling it stops, puts nothing
-    /// out, and one fault more is counted; its store stays at its last commit, which may have been the event's own.
+    /// Handles one event. A refused one changes nothing. Where the system refuses memory, a store refuses a call, a
+    /// count passes its greatest number, or a pattern that is in use gives no answer, the instance that was handling it
+    /// stops, puts nothing out, and one fault more is counted; its store stays at its last commit, which may have been
+    /// the event's own.
     pub fn step(&mut self, alloc: Global, event: &Event) -> Result<(), Refused>
         ensures step { Step self.old.state event.now self.new.state }
         ensures refused { MatchOption (refusal self.old.state event.now) (IsOk result) (λ r. result ≡ Err r) }
         ensures err { OnErr result (self.new ≡ self.old) }
         ensures clean { NeverCleaner self.old.shelves self.new.shelves }
-        ensures left { LeavesShelves R.rejects self.old.state event.now self.new.state self.old.shelves self.new.shelves }
+        ensures left { LeavesShelves R.rejects self.old.state event.now self.new.state
+            self.old.shelves self.new.shelves }
     {
         self.state.step(alloc, event, &mut self.stores)
     }

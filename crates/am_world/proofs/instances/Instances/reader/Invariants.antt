@@ -1,5 +1,5 @@
 use Rattle.std.proofs.Common.{◌≡◌, drop, find}
-use Rattle.am_world.specs.Places.{reads}
+use Rattle.am_instance.specs.Instance.{reads}
 use Rattle.am_world.proofs.instances.Instances.reader.Given as goal
 
 -- the reader stands among those that are left

@@ -2,7 +2,8 @@ use Rattle.std.proofs.Common.{◌≡◌, ◌∙◌, ◌<◌, OnOk, get_or, map, 
 use Rattle.std.proofs.lemmas.Bool.Decides.{nat_tests}
 use Rattle.std.proofs.lemmas.List.{length-map}
 use Rattle.std.proofs.lemmas.Option.{slice_get-get_or}
-use Rattle.am_world.specs.Shelves.{IsStartedAt, Shelf, shelf_at, shelf_of}
+use Rattle.am_world.specs.Shelves.{IsStartedAt, shelf_at}
+use Rattle.am_instance.specs.Shelves.{Shelf, shelf_of}
 use Rattle.am_world.proofs.InstancesLemmas.{both_ok}
 use Rattle.am_world.proofs.Opened.{fails_at}
 use Rattle.am_world.proofs.Shelved.{backed_at, cleaner_at, shelf_is, shelf_put}

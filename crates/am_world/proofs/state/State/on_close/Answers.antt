@@ -1,5 +1,5 @@
 use Rattle.std.proofs.Common.{ap, inl, refl}
-use Rattle.am_replica.specs.Local.{Local}
+use Rattle.am_node.specs.Local.{Local}
 use Rattle.am_rows.specs.Rows.{stored_in}
 use Rattle.am_world.proofs.Leaves.{unrefused_up}
 use Rattle.am_world.proofs.Shelved.{backed_as, quiet_closed}

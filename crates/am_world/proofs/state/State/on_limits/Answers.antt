@@ -9,5 +9,5 @@ returns-in-Ok-clause-step c = inl (kept_limits c.args.self.now _ c.args.tenant.n
 
 pub returns-in-Err-clause-step : goal.returns-in-Err-clause-step
 returns-in-Err-clause-step c = inr (faulted_limits c.args.self.now c.count_faults.new.self c.args.tenant.now c.args.limits c.count_faults.ensures.instances
-    c.count_faults.ensures.outputs c.count_faults.ensures.counted c.count_faults.ensures.clock
-    (λ t. ap (limits_of t) c.count_faults.ensures.limits ∙ c.in-Err.ensures.err t) c.count_faults.ensures.service_key)
+    c.count_faults.ensures.beside.outputs c.count_faults.ensures.counted c.count_faults.ensures.beside.clock
+    (λ t. ap (limits_of t) c.count_faults.ensures.beside.limits ∙ c.in-Err.ensures.err t) c.count_faults.ensures.beside.service_key)

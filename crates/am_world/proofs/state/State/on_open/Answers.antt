@@ -1,6 +1,6 @@
 use Rattle.std.proofs.Common.{◌∙◌, ap, inl, inr, refl, sym}
 use Rattle.am_item.specs.declared.fault.Fault.TheVariants.{OutOfMemory}
-use Rattle.am_replica.specs.Local.{Local}
+use Rattle.am_node.specs.Local.{Local}
 use Rattle.am_rows.specs.Rows.{stored_in}
 use Rattle.am_world.proofs.Shelved.{backed_as, backed_stopped}
 use Rattle.am_world.proofs.Built.{keep_same}
@@ -23,7 +23,7 @@ returns-in-Err-clause-step c =
     inr (faulted_at c.args.self.now _ _ c.args.instance (rw up refl) (itself c.args.instance) c.stop.ensures.down (record { fault = OutOfMemory; told = c.stop.ensures.cause; cause = refl })
     (elsewhere_then c.args.instance _ _ _ c.in-Err.ensures.others c.stop.ensures.others)
     (incarnation_all c.args.instance _ _ _ c.begin.ensures.roster c.stop.ensures.incarnation c.stop.ensures.others)
-    c.stop.ensures.outputs c.stop.ensures.counted c.stop.ensures.clock c.stop.ensures.limits c.stop.ensures.service_key
+    c.stop.ensures.beside.outputs c.stop.ensures.counted c.stop.ensures.beside.clock c.stop.ensures.beside.limits c.stop.ensures.beside.service_key
     (keep_same _ _ (λ i. c.stop.ensures.refused i ∙ c.begin.ensures.refused i)))
 
 pub returns-in-Ok-clause-backed : goal.returns-in-Ok-clause-backed

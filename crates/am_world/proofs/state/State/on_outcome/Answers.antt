@@ -1,12 +1,13 @@
 use Rattle.std.proofs.Common.{◌≡◌, ◌∙◌, nat_lt, false, inl, inr, refl, sym, arith}
 use Rattle.std.proofs.lemmas.Bool.Decides.{nat_tests}
 use Rattle.am_world.specs.Moments.{last_moment}
-use Rattle.am_replica.specs.Delivery.{outcome}
+use Rattle.am_node.specs.Delivery.{outcome}
 use Rattle.am_world.specs.Places.{here_in, local_at}
-use Rattle.am_world.specs.Reaction.{in_replica, terms_of}
+use Rattle.am_instance.specs.Reaction.{in_node, terms_of}
 use Rattle.am_world.proofs.Shelved.{backed_as, backed_stopped}
 use Rattle.am_world.proofs.Built.{keep_same}
-use Rattle.am_world.proofs.Leaves.{never_reacting, stop_down, unrefused_but, unrefused_up}
+use Rattle.am_world.proofs.Leaves.{stop_down, unrefused_but, unrefused_up}
+use Rattle.am_instance.proofs.Leaves.{never_reacting}
 use Rattle.am_world.proofs.Faults.{elsewhere_then, faulted_at}
 use Rattle.am_world.proofs.Kept.{incarnation_all, itself}
 use Rattle.am_world.proofs.KeptOutcome.{kept_outcome, kept_unawaited}
@@ -23,11 +24,10 @@ returns-then-not-is_awaiting-clause-step c =
 
 pub returns-in-Ok-clause-step : goal.returns-in-Ok-clause-step
 returns-in-Ok-clause-step c =
-    let terms = terms_of c.args.self.now.service_key c.args.self.now.limits c.args.attempt.now.tenant in
     inl (kept_outcome c.args.self.now _ c.args.attempt.now c.args.tries c.args.moment c.args.status (grind (arith, nat_tests))
     (sym c.is_awaiting.ensures.awaits ∙ c.if-not-is_awaiting.false)
-    (rw c.effective-at.ensures at (c.in-Ok.ensures.local terms (sym c.of-limits.ensures)))
-    (rw c.effective-at.ensures at (c.in-Ok.ensures.fits terms (sym c.of-limits.ensures)))
+    (rw c.effective-at.ensures at c.in-Ok.ensures.local)
+    (rw c.effective-at.ensures at c.in-Ok.ensures.fits)
     c.take_outcome.ensures.others c.take_outcome.ensures.reading c.take_outcome.ensures.roster c.take_outcome.ensures.refused refl refl refl refl refl)
 
 pub returns-in-Err-clause-step : goal.returns-in-Err-clause-step
@@ -38,12 +38,11 @@ returns-in-Err-clause-step c =
     c.stop.ensures.down (record {
       fault = c.in-Err.fault;
       told = c.stop.ensures.cause;
-      cause = rw (← c.effective-at.ensures)
-          (c.in-Err.ensures.cause (terms_of c.args.self.now.service_key c.args.self.now.limits c.args.attempt.now.tenant) (sym c.of-limits.ensures));
+      cause = rw (← c.effective-at.ensures) c.in-Err.ensures.cause;
     })
     (elsewhere_then c.args.attempt.now.instance _ _ _ c.take_outcome.ensures.others c.stop.ensures.others)
     (incarnation_all c.args.attempt.now.instance _ _ _ c.take_outcome.ensures.roster c.stop.ensures.incarnation c.stop.ensures.others)
-    c.stop.ensures.outputs c.stop.ensures.counted c.stop.ensures.clock c.stop.ensures.limits c.stop.ensures.service_key
+    c.stop.ensures.beside.outputs c.stop.ensures.counted c.stop.ensures.beside.clock c.stop.ensures.beside.limits c.stop.ensures.beside.service_key
     (keep_same _ _ (λ i. c.stop.ensures.refused i ∙ c.take_outcome.ensures.refused i)))
 
 pub returns-in-Ok-clause-backed : goal.returns-in-Ok-clause-backed
@@ -71,6 +70,6 @@ returns-in-Err-clause-unrefused c =
     let terms = terms_of c.args.self.now.service_key c.args.self.now.limits c.args.attempt.now.tenant in
     unrefused_but i c.args.self.now.instances c.stop.new.self.instances (elsewhere_then i _ _ _ c.take_outcome.ensures.others c.stop.ensures.others)
     (λ is. never_reacting
-    (outcome (in_replica (here_in c.effective-at.result terms i c.args.self.now.instances)) c.args.attempt.now.number c.args.tries c.args.status
-    (local_at c.args.attempt.now.tenant i c.args.self.now.instances)) c.in-Err.fault (c.in-Err.ensures.cause terms (sym c.of-limits.ensures))
+    (outcome (in_node (here_in c.effective-at.result terms i c.args.self.now.instances)) c.args.attempt.now.number c.args.tries c.args.status
+    (local_at c.args.attempt.now.tenant i c.args.self.now.instances)) c.in-Err.fault c.in-Err.ensures.cause
     (sym (stop_down i c.stop.new.self.instances c.stop.ensures.down.up ∙ c.stop.ensures.cause) ∙ is))

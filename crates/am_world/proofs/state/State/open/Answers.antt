@@ -1,7 +1,8 @@
 use Rattle.std.proofs.Common.{◌≡◌, ◌∙◌, refl, rules}
 use Rattle.std.proofs.lemmas.List.{length-map}
 use Rattle.am_world.specs.Shelves.{rows_in, shelf_at, shelves_of}
-use Rattle.am_world.proofs.Opened.{fails_to_open, follows_opening, local_open, none_backed, refused_open, roster_open, stands_opening, unread_open}
+use Rattle.am_world.proofs.Opened.{fails_to_open, follows_opening, local_open, none_backed, refused_open, roster_open}
+use Rattle.am_world.proofs.Opened.{stands_opening, unread_open}
 use Rattle.am_world.proofs.state.State.open.Goals as goal
 
 pub start-requires-clause-backed : goal.start-requires-clause-backed

@@ -1,6 +1,5 @@
 use Rattle.std.proofs.Common.{map, refl}
-use Rattle.am_world.specs.Shelves.{shelf_of}
-use Rattle.am_world.specs.declared.event.Event.TheVariants.{Close, Limits, Open, Outcome}
+use Rattle.am_instance.specs.Shelves.{shelf_of}
 use Rattle.am_world.proofs.Leaves.{shelves_alone, unrefused_up}
 use Rattle.am_world.proofs.state.State.step.Goals as goal
 

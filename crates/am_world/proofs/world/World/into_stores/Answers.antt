@@ -1,6 +1,6 @@
 use Rattle.std.proofs.Common.{◌∙◌, sym}
 use Rattle.std.proofs.lemmas.List.{length-map}
-use Rattle.am_world.specs.Shelves.{shelf_of}
+use Rattle.am_instance.specs.Shelves.{shelf_of}
 use Rattle.am_world.proofs.world.World.into_stores.Goals as goal
 
 pub returns-clause-size : goal.returns-clause-size

@@ -1,0 +1,4 @@
+mod Deciding
+pub mod Growing
+pub mod Leaves
+mod Ticking

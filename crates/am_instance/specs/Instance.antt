@@ -1,0 +1,70 @@
+-- What a reader sees of an instance: its number, which start of it it is, whether it is up and which fault stopped it,
+-- the bytes of connections, what it has of each tenant, and the patterns that it was refused the build of.
+use Rattle.std.specs.Prelude.{◌≡◌, ℕ, Bool, false, is_some, List, ◌++◌, Option, None}
+use Rattle.am_http.specs.Connections.{bytes_of}
+use Rattle.am_http.specs.declared.request.Request.{Request}
+use Rattle.am_node.specs.Held.{local_of}
+use Rattle.am_node.specs.Local.{Local, blank}
+use Rattle.am_instance.specs.declared.given.Occasion.{Occasion}
+use Rattle.am_instance.specs.declared.instance.Instance.{Instance}
+use Rattle.am_instance.specs.Reaction.{Here, Terms, terms_of}
+
+-- all that the instance has of the tenant
+unfoldable pub local_in : List ℕ → Instance → Local
+local_in t x = local_of t x.node
+
+-- the bytes so far of a connection that it reads
+abbrev pub bytes_in : ℕ → Instance → Option (List ℕ)
+bytes_in c x = bytes_of c x.front
+
+-- it reads the connection
+abbrev pub reads : ℕ → Instance → Bool
+reads c x = is_some (bytes_in c x)
+
+-- the patterns that it was refused the build of
+abbrev pub refused_in : Instance → List (List ℕ)
+refused_in x = x.cache.refused
+
+-- it is down, reads nothing and has nothing
+pub record IsDown (x : Instance) : Type 0 where
+  pub up : x.up ≡ false
+  pub unread : (c : ℕ) → bytes_in c x ≡ None
+  pub lost : (t : List ℕ) → local_in t x ≡ blank
+
+-- ---- what it goes by
+
+-- the terms on which tenants are served on an occasion
+abbrev pub terms_in : Occasion → List ℕ → Terms
+terms_in occasion = λ t. terms_of occasion.service_key.now occasion.limits.now t
+
+-- what the instance goes by at a moment, for a tenant on these terms
+abbrev pub here_of : Instance → ℕ → Terms → Here
+here_of x moment terms = record { instance = x.number; incarnation = x.incarnation; moment = moment; terms = terms }
+
+-- .. at a request on an occasion
+abbrev pub situation : Instance → Occasion → Request → Here
+situation x occasion = λ request. here_of x occasion.moment (terms_in occasion request.tenant)
+
+-- ---- what stays
+
+-- the later texts begin with the earlier ones
+abbrev pub HasMore : List (List ℕ) → List (List ℕ) → Type 0
+HasMore old new = (more : List (List ℕ)) × (new ≡ old ++ more)
+
+-- it reads the same connections, of which the same bytes came
+abbrev pub ReadsAlike : Instance → Instance → Type 0
+ReadsAlike x x' = x'.front ≡ x.front
+
+-- it is the same instance still: its number, which start of it it is, and that it forgets no pattern which was refused
+-- its build
+pub record IsSameNode (x x' : Instance) : Type 0 where
+  pub number : x'.number ≡ x.number
+  pub incarnation : x'.incarnation ≡ x.incarnation
+  pub refused : HasMore (refused_in x) (refused_in x')
+
+-- .. which is up, or down, as it was
+pub record GoesOn (x x' : Instance) : Type 0 where
+  pub up : x'.up ≡ x.up
+  pub number : x'.number ≡ x.number
+  pub incarnation : x'.incarnation ≡ x.incarnation
+  pub refused : HasMore (refused_in x) (refused_in x')

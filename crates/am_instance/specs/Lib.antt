@@ -1,0 +1,6 @@
+pub mod Instance
+pub mod Leaving
+pub mod Reaction
+pub mod Shelves
+pub mod Taking
+pub mod Ticks
