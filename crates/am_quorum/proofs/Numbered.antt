@@ -131,6 +131,13 @@ fresh used n (e ∷ es) numbered past lt =
     other : e.1.number ≡ e.0 → e.0 ≤ used → (e.1.number == n) ≡ false
     other is le = grind (arith, nat_tests)
 
+pub unused_at : (used n : ℕ) (es : List (ℕ × Operation)) → AreNumbered es → AreUsed used es → used < n → operation_at n (values_of es) ≡ None
+unused_at used n [] numbered past lt = refl
+unused_at used n (e ∷ es) numbered past lt = rw (other numbered.0 past.0) (unused_at used n es numbered.1 past.1 lt)
+  where
+    other : e.1.number ≡ e.0 → e.0 ≤ used → (e.1.number == n) ≡ false
+    other is le = grind (arith, nat_tests)
+
 -- ---- what stays so
 
 pub numbered_without : (n : ℕ) (es : List (ℕ × Operation)) → AreNumbered es → AreNumbered (remove_entry (is_at (nat_cmp n)) es)

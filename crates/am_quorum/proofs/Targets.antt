@@ -65,6 +65,15 @@ module _ (n epoch : ℕ) (es : List (ℕ × Operation)) (up : IsStrictlySortedBy
       ap (λ (k : ℕ). without_operation k (values_of es)) (sym (number_found n o es numbered its))
       ∙ sym (ends from o (reply_for o.stage from) (values_of es) ready) ∙ ap (λ (x : Option Operation). acked_by from x (values_of es)) of
 
+  -- there is one
+  pub is_ready : (from : ℕ) → is_some (reply_for o.stage from) ≡ true → is_some (ready_by from (operation_of n epoch (values_of es))) ≡ true
+  is_ready from ready =
+      ap (λ (x : Option Operation). is_some (ready_by from x)) (sym of) ∙ by_reply (reply_for o.stage from) ready
+    where
+      by_reply : (reply : Option (List ℕ)) → is_some reply ≡ true → is_some (ready_with o reply) ≡ true
+      by_reply None h = absurd (cc)
+      by_reply (Some reply) h = refl
+
   -- it was there to be closed
   pub was_there : None ≡ operation_at n (values_of es) → ⊥
   was_there none =

@@ -1,5 +1,6 @@
 -- The operations of all tenants at an instance.
-use Rattle.std.specs.Prelude.{◌≡◌, ℕ, ◌+◌, ◌≤◌, List, [], ◌∷◌, ◌++◌, map, Option, Some, None, if◌then◌else◌}
+use Rattle.std.specs.Prelude.{◌≡◌, ℕ, ◌+◌, ◌^◌, ◌≤◌, nat_lt, List, [], ◌∷◌, ◌++◌, map, Option, Some, None}
+use Rattle.std.specs.Prelude.{if◌then◌else◌}
 use Rattle.std.specs.List.Sorted.{IsStrictlySortedBy}
 use Rattle.std.specs.Map.{keys_of, lookup}
 use Rattle.std.specs.Ordering.{nat_cmp}
@@ -19,6 +20,10 @@ pub record Docket : Type 0 where
 -- the docket of a tenant that has had no operation
 abbrev pub no_docket : Docket
 no_docket = record { used = 0; operations = [] }
+
+-- the number that the next operation has, where not all are used
+abbrev pub next_number : Docket → Option ℕ
+next_number docket = if nat_lt docket.used (2 ^ 62) then Some (docket.used + 1) else None
 
 -- each operation stands at its number
 abbrev pub AreNumbered : List (ℕ × Operation) → Type 0

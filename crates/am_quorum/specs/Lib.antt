@@ -2,3 +2,5 @@
 pub mod Operations
 -- .. with how many it has had
 pub mod Dockets
+-- .. and when each is given up
+pub mod Deadlines

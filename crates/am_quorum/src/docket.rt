@@ -1,21 +1,25 @@
 //! The open operations of one tenant.
 
-ghost use Rattle.std.specs.Prelude.{◌≡◌, ◌+◌, ◌^◌, ◌≤◌, ◌↔◌, ℕ, None, IfOk, IsErrOf, OnErr, OnOk};
+ghost use Rattle.std.specs.Prelude.{◌≡◌, ◌+◌, ℕ, None, IfNone, IfOk, IfSome, OnErr, OnOk};
 ghost use Rattle.std.specs.BTreeMap.{keys, values};
 ghost use Rattle.std.specs.List.Sorted.{IsStrictlySortedBy};
 ghost use Rattle.std.specs.Option.{option_copied};
 ghost use Rattle.std.specs.Ordering.{nat_cmp};
-ghost use Rattle.am_quorum.specs.Dockets.{AreNumbered, AreUsed, added, emptied, expired_in};
-ghost use Rattle.am_quorum.specs.Dockets.{no_docket, started, with_operations};
+ghost use Rattle.am_quorum.specs.Deadlines.{EndsDeadline, KeepDeadlines, without_deadlines};
+ghost use Rattle.am_quorum.specs.Dockets.{AreNumbered, AreUsed, added, emptied, expired_in, next_number};
+ghost use Rattle.am_quorum.specs.Dockets.{no_docket, with_operations};
 ghost use Rattle.am_quorum.specs.Operations.{acked_by, answered_by, connections_of, first_ack_by, late, lists_by};
-ghost use Rattle.am_quorum.specs.Operations.{opened, operation_at, operation_of, ready_by, staged, without_operation};
+ghost use Rattle.am_quorum.specs.Operations.{operation_at, operation_of, ready_by, staged, without_operation};
 ghost use Rattle.am_quorum.specs.declared.operation.Stage.TheVariants.{Decided};
 
+use crate::deadline::cancel_deadline;
 use crate::operation::{Answered, Decide, Operation, Ready, Stage};
-use am_http::{ConnectionId, Request};
-use am_item::{Fault, GREATEST_COUNT};
+use am_http::ConnectionId;
+use am_item::GREATEST_COUNT;
 use am_ring::Instance;
+use am_tenant::TenantName;
 use am_text::{Moment, Octets};
+use am_timer::TimerQueue;
 use std::alloc::{AllocError, Global};
 use std::collections::BTreeMap;
 use std::marker::Model;
@@ -66,38 +70,20 @@ impl Docket {
         }
     }
 
-    // Opens an operation with the next number, which is given.
-    pub fn start(
-        &mut self,
-        connection: ConnectionId,
-        request: Request,
-        started_at: Moment,
-        epoch: u64,
-    ) -> Result<u64, Fault>
-        ensures number { IfOk result (λ number. number ≡ self.old.used + 1) }
-        ensures started { OnOk result (self.new ≡ started (opened connection request started_at epoch) self.old) }
-        ensures fault { IsErrOf result Fault.CountsExhausted ↔ (2 ^ 62 ≤ self.old.used) }
-        ensures no_pattern { IsErrOf result Fault.PatternNotBuilt → ⊥ }
-        ensures no_store { IsErrOf result Fault.StoreRefused → ⊥ }
-        ensures err { OnErr result (self.new ≡ self.old) }
+    // The next number, where not all are used. No open operation has it.
+    pub fn next_number(&self) -> Option<u64>
+        ensures number { result ≡ next_number self.now }
+        ensures unused { operation_at (self.now.used + 1) self.now.operations ≡ None }
     {
-        if self.used >= GREATEST_COUNT {
-            return Err(Fault::CountsExhausted);
+        if self.used < GREATEST_COUNT {
+            Some(self.used + 1)
+        } else {
+            None
         }
-        let number = self.used + 1;
-        self.add(Operation {
-            number,
-            connection,
-            request,
-            started_at,
-            epoch,
-            stage: Stage::Undecided(None),
-        })?;
-        Ok(number)
     }
 
     // Adds an operation, which has the next number.
-    fn add(&mut self, operation: Operation) -> Result<(), AllocError>
+    pub fn add(&mut self, operation: Operation) -> Result<(), AllocError>
         requires { operation.number ≡ self.old.used + 1 }
         ensures added { OnOk result (self.new ≡ added operation self.old) }
         ensures err { OnErr result (self.new ≡ self.old) }
@@ -119,6 +105,7 @@ impl Docket {
             decide ≡ lists_by answered (operation_of number epoch self.old.operations)) }
         ensures docket { OnOk result (self.new
             ≡ with_operations (answered_by answered (operation_of number epoch self.old.operations)) self.old) }
+        ensures deadlines { KeepDeadlines self.old.operations self.new.operations }
         ensures err { OnErr result (self.new ≡ self.old) }
     {
         let Some(operation) = self.find(number, epoch) else {
@@ -140,8 +127,9 @@ impl Docket {
 
     // The reply of an operation that was decided waits for Acks.
     pub fn wait(&mut self, number: u64, reply: Octets)
-        ensures { self.new
+        ensures docket { self.new
             ≡ with_operations (staged (Decided reply None) (operation_at number self.old.operations)) self.old }
+        ensures deadlines { KeepDeadlines self.old.operations self.new.operations }
     {
         let stage = Stage::Decided { reply, first: None };
         set_stage(&mut self.operations, number, stage);
@@ -153,6 +141,8 @@ impl Docket {
         ensures ready { result ≡ ready_by from (operation_of number epoch self.old.operations) }
         ensures docket { self.new
             ≡ with_operations (acked_by from (operation_of number epoch self.old.operations)) self.old }
+        ensures over { IfSome result (λ _. EndsDeadline number self.old.operations self.new.operations) }
+        ensures open { IfNone result (KeepDeadlines self.old.operations self.new.operations) }
     {
         let Some(operation) = self.find(number, epoch) else {
             return None;
@@ -171,6 +161,7 @@ impl Docket {
     pub fn close(&mut self, number: u64) -> Option<Operation>
         ensures operation { result ≡ operation_at number self.old.operations }
         ensures docket { self.new ≡ with_operations (without_operation number) self.old }
+        ensures deadlines { EndsDeadline number self.old.operations self.new.operations }
     {
         self.operations.remove(&number)
     }
@@ -179,6 +170,8 @@ impl Docket {
     pub fn expire(&mut self, number: u64, now: Moment) -> Option<Operation>
         ensures operation { result ≡ late now (operation_at number self.old.operations) }
         ensures docket { self.new ≡ expired_in number now self.old }
+        ensures over { IfSome result (λ _. EndsDeadline number self.old.operations self.new.operations) }
+        ensures open { IfNone result (KeepDeadlines self.old.operations self.new.operations) }
     {
         let Some(operation) = self.operation(number) else {
             return None;
@@ -189,30 +182,32 @@ impl Docket {
         self.close(number)
     }
 
-    // Closes all operations, and gives their connections in order of number.
-    pub fn drain(&mut self, alloc: Global) -> Result<Vec<ConnectionId>, AllocError>
-        ensures connections { IfOk result (λ given. given.items ≡ connections_of self.old.operations) }
-        ensures docket { OnOk result (self.new ≡ emptied self.old) }
-        ensures err { OnErr result (self.new ≡ self.old) }
+    // The connections that wait for operations, in order of number.
+    pub fn connections(&self, alloc: Global) -> Result<Vec<ConnectionId>, AllocError>
+        ensures { IfOk result (λ given. given.items ≡ connections_of self.now.operations) }
     {
-        let connections = connections_of(alloc, &self.operations)?;
-        self.operations.clear();
+        let mut connections = Vec::new(alloc);
+        for operation in self.operations.values() {
+            connections.push(operation.connection)?;
+        }
         Ok(connections)
     }
-}
 
-// The connections that wait for operations, in order of number.
-fn connections_of(
-    alloc: Global,
-    operations: &BTreeMap<u64, Operation>,
-) -> Result<Vec<ConnectionId>, AllocError>
-    ensures { IfOk result (λ given. given.items ≡ connections_of (values operations.now)) }
-{
-    let mut connections = Vec::new(alloc);
-    for operation in operations.values() {
-        connections.push(operation.connection)?;
+    // Cancels the deadlines of all operations, which are a tenant's.
+    pub fn cancel_deadlines(&self, timers: &mut TimerQueue, tenant: &TenantName)
+        ensures { timers.new.timers ≡ without_deadlines tenant.now self.now.operations timers.old.timers }
+    {
+        for operation in self.operations.values() {
+            cancel_deadline(timers, tenant, operation.number);
+        }
     }
-    Ok(connections)
+
+    // Closes all operations.
+    pub fn clear(&mut self)
+        ensures { self.new ≡ emptied self.old }
+    {
+        self.operations.clear();
+    }
 }
 
 // Puts an operation at a stage.
@@ -220,6 +215,7 @@ fn set_stage(operations: &mut BTreeMap<u64, Operation>, number: u64, stage: Stag
     requires { AreNumbered operations.old.entries }
     ensures operations { values operations.new
         ≡ staged stage (operation_at number (values operations.old)) (values operations.old) }
+    ensures deadlines { KeepDeadlines (values operations.old) (values operations.new) }
     ensures numbered { AreNumbered operations.new.entries }
     ensures used { (n : ℕ) → AreUsed n operations.old.entries → AreUsed n operations.new.entries }
     ensures rising { IsStrictlySortedBy nat_cmp (keys operations.new) }
@@ -234,6 +230,7 @@ fn acknowledge(operations: &mut BTreeMap<u64, Operation>, number: u64, from: Ins
     requires { AreNumbered operations.old.entries }
     ensures operations { values operations.new
         ≡ first_ack_by from (operation_at number (values operations.old)) (values operations.old) }
+    ensures deadlines { KeepDeadlines (values operations.old) (values operations.new) }
     ensures numbered { AreNumbered operations.new.entries }
     ensures used { (n : ℕ) → AreUsed n operations.old.entries → AreUsed n operations.new.entries }
     ensures rising { IsStrictlySortedBy nat_cmp (keys operations.new) }

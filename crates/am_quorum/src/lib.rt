@@ -2,6 +2,7 @@
 //! for two to acknowledge.
 #![tactic(auto)]
 
+mod deadline;
 mod docket;
 mod operation;
 mod ops;

@@ -99,11 +99,18 @@ impl Answered {
 pub const DEADLINE: u64 = 5000;
 
 impl Operation {
+    // Its deadline.
+    pub(crate) fn deadline(&self) -> Moment
+        ensures { result ≡ due_of self.now }
+    {
+        self.started_at.plus(DEADLINE)
+    }
+
     // Whether its deadline has come.
     pub(crate) fn is_late(&self, now: Moment) -> bool
         ensures { result ≡ nat_le (due_of self.now) now }
     {
-        self.started_at.plus(DEADLINE) <= now
+        self.deadline() <= now
     }
 
     // Whether the reply goes out with an Ack of this replica: another one has acknowledged.

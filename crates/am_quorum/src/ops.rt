@@ -1,19 +1,26 @@
 //! The open operations of all tenants.
 
-ghost use Rattle.std.specs.Prelude.{◌≡◌, ◌+◌, ◌^◌, ◌≤◌, ◌↔◌, ℕ, List, IfOk, IsErrOf, OnErr, OnOk};
+ghost use Rattle.std.specs.Prelude.{◌≡◌, ◌+◌, ◌^◌, ◌&&◌, ◌≤◌, ◌↔◌, ℕ, List, IfOk, IsErrOf, OnErr, OnOk};
+ghost use Rattle.std.specs.List.Sorted.{IsStrictlySortedBy};
 ghost use Rattle.std.specs.Option.{option_copied};
+ghost use Rattle.am_timer.specs.Queue.{is_due};
+ghost use Rattle.am_timer.specs.Tied.{has_timer};
+ghost use Rattle.am_timer.specs.Timer.{Timer as Timed, timer_cmp};
+ghost use Rattle.am_quorum.specs.Deadlines.{is_deadline};
 ghost use Rattle.am_quorum.specs.Dockets.{Changes, Stay, acknowledged_in, answered_in, closed_in, docket_of};
 ghost use Rattle.am_quorum.specs.Dockets.{emptied, expired_in, no_docket, operations_of, started, waiting_in};
 ghost use Rattle.am_quorum.specs.Operations.{connections_of, late, lists_by, opened, operation_at, ready_by, target_in};
 ghost use Rattle.am_quorum.specs.declared.operation.Operation.{Operation};
 
+use crate::deadline::{cancel_deadline, deadline_name};
 use crate::docket::Docket;
 use crate::operation::{Answered, Decide, Operation, Ready, Stage, Target};
 use am_http::{ConnectionId, Request};
-use am_item::{Fault, GREATEST_COUNT};
+use am_item::Fault;
 use am_ring::Instance;
 use am_tenant::TenantName;
 use am_text::{Moment, Octets};
+use am_timer::{Timer, TimerQueue};
 use std::alloc::{AllocError, Global};
 use std::collections::BTreeMap;
 use std::marker::Model;
@@ -23,6 +30,7 @@ use std::marker::Model;
 pub struct Ops {
     incarnation: u32,
     dockets: BTreeMap<TenantName, Docket>,
+    timers: TimerQueue,
 }
 
 // Written out, so that a crate which owns one need not prove anew how its parts are dropped.
@@ -31,22 +39,23 @@ impl Drop for Ops {
         let Ops {
             incarnation: _incarnation,
             dockets,
+            timers,
         } = self;
         drop(dockets);
+        drop(timers);
     }
 }
 
 impl Model for Ops {
-    ghost use Rattle.std.specs.BTreeMap.{IsOrdered};
-    ghost use Rattle.std.specs.Cmp.Lexicographic.{slice_cmp};
-    ghost use Rattle.std.specs.Ordering.{nat_cmp};
+    ghost use Rattle.am_quorum.specs.Deadlines.{IsTimed};
     ghost use Rattle.am_quorum.specs.Dockets.{Ops};
 
     ghost Value = { Ops };
 
     ghost view = { λ ops. record { incarnation = ops.incarnation; dockets = ops.dockets.entries } };
 
-    ghost invariant = { λ ops. IsOrdered (slice_cmp nat_cmp) ops.dockets };
+    ghost invariant = { λ ops.
+        IsTimed (record { incarnation = ops.incarnation; dockets = ops.dockets.entries }) ops.timers.timers };
 }
 
 impl Ops {
@@ -59,6 +68,7 @@ impl Ops {
         Ops {
             incarnation,
             dockets: BTreeMap::new(alloc),
+            timers: TimerQueue::new(alloc),
         }
     }
 
@@ -94,11 +104,27 @@ impl Ops {
         ensures err { OnErr result (Stay self.old self.new) }
         ensures incarnation { self.new.incarnation ≡ self.old.incarnation }
     {
-        let docket = self
-            .dockets
-            .entry(request.tenant)?
-            .or_insert(Docket::new(alloc));
-        docket.start(connection, request, started_at, epoch)
+        let tenant = request.tenant;
+        let docket = self.dockets.entry(tenant)?.or_insert(Docket::new(alloc));
+        let Some(number) = docket.next_number() else {
+            return Err(Fault::CountsExhausted);
+        };
+        let operation = Operation {
+            number,
+            connection,
+            request,
+            started_at,
+            epoch,
+            stage: Stage::Undecided(None),
+        };
+        let name = deadline_name(&tenant, number);
+        let due = operation.deadline();
+        self.timers.set(alloc, Timer { due, name })?;
+        if docket.add(operation).is_err() {
+            cancel_deadline(&mut self.timers, &tenant, number);
+            return Err(Fault::OutOfMemory);
+        }
+        Ok(number)
     }
 
     /// Takes the answer of a replica to a tenant's operation. The first one is kept. Once another replica's comes, the
@@ -156,7 +182,11 @@ impl Ops {
         let Some(docket) = self.dockets.get_mut(tenant) else {
             return None;
         };
-        docket.ack(target.number, target.epoch, from)
+        let ready = docket.ack(target.number, target.epoch, from);
+        if ready.is_some() {
+            cancel_deadline(&mut self.timers, tenant, target.number);
+        }
+        ready
     }
 
     /// Closes a tenant's operation of a number, where it is open.
@@ -168,6 +198,7 @@ impl Ops {
         let Some(docket) = self.dockets.get_mut(tenant) else {
             return None;
         };
+        cancel_deadline(&mut self.timers, tenant, number);
         docket.close(number)
     }
 
@@ -182,7 +213,27 @@ impl Ops {
         let Some(docket) = self.dockets.get_mut(tenant) else {
             return None;
         };
-        docket.expire(number, now)
+        let expired = docket.expire(number, now);
+        if expired.is_some() {
+            cancel_deadline(&mut self.timers, tenant, number);
+        }
+        expired
+    }
+
+    /// Gives the deadlines of all tenants' operations that are at the moment or before it, in order: by moment, then
+    /// tenant, then number. It looks at no other deadline but the next one, and changes nothing: the operations stay
+    /// open until each is closed by [`Ops::expire`].
+    ///
+    /// # Errors
+    /// Out of memory.
+    pub fn due(&mut self, alloc: Global, now: Moment) -> Result<Vec<Timer>, AllocError>
+        ensures due { IfOk result (λ due.
+            (x : Timed) → has_timer due.items x ≡ (is_due now x && is_deadline self.old x)) }
+        ensures order { IfOk result (λ due. IsStrictlySortedBy timer_cmp due.items) }
+        ensures stays { self.new ≡ self.old }
+    {
+        let due = self.timers.due(alloc, now)?;
+        Ok(due)
     }
 
     /// The tenant's replicas changed: closes all its operations, and gives their connections in order of number. Their
@@ -203,6 +254,9 @@ impl Ops {
         let Some(docket) = self.dockets.get_mut(tenant) else {
             return Ok(Vec::new(alloc));
         };
-        docket.drain(alloc)
+        let connections = docket.connections(alloc)?;
+        docket.cancel_deadlines(&mut self.timers, tenant);
+        docket.clear();
+        Ok(connections)
     }
 }

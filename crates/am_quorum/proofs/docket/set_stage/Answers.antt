@@ -4,6 +4,8 @@ use Rattle.am_quorum.specs.declared.operation.Operation.{Operation}
 use Rattle.am_quorum.specs.Dockets.{AreNumbered, AreUsed}
 use Rattle.am_quorum.specs.Operations.{staged}
 use Rattle.am_quorum.proofs.Numbered.{found, number_found, numbered_written, put_at_stage, used_written}
+use Rattle.am_quorum.specs.Deadlines.{deadline_at}
+use Rattle.am_quorum.proofs.Deadlines.{staged_keeps}
 use Rattle.am_quorum.proofs.docket.set_stage.Goals as goal
 
 pub returns-in-Some-clause-operations : goal.returns-in-Some-clause-operations
@@ -30,3 +32,11 @@ returns-in_default-clause-operations c =
     let es = c.args.operations.now.entries in
     rw c.get_mut.follows.holds-at-none
     (sym (ap (λ (o : Option Operation). staged c.args.stage o (values_of es)) (found c.args.number es c.requires ∙ sym c.in_default.ensures.value)))
+
+pub returns-in-Some-clause-deadlines : goal.returns-in-Some-clause-deadlines
+returns-in-Some-clause-deadlines c n =
+    ap (deadline_at n) (returns-in-Some-clause-operations c) ∙ staged_keeps c.args.stage c.args.number (values_of c.args.operations.now.entries) n
+
+pub returns-in_default-clause-deadlines : goal.returns-in_default-clause-deadlines
+returns-in_default-clause-deadlines c n =
+    ap (deadline_at n) (returns-in_default-clause-operations c) ∙ staged_keeps c.args.stage c.args.number (values_of c.args.operations.now.entries) n

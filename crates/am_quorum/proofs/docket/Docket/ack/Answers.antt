@@ -3,7 +3,8 @@ use Rattle.std.specs.Option.{is_some}
 use Rattle.am_quorum.specs.declared.operation.Operation.{Operation}
 use Rattle.am_quorum.specs.Dockets.{Docket}
 use Rattle.am_quorum.specs.Operations.{reply_for}
-use Rattle.am_quorum.proofs.Targets.{closed_by, first_acked, reply_out, was_there}
+use Rattle.am_quorum.proofs.Targets.{closed_by, first_acked, is_ready, reply_out, was_there}
+use Rattle.am_quorum.proofs.Deadlines.{if_none, if_some}
 use Rattle.am_quorum.proofs.docket.Docket.ack.Goals as goal
 
 -- a docket of these operations
@@ -46,3 +47,18 @@ returns-clause-docket c =
     rw (← c.self.view_is) (ap (docket c.self.inside.used)
     (first_acked c.args.number c.args.epoch c.self.inside.operations.entries c.self.invariant.rising c.self.invariant.numbered c.in-Some.operation.now
     (rw (← c.self.view_is) at c.in-Some.ensures) c.args.from _ waits c.acknowledge.ensures.operations))
+
+pub returns-in-Some-close-clause-over : goal.returns-in-Some-close-clause-over
+returns-in-Some-close-clause-over c = if_some c.into_ready.result c.close.ensures.deadlines
+
+pub returns-in-Some-close-clause-open : goal.returns-in-Some-close-clause-open
+returns-in-Some-close-clause-open c =
+    let ready : is_some (reply_for c.in-Some.operation.now.stage c.args.from) ≡ true = sym c.is_ready_by.ensures ∙ c.if-is_ready_by.true in
+    if_none _ c.into_ready.result (ap is_some (returns-in-Some-close-clause-ready c) ∙ rw (← c.self.view_is)
+    (is_ready c.args.number c.args.epoch c.self.inside.operations.entries c.self.invariant.rising c.self.invariant.numbered c.in-Some.operation.now
+    (rw (← c.self.view_is) at c.in-Some.ensures) c.args.from ready))
+
+pub returns-in-None-clause-open : goal.returns-in-None-clause-open
+returns-in-None-clause-open c =
+    absurd (was_there c.args.number c.args.epoch c.self.inside.operations.entries c.self.invariant.rising c.self.invariant.numbered c.in-Some.operation.now
+    (rw (← c.self.view_is) at c.in-Some.ensures) (rw (← c.self.view_is) at c.in-None.ensures.operation))

@@ -1,26 +1,9 @@
-use Rattle.std.proofs.Common.{◌≡◌, ◌==◌, ℕ, Bool, true, false, List, [], ◌∷◌, Option, Some, None, nat_le, refl, sym, ap, ◌∙◌, arith}
-use Rattle.std.proofs.lemmas.Bool.Decides.{nat_tests}
+use Rattle.std.proofs.Common.{◌≡◌, ℕ, true, false, Option, Some, None, nat_le, is_some, refl, sym, ap, ◌∙◌}
 use Rattle.am_quorum.specs.declared.operation.Operation.{Operation}
 use Rattle.am_quorum.specs.Dockets.{with_operations}
 use Rattle.am_quorum.specs.Operations.{due_of, late, operation_at, without, without_operation}
+use Rattle.am_quorum.proofs.Deadlines.{if_none, if_some, number_at}
 use Rattle.am_quorum.proofs.docket.Docket.expire.Goals as goal
-
--- an operation that is found by its number has it
-has_number : (n : ℕ) (o : Operation) (ops : List Operation) → operation_at n ops ≡ Some o → o.number ≡ n
-has_number n o [] at = absurd (cc)
-has_number n o (x ∷ xs) at = by_cases (x.number == n) refl (has_number n o xs)
-  where
-    same_numbers : (a b : ℕ) → (a == b) ≡ true → a ≡ b
-    same_numbers a b h = grind (arith, nat_tests)
-
-    by_cases : (b : Bool) → (x.number == n) ≡ b → (operation_at n xs ≡ Some o → o.number ≡ n) → o.number ≡ n
-    by_cases true h rest =
-        let there : Some x ≡ Some o = rw h at at in
-        let one : x ≡ o = cc in
-        ap (λ (y : Operation). y.number) (sym one) ∙ same_numbers x.number n h
-    by_cases false h rest =
-        let there : operation_at n xs ≡ Some o = rw h at at in
-        rest there
 
 late_one : (now : ℕ) (o : Operation) → nat_le (due_of o) now ≡ true → late now (Some o) ≡ Some o
 late_one now o h = rw h refl
@@ -52,8 +35,14 @@ returns-clause-operation c =
 pub returns-clause-docket : goal.returns-clause-docket
 returns-clause-docket c =
     let o = c.in-Some.operation.now in
-    let number : o.number ≡ c.args.number = has_number c.args.number o c.args.self.now.operations (sym c.in-Some.ensures) in
+    let number : o.number ≡ c.args.number = number_at c.args.number o c.args.self.now.operations (sym c.in-Some.ensures) in
     let due : Some o ≡ late c.args.now (operation_at c.args.number c.args.self.now.operations) =
     sym (late_one c.args.now o (sym c.is_late.ensures ∙ c.if-not-is_late.false)) ∙ ap (late c.args.now) c.in-Some.ensures in
     c.close.ensures.docket ∙ ap (λ (n : ℕ). with_operations (without_operation n) c.args.self.now) (sym number)
     ∙ ap (λ (x : Option Operation). with_operations (without x) c.args.self.now) due
+
+pub returns-clause-over : goal.returns-clause-over
+returns-clause-over c = if_some c.close.result c.close.ensures.deadlines
+
+pub returns-clause-open : goal.returns-clause-open
+returns-clause-open c = if_none _ c.close.result (ap is_some (c.close.ensures.operation ∙ sym c.in-Some.ensures))

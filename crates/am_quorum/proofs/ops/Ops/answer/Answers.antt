@@ -1,9 +1,10 @@
-use Rattle.std.proofs.Common.{◌≡◌, Option, sym, ap, ◌∙◌, arith}
+use Rattle.std.proofs.Common.{◌≡◌, Option, refl, sym, ap, ◌∙◌, arith}
 use Rattle.std.proofs.lemmas.Result.{IfOk-weaker, on_err_weaker, on_ok_weaker}
 use Rattle.am_quorum.specs.declared.operation.Operation.{Operation}
 use Rattle.am_quorum.specs.Dockets.{Docket, answered_in, no_docket, with_operations}
 use Rattle.am_quorum.specs.Operations.{answered_by, lists_by, target_in}
 use Rattle.am_quorum.proofs.Seen.{each_none, each_same, each_written, no_own, nobody, own_docket, target_here}
+use Rattle.am_quorum.proofs.Timed.{is_kept}
 use Rattle.am_quorum.proofs.ops.Ops.answer.Goals as goal
 
 pub returns-in_default-clause-decide : goal.returns-in_default-clause-decide
@@ -49,3 +50,9 @@ returns-clause-err c =
     (λ it t. each_same i c.self.inside.dockets (c.get_mut.follows.lender now) c.args.tenant.now c.in-Some.docket.now now c.in-Some.ensures.value
     (c.get_mut.follows.holds now) it t)
     c.answer.ensures.err)
+
+pub invariant_of-self-2 : goal.invariant_of-self-2
+invariant_of-self-2 c =
+    let now = c.answer.new.self in
+    is_kept c.self.inside.incarnation c.self.inside.dockets (c.get_mut.follows.lender now) c.args.tenant.now c.in-Some.docket.now now c.in-Some.ensures.value
+    (c.get_mut.follows.holds now) c.self.inside.timers.timers c.self.inside.timers.timers c.self.invariant refl c.answer.ensures.deadlines
