@@ -1,0 +1,167 @@
+//! Does what settling costs, so often as its arguments say, for `bench/settling`, which times it.
+//!
+//! `prepare TENANTS ITEMS` makes what is held of so many tenants, so many items of each. `change TENANTS ITEMS` does
+//! that, and a ring is learned under which another instance is the tenants' replica: their States begin to be pushed to
+//! it. `state ITEMS` hands a State over, piece by piece, and `ticks TENANTS TICKS` asks so often what is sent again, of
+//! so many tenants whose push runs, where nothing is due.
+#![tactic(auto)]
+
+use am_item::{Item, Stamp, Thing};
+use am_tenant::TenantName;
+use am_text::{Moment, Text};
+use am_transfer::{Peer, Settling, SharedItem, Span};
+use anyhow::{Context, Result, bail};
+use std::alloc::Global;
+use std::env;
+
+/// The instance whose States are sent.
+const SENDER: Peer = Peer {
+    instance: 2,
+    incarnation: 1,
+};
+
+/// The instance that is new among a tenant's three.
+const RECEIVER: Peer = Peer {
+    instance: 4,
+    incarnation: 1,
+};
+
+/// The other two of the sender's three once the ring is learned, and the three before.
+const OTHERS: [u8; 2] = [1, 4];
+
+const BEFORE: [u8; 3] = [1, 2, 3];
+
+/// What is known of a configuration's text, so that an item has some 200 bytes.
+const TEXT_LENGTH: usize = 170;
+
+/// A tenant and what is held of it.
+#[derive(Drop)]
+struct Holding {
+    tenant: TenantName,
+    held: Vec<SharedItem>,
+}
+
+fn main(rt: HostRuntime) -> Result<()> {
+    let alloc = rt.alloc();
+    let words: Vec<String> = env::args(&rt)?.skip(1).collect(alloc)?;
+    let Some(task) = words.first() else {
+        bail!("prepare, change, state or ticks");
+    };
+    let first = number(&words, 1)?;
+    let done = match task.as_str() {
+        "prepare" => holdings(alloc, first, number(&words, 2)?)?.len(),
+        "change" => change(alloc, first, number(&words, 2)?)?,
+        "state" => hand_over(alloc, first)?,
+        "ticks" => tick(alloc, first, number(&words, 2)?)?,
+        _ => bail!("prepare, change, state or ticks"),
+    };
+    println!(rt; "{done}")?;
+    Ok(())
+}
+
+/// A number among the words.
+fn number(words: &[String], place: usize) -> Result<u32> {
+    let word = words.get(place).context("a number is lacking")?;
+    Ok(word.as_str().parse::<u32>()?)
+}
+
+fn moment(milliseconds: u64) -> Result<Moment> {
+    Moment::from_milliseconds(milliseconds).context("no moment")
+}
+
+/// An item of some 200 bytes.
+fn item(alloc: Global, count: u32) -> Result<SharedItem> {
+    let text = String::from_utf8(vec![in alloc; b'x'; TEXT_LENGTH]?)?;
+    let stamp = Stamp {
+        moment: moment(0)?,
+        instance: SENDER.instance,
+        incarnation: SENDER.incarnation,
+        count: u64::from(count),
+    };
+    let thing = Thing::Configuration(Some(Text::from_string(text)));
+    Ok(SharedItem::new(alloc, Item { stamp, thing })?)
+}
+
+fn items(alloc: Global, count: u32) -> Result<Vec<SharedItem>> {
+    let mut items = Vec::new(alloc);
+    for number in 0..count {
+        items.push(item(alloc, number)?)?;
+    }
+    Ok(items)
+}
+
+fn holding_of(alloc: Global, number: u32, count: u32) -> Result<Holding> {
+    let name = format!(in alloc; "tenant-{number}")?;
+    let tenant = TenantName::read(name.as_bytes()).ok().context("no tenant")?;
+    let held = items(alloc, count)?;
+    Ok(Holding { tenant, held })
+}
+
+/// So many tenants, so many items of each.
+fn holdings(alloc: Global, tenants: u32, count: u32) -> Result<Vec<Holding>> {
+    let mut holdings = Vec::new(alloc);
+    for number in 0..tenants {
+        holdings.push(holding_of(alloc, number, count)?)?;
+    }
+    Ok(holdings)
+}
+
+/// A ring is learned under which another instance is a tenant's replica, and its State begins to be pushed there.
+fn learn(alloc: Global, settling: &mut Settling, holding: &Holding) -> Result<usize> {
+    let tenant = &holding.tenant;
+    let receivers = settling.changed(alloc, tenant, &OTHERS, &BEFORE)?;
+    let mut pieces = 0;
+    for instance in receivers {
+        let receiver = Peer {
+            instance,
+            incarnation: RECEIVER.incarnation,
+        };
+        let pushed = settling.push(alloc, tenant, receiver, moment(0)?, &holding.held)?;
+        pieces = pushed.len();
+    }
+    Ok(pieces)
+}
+
+/// A ring change of so many tenants. Gives how many pieces the last State has.
+fn change(alloc: Global, tenants: u32, count: u32) -> Result<usize> {
+    let holdings = holdings(alloc, tenants, count)?;
+    let mut settling = Settling::new(alloc);
+    let mut pieces = 0;
+    for holding in &holdings {
+        pieces = learn(alloc, &mut settling, holding)?;
+    }
+    Ok(pieces)
+}
+
+/// A State of so many items, each piece of which comes and is answered by a Got. Gives the place that the last one
+/// told.
+fn hand_over(alloc: Global, count: u32) -> Result<usize> {
+    let Holding { tenant, held } = holding_of(alloc, 0, count)?;
+    let (mut sender, mut receiver) = (Settling::new(alloc), Settling::new(alloc));
+    let mut behind = 0;
+    for piece in sender.push(alloc, &tenant, RECEIVER, moment(0)?, &held)? {
+        let place = u32::try_from(piece.place())?;
+        let span = Span {
+            count: u32::try_from(piece.items().len())?,
+            is_last: piece.is_last(),
+        };
+        let told = receiver.state(alloc, &tenant, SENDER, place, span, &OTHERS)?;
+        behind = usize::try_from(told)?;
+        sender.got(alloc, &tenant, RECEIVER, RECEIVER.incarnation, behind)?;
+    }
+    Ok(behind)
+}
+
+/// So many ticks at which nothing is due, where the States of so many tenants are pushed. Gives what was due.
+fn tick(alloc: Global, tenants: u32, ticks: u32) -> Result<usize> {
+    let mut settling = Settling::new(alloc);
+    for holding in holdings(alloc, tenants, 1)? {
+        learn(alloc, &mut settling, &holding)?;
+    }
+    let now = moment(1)?;
+    let mut due = 0;
+    for _ in 0..ticks {
+        due = settling.due(alloc, now)?.len();
+    }
+    Ok(due)
+}
