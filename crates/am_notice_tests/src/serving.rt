@@ -2,7 +2,8 @@
 
 use am_expect::{equal, holds};
 use am_serve::{
-    Calls, Clients, Dialed, Host, Lanes, Moved, Progress, Socket, Turn, Verdict, read_from,
+    Calls, Clients, ClockNews, Dialed, Host, Lanes, Moved, Progress, Socket, SteadyClock, Turn,
+    Verdict, read_from,
 };
 use am_tenant::TenantName;
 use std::alloc::Global;
@@ -28,6 +29,7 @@ struct Fake {
     // The other side ends once it gave its text.
     ends: bool,
     connected: bool,
+    is_reset: bool,
 }
 
 impl Socket for Fake {
@@ -57,6 +59,10 @@ impl Socket for Fake {
         Moved::Bytes(count)
     }
 
+    fn stands(&mut self) -> bool {
+        !self.is_reset
+    }
+
     fn finish(&mut self) -> io::Result<()> {
         self.ends = true;
         Ok(())
@@ -79,6 +85,7 @@ fn socket(text: &'static [u8], wanted: &'static [u8], breaks_at: u32, ends: bool
         breaks_at,
         ends,
         connected: false,
+        is_reset: false,
     }
 }
 
@@ -233,6 +240,76 @@ fn silent_clients_are_let_go(rt: HostRuntime) -> Result<(), Fail> {
     silent_client(rt.alloc(), start, 6, true)
 }
 
+// Whether a client gives its place so many seconds after the start, and how many are left and closed then: the first
+// asked at the start and sent a part a second later, the second came at the start and stays silent.
+type PlaceRow = (u64, bool, usize, u32);
+
+const PLACES: &[PlaceRow] = &[(0, false, 2, 0), (1, true, 1, 1), (3, true, 1, 1)];
+
+// The first client's next turn after the other gave its place; or the place wasn't given.
+fn place(
+    clients: &mut Clients<Fake>,
+    desk: &mut Desk,
+    start: Instant,
+    seconds: u64,
+) -> Option<bool> {
+    let first = add(clients, socket(b"ab", DONE, 0, false), desk, start)?;
+    add(clients, socket(b"", DONE, 0, false), desk, start)?;
+    clients.turn(first, desk, after(start, 1), &mut [0; 4096])?;
+    let gives = clients.make_place(desk, after(start, seconds));
+    clients.turn(first, desk, after(start, seconds), &mut [0; 4096])?;
+    Some(gives)
+}
+
+fn silent_one_gives_place(alloc: Global, row: &PlaceRow, start: Instant) -> Result<(), Fail> {
+    let (seconds, gives, left, closed) = *row;
+    let mut desk = Desk::new(alloc, DONE);
+    let mut clients = Clients::new(alloc, 2)?;
+    let given = place(&mut clients, &mut desk, start, seconds);
+    equal(
+        (given, clients.len(), desk.closed),
+        (Some(gives), left, closed),
+        seconds,
+    )
+}
+
+#[test]
+fn silent_clients_give_place(rt: HostRuntime) -> Result<(), Fail> {
+    let start = Instant::now(&rt)?;
+    for row in PLACES {
+        silent_one_gives_place(rt.alloc(), row, start)?;
+    }
+    Ok(())
+}
+
+// Whether a client that has sent its whole request is let go before its turn.
+fn checked(
+    clients: &mut Clients<Fake>,
+    desk: &mut Desk,
+    is_reset: bool,
+    now: Instant,
+) -> Option<bool> {
+    let mut fake = socket(b"abc.", DONE, 0, false);
+    fake.is_reset = is_reset;
+    let key = add(clients, fake, desk, now)?;
+    Some(clients.check(key, desk))
+}
+
+fn check_of(alloc: Global, is_reset: bool, now: Instant) -> Result<(), Fail> {
+    let mut desk = Desk::new(alloc, DONE);
+    let mut clients = Clients::new(alloc, 1)?;
+    let lost = checked(&mut clients, &mut desk, is_reset, now);
+    let found = (lost, clients.is_empty(), desk.closed == 1);
+    equal(found, (Some(is_reset), is_reset, is_reset), is_reset)
+}
+
+#[test]
+fn clients_that_were_reset_are_let_go(rt: HostRuntime) -> Result<(), Fail> {
+    let now = Instant::now(&rt)?;
+    check_of(rt.alloc(), false, now)?;
+    check_of(rt.alloc(), true, now)
+}
+
 type CallRow = (&'static str, u32, Option<u16>);
 
 // What a call is answered, the write at which its socket breaks, and the status it ends with.
@@ -363,4 +440,60 @@ fn tenants_leave_places(rt: HostRuntime) -> Result<(), Fail> {
     let first = TenantName::read(b"first")?;
     let second = TenantName::read(b"second")?;
     leaves_places(&mut Lanes::new(rt.alloc()), first, second)
+}
+
+/// What the wall clock and the monotonic clock say, the moment then, and what is told.
+type Reading = (u64, u64, u64, Option<ClockNews>);
+
+// A clock that was opened where the wall clock said 1,000,000.
+const READINGS: &[Reading] = &[
+    (1_000_500, 500, 1_000_500, None),
+    // Forty seconds ahead at once, and back.
+    (1_041_000, 1_000, 1_041_000, None),
+    (1_002_000, 2_000, 1_042_000, Some(ClockNews::Behind(40_000))),
+    (1_003_000, 3_000, 1_043_000, None),
+    (1_043_500, 3_500, 1_043_500, None),
+    // A little behind isn't told.
+    (1_043_600, 4_000, 1_044_000, None),
+    // Just a minute ahead is believed, a little more only once it stood.
+    (1_105_000, 5_000, 1_105_000, None),
+    (1_166_001, 6_000, 1_106_000, Some(ClockNews::Ahead(60_001))),
+    (1_196_000, 35_999, 1_135_999, None),
+    (
+        1_196_001,
+        36_000,
+        1_196_001,
+        Some(ClockNews::Believed(60_001)),
+    ),
+    // One that doesn't stand ahead is doubted anew.
+    (
+        9_000_000,
+        37_000,
+        1_197_001,
+        Some(ClockNews::Ahead(7_802_999)),
+    ),
+    (1_198_001, 38_000, 1_198_001, None),
+    (
+        9_000_000,
+        68_000,
+        1_228_001,
+        Some(ClockNews::Ahead(7_771_999)),
+    ),
+    (9_000_000, 97_999, 1_258_000, None),
+    (
+        9_000_000,
+        98_000,
+        9_000_000,
+        Some(ClockNews::Believed(7_741_999)),
+    ),
+];
+
+#[test]
+fn clock_steps(_rt: HostRuntime) -> Result<(), Fail> {
+    let mut clock = SteadyClock::new(1_000_000, 0);
+    for (wall, now, moment, news) in READINGS {
+        let told = clock.read(*wall, *now);
+        equal((clock.moment(), told), (*moment, *news), *now)?;
+    }
+    Ok(())
 }

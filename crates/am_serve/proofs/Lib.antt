@@ -1,6 +1,7 @@
 pub mod ActLists
 pub mod Steps
 pub mod Sums
+pub mod Longest
 pub mod Turns
 pub mod Calling
 pub mod CallTurns

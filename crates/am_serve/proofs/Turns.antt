@@ -14,7 +14,7 @@ use Rattle.am_serve.specs.Tables.{LetsGo, TakesTurnAt}
 
 module _ {T : Type 0} where
   -- a key that has a value is within the table
-  within : (xs : List (Option T)) (key : ℕ) (value : T) → Some value ≡ get_or xs key None → key < length xs
+  pub within : (xs : List (Option T)) (key : ℕ) (value : T) → Some value ≡ get_or xs key None → key < length xs
   within [] zero value h = absurd (cc)
   within [] (suc key) value h = absurd (cc)
   within (x ∷ xs) zero value h = omega arith

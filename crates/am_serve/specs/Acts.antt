@@ -19,6 +19,11 @@ abbrev pub answer_of : {E : Type 0} → Result Bool E → Option Bool
 answer_of (Ok stands) = Some stands
 answer_of (Err _) = None
 
+-- a connection that came in stands, or failed
+abbrev pub standing : Bool → Option Bool
+standing true = Some true
+standing false = None
+
 -- there is a byte
 abbrev pub has_byte : List ℕ → Bool
 has_byte [] = false

@@ -3,8 +3,10 @@ pub mod Acts
 pub mod Outgoings
 pub mod Clients
 pub mod Pools
+pub mod Giving
 pub mod Tables
 pub mod Statuses
 pub mod Calls
 pub mod CallTables
 pub mod Lanes
+pub mod Clocks

@@ -1,12 +1,14 @@
 -- What is done to a table of clients.
-use Rattle.std.specs.Prelude.{◌≡◌, ◌≢◌, ◌⊎◌, ℕ, ◌+◌, Bool, true, false, List, Option, Some, None, IsSomeAnd}
+use Rattle.std.specs.Prelude.{◌≡◌, ◌≢◌, ◌⊎◌, ℕ, ◌+◌, Bool, true, false, not, List, Option, Some, None, IsSomeAnd}
 use Rattle.std.specs.declared.time.Instant.{Instant}
 use Rattle.slab.specs.Slab.{Slab, get}
-use Rattle.am_serve.specs.Acts.{Act}
+use Rattle.am_serve.specs.Acts.{Act, Ask, standing}
 use Rattle.am_serve.specs.Clients.{IsAsking, Turned, first_client, lets_go}
+use Rattle.am_serve.specs.Giving.{GivesWay, RelievesAll}
 use Rattle.am_serve.specs.Pools.{most_for}
 use Rattle.am_serve.specs.declared.client.Client.{Client}
 use Rattle.am_serve.specs.declared.client.Turn.{Turn}
+use Rattle.am_serve.specs.declared.giving.Wanted.TheVariants.{Place}
 use Rattle.am_serve.specs.declared.host.Verdict.{Verdict}
 
 -- every other key keeps what it had
@@ -48,3 +50,39 @@ module _ {S H : Type 0} (does : S → Act → S → Type 0) (takes : H → ℕ �
   abbrev pub TakesTurnAt : Instant → Slab (Client S) → Slab (Client S) → ℕ → Option (Client S) → H → H → Option Turn → Type 0
   TakesTurnAt now old new key None before after result = (result ≡ None) × (after ≡ before) × (new ≡ old)
   TakesTurnAt now old new key (Some client) before after result = IsSomeAnd result (TakesTurn now old new key client before after)
+
+module _ {S H : Type 0} (does : S → Act → S → Type 0) (takes : H → ℕ → List ℕ → Verdict → H → Type 0)
+    (closes : H → ℕ → H → Type 0) where
+  -- a turn was taken at a key, and then clients were let go for what the replies held
+  pub record TakesTurnWithin (now : Instant) (old new : Slab (Client S)) (key : ℕ) (client : Option (Client S))
+      (before after : H) (result : Option Turn) : Type 0 where
+    pub middle : Slab (Client S)
+    pub turned : TakesTurnAt does takes closes now old middle key client before after result
+    pub others : Others old middle key
+    pub relieved : RelievesAll middle new
+
+module _ {S H : Type 0} (does : S → Act → S → Type 0) (closes : H → ℕ → H → Type 0) where
+  -- the socket of a client whose request isn't whole was asked whether its connection stands, and the client was let
+  -- go where it doesn't
+  pub record Checks (old new : Slab (Client S)) (key : ℕ) (client : Client S)
+      (before after : H) (lost : Bool) : Type 0 where
+    pub socket : S
+    pub asked : does client.socket (Ask (standing (not lost))) socket
+    pub stays : lost ≡ false → (get new key ≡ Some (record client { socket = socket })) × (after ≡ before)
+    pub goes : lost ≡ true → LetsGo closes client (get new key) before after
+
+  -- what a check of a key does; it does nothing where no client has the key, or the host has its whole request
+  abbrev pub ChecksAt : Slab (Client S) → Slab (Client S) → ℕ → Option (Client S) → H → H → Bool → Type 0
+  ChecksAt old new key None before after lost = (lost ≡ false) × (new ≡ old) × (after ≡ before)
+  ChecksAt old new key (Some client) before after lost =
+      (IsAsking client.stage → Checks old new key client before after lost)
+      × ((IsAsking client.stage → ⊥) → (lost ≡ false) × (new ≡ old) × (after ≡ before))
+
+module _ {S H : Type 0} (closes : H → ℕ → H → Type 0) where
+  -- of the clients without a whole request that are there for a second the one that is longest without a byte moved
+  -- was let go
+  pub record GivesPlace (old new : Slab (Client S)) (now : Instant) (before after : H) : Type 0 where
+    pub key : ℕ
+    pub longest : GivesWay (Place now) old key
+    pub goes : LetsGo closes longest.client (get new key) before after
+    pub others : Others old new key

@@ -1,7 +1,9 @@
 //! One client.
-ghost use Rattle.std.specs.Prelude.{◌≡◌, ℕ, [], ◌≤◌, ◌+◌, ◌-◌, ◌^◌, ◌<◌, ◌↔◌, IsTrue, length};
+ghost use Rattle.std.specs.Prelude.{◌≡◌, ℕ, [], ◌≤◌, ◌+◌, ◌-◌, ◌^◌, ◌<◌, ◌↔◌, IsTrue, false, length, not};
 ghost use Rattle.std.specs.Time.{instant_nanos};
+ghost use Rattle.am_serve.specs.Acts.{Ask, standing};
 
+use crate::giving::Wanted;
 use crate::host::{Host, Verdict};
 use crate::outgoing::Outgoing;
 use crate::socket::{Moved, PIECE_BYTES, STEPS, Socket};
@@ -14,6 +16,9 @@ pub const OWN_BYTES: usize = 32_768;
 const SILENCE_SECONDS: u64 = 5;
 
 const WHOLE_SECONDS: u64 = 40;
+
+// After how many seconds a client whose request isn't whole gives its place to others.
+const SETTLED_SECONDS: u64 = 1;
 
 // Where the first digit of a reply's status stands: after `HTTP/1.1 `.
 const STATUS_INDEX: usize = 9;
@@ -81,6 +86,7 @@ pub struct Client<S: Socket> {
 
 impl<S: Socket> Client<S> {
     ghost use Rattle.am_serve.specs.Clients.{HandsOn, IsAsking, IsDraining, IsStale, IsSuccess, IsTelling, IsTold, Turned, Works, excess_of, first_client, whole_reply};
+    ghost use Rattle.am_serve.specs.Giving.{Gives, reply_bytes};
 
     // A client that sent nothing yet.
     pub fn new(socket: S, connection: u64, now: Instant) -> Client<S>
@@ -114,6 +120,45 @@ impl<S: Socket> Client<S> {
         ensures { result ≡ self.now.connection }
     {
         self.connection
+    }
+
+    // When a byte was last read or written, or it had to wait for room.
+    pub fn moved(&self) -> Instant
+        ensures { result ≡ self.now.moved }
+    {
+        self.moved
+    }
+
+    // How many bytes its reply holds: the whole, until the last byte was taken.
+    pub fn reply_bytes(&self) -> usize
+        ensures { result ≡ reply_bytes self.now.stage }
+    {
+        match &self.stage {
+            Stage::Telling(reply) => reply.undelivered(),
+            Stage::Asking | Stage::Draining => 0,
+        }
+    }
+
+    // Whether it has what is wanted of a client that gives way.
+    pub fn gives(&self, wanted: Wanted) -> bool
+        ensures { IsTrue result ↔ Gives wanted self.now }
+    {
+        match wanted {
+            Wanted::Reply => self.reply_bytes() > 0,
+            Wanted::Place(now) => {
+                self.is_asking()
+                    && now.saturating_duration_since(self.opened).as_secs() >= SETTLED_SECONDS
+            }
+        }
+    }
+
+    // Whether its connection failed before the host had its whole request.
+    pub fn is_lost(&mut self) -> bool
+        ensures asked { IsAsking self.old.stage → S.does self.old.socket (Ask (standing (not result))) self.new.socket }
+        ensures rest { self.new ≡ record self.old { socket = self.new.socket } }
+        ensures decided { (IsAsking self.old.stage → ⊥) → (result ≡ false) × (self.new ≡ self.old) }
+    {
+        self.is_asking() && !self.socket.stands()
     }
 
     // Whether it is silent for too long, or there for too long.

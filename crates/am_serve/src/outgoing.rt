@@ -1,5 +1,5 @@
 //! Bytes on their way out.
-ghost use Rattle.std.specs.Prelude.{◌≡◌, ◌≢◌, ◌≤◌, ◌<◌, ◌↔◌, [], IsTrue, drop, take, slice_get, vec_len};
+ghost use Rattle.std.specs.Prelude.{◌≡◌, ◌≢◌, ◌≤◌, ◌<◌, ◌^◌, ◌↔◌, [], IsTrue, drop, take, slice_get, vec_len};
 ghost use Rattle.am_serve.specs.Acts.{Write};
 ghost use Rattle.am_serve.specs.Sockets.{count_of};
 
@@ -11,10 +11,11 @@ pub struct Outgoing {
     bytes: Vec<u8>,
     sent: usize,
     ghost within: { sent ≤ vec_len bytes },
+    ghost fits: { vec_len bytes < 2 ^ 64 },
 }
 
 impl Outgoing {
-    ghost use Rattle.am_serve.specs.Outgoings.{Sends, unsent};
+    ghost use Rattle.am_serve.specs.Outgoings.{Sends, undelivered, unsent};
 
     // None of these bytes was sent yet.
     pub fn new(bytes: Vec<u8>) -> Outgoing
@@ -29,6 +30,14 @@ impl Outgoing {
         ensures { IsTrue result ↔ (unsent self.now ≡ []) }
     {
         self.rest().is_empty()
+    }
+
+    // How many bytes it holds: the whole, until the last byte was sent.
+    #[tactic(auto, unfolding(crate::specs::Outgoings::undelivered))]
+    pub fn undelivered(&self) -> usize
+        ensures { result ≡ undelivered self.now }
+    {
+        if self.is_sent() { 0 } else { self.bytes.len() }
     }
 
     // The byte at an index of the whole, if there is one.

@@ -1,6 +1,6 @@
 //! What is asked of a socket.
 ghost use Rattle.std.specs.Prelude.{◌≡◌, ◌≢◌, ◌≤◌, length, take, ⊤};
-ghost use Rattle.am_serve.specs.Acts.{Act, Read, Write, Finish};
+ghost use Rattle.am_serve.specs.Acts.{Act, Ask, Finish, Read, Write, standing};
 ghost use Rattle.am_serve.specs.Sockets.{ComesTo, Misses, Reads, Writes, count_of};
 
 use std::io::{self, ErrorKind, Read, Write};
@@ -78,6 +78,11 @@ pub trait Socket: Drop {
         ensures writes { does self.old (Write result (take (count_of result) bytes.now)) self.new }
         ensures fits { count_of result ≤ length bytes.now }
         ensures some { result ≢ Moved.Bytes 0 };
+
+    /// Whether the connection stands, as far as is known: it hasn't failed, and wasn't reset. The other side may have
+    /// ended.
+    fn stands(&mut self) -> bool
+        ensures asks { does self.old (Ask (standing result)) self.new };
 
     /// Says that nothing more is written.
     fn finish(&mut self) -> io::Result<()>

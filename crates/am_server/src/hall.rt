@@ -100,6 +100,11 @@ impl<'s, V: Service> Hall<'s, V> {
         self.service.end_call(name, status)
     }
 
+    /// Lets go of a client whose request isn't whole, where another waits for its place.
+    pub fn make_place(&mut self, now: Instant) -> bool {
+        self.clients.make_place(self.service, now)
+    }
+
     /// Takes a client in, which was registered under the next client's token, and gives it its first turn.
     pub fn admit(&mut self, stream: Stream, now: Instant) -> Result<(), AllocError> {
         if self.clients.is_full() {
@@ -129,7 +134,7 @@ impl<'s, V: Service> Hall<'s, V> {
 
     /// Gives a client its turn, unless as many were answered as were asked for.
     fn serve(&mut self, key: usize, now: Instant) -> Result<(), AllocError> {
-        if self.is_done() {
+        if self.is_done() || self.clients.check(key, self.service) {
             return Ok(());
         }
         match self.clients.turn(key, self.service, now, &mut self.buffer) {

@@ -3,6 +3,7 @@
 use crate::hall::{Hall, MOST_CALLS};
 use crate::service::{Notice, Service};
 use crate::stream::Stream;
+use am_serve::{ClockNews, SteadyClock};
 use mio::net::{TcpListener, TcpStream};
 use mio::{Events, Interest, Poll, Token};
 use std::alloc::Global;
@@ -19,6 +20,9 @@ const MOST_ACCEPTED: usize = 64;
 /// How often what is late is looked for, in milliseconds.
 const SWEEP: u64 = 250;
 
+/// How often a client that waits for a place is looked after, in milliseconds.
+const CROWDED: u64 = 20;
+
 const LISTENER: Token = Token(usize::MAX);
 
 /// A service behind a listener. Connections are served side by side: none waits for another.
@@ -27,6 +31,8 @@ pub struct Server<'s, V: Service> {
     poll: Poll,
     events: Events<Global>,
     listener: TcpListener,
+    /// A connection that was accepted, and waits for a place.
+    waiting: Option<TcpStream>,
     /// Whether another connection may wait to be accepted.
     is_knocked: bool,
     /// Whether the system refused to accept one; it is asked again at the next sweep.
@@ -34,6 +40,8 @@ pub struct Server<'s, V: Service> {
     /// Whether a notice may wait whose call could begin at once.
     is_behind: bool,
     swept: Instant,
+    opened: Instant,
+    clock: SteadyClock,
     hall: Hall<'s, V>,
 }
 
@@ -50,6 +58,7 @@ impl<'s, V: Service> Server<'s, V> {
         count: Option<u64>,
     ) -> io::Result<Server<'s, V>> {
         let mut listener = listener;
+        let now = Instant::now(rt)?;
         let poll = Poll::new(rt)?;
         poll.registry()
             .register(&mut listener, LISTENER, Interest::READABLE)?;
@@ -57,10 +66,13 @@ impl<'s, V: Service> Server<'s, V> {
             poll,
             events: Events::with_capacity(alloc, MOST_EVENTS)?,
             listener,
+            waiting: None,
             is_knocked: true,
             is_refused: false,
             is_behind: false,
-            swept: Instant::now(rt)?,
+            swept: now,
+            opened: now,
+            clock: SteadyClock::new(milliseconds(rt)?, 0),
             hall: Hall::new(alloc, service, count)?,
         })
     }
@@ -75,31 +87,22 @@ impl<'s, V: Service> Server<'s, V> {
         self.hall.is_done()
     }
 
-    /// Serves until as many connections were answered as were asked for, or the service is no longer up.
-    ///
-    /// # Errors
-    /// As of [`Server::turn`].
-    pub fn serve<R: Net + Clock>(&mut self, rt: &R) -> io::Result<()> {
-        for _ in 0..u64::MAX {
-            if self.is_done() || !self.hall.is_up() {
-                break;
-            }
-            self.turn(rt)?;
-        }
-        Ok(())
+    /// Whether the service serves: no fault stopped it.
+    pub fn is_up(&self) -> bool {
+        self.hall.is_up()
     }
 
     /// Waits a quarter of a second at most, and then does what can be done without waiting: accepts connections, moves the
     /// bytes of clients and calls that are ready, does what is due, lets go of those that
-    /// are late, and begins the calls of notices.
+    /// are late, and begins the calls of notices. Gives what is to be told of the clock.
     ///
     /// # Errors
     /// Those of the system's poll and clocks; out of memory. One connection's failure is none.
-    pub fn turn<R: Net + Clock>(&mut self, rt: &R) -> io::Result<()> {
+    pub fn turn<R: Net + Clock>(&mut self, rt: &R) -> io::Result<Option<ClockNews>> {
         let patience = self.patience();
         self.poll.poll(&mut self.events, Some(patience))?;
         let now = Instant::now(rt)?;
-        self.hall.set_moment(milliseconds(rt)?);
+        let news = self.set_moment(milliseconds(rt)?, now);
         self.hall.resume(now)?;
         for event in &self.events {
             if event.token() == LISTENER {
@@ -111,31 +114,58 @@ impl<'s, V: Service> Server<'s, V> {
         self.accept(now)?;
         self.hall.tick()?;
         self.sweep(now)?;
-        self.call(rt, now)
+        self.call(rt, now)?;
+        Ok(news)
+    }
+
+    /// All that comes from here on happens now, by both clocks.
+    fn set_moment(&mut self, wall: u64, now: Instant) -> Option<ClockNews> {
+        let elapsed = now.saturating_duration_since(self.opened);
+        let news = self.clock.read(wall, in_milliseconds(elapsed));
+        self.hall.set_moment(self.clock.moment());
+        news
     }
 
     /// How long the next poll may wait.
     fn patience(&self) -> Duration {
-        let can_accept = self.is_knocked && !self.is_refused && !self.hall.is_full();
+        let can_accept = self.is_knocked && !self.is_refused && self.waiting.is_none();
         if can_accept || self.is_behind || self.hall.has_more() {
             Duration::from_millis(0)
+        } else if self.waiting.is_some() {
+            Duration::from_millis(CROWDED)
         } else {
             Duration::from_millis(SWEEP)
         }
     }
 
-    /// Accepts connections that wait, as long as there is room.
+    /// Accepts connections that wait, as long as there is room or somebody gives way.
     fn accept(&mut self, now: Instant) -> io::Result<()> {
         for _ in 0..MOST_ACCEPTED {
-            if !self.is_knocked || self.is_refused || self.hall.is_full() {
+            self.accept_one();
+            if self.waiting.is_none() || !self.has_place(now) {
                 break;
             }
-            match self.listener.accept() {
-                Ok((stream, _)) => self.admit(stream, now)?,
-                Err(error) => self.note(error.kind()),
+            if let Some(stream) = self.waiting.take() {
+                self.admit(stream, now)?;
             }
         }
         Ok(())
+    }
+
+    /// Accepts a connection, unless one waits for a place already.
+    fn accept_one(&mut self) {
+        if self.waiting.is_some() || !self.is_knocked || self.is_refused {
+            return;
+        }
+        match self.listener.accept() {
+            Ok((stream, _)) => self.waiting = Some(stream),
+            Err(error) => self.note(error.kind()),
+        }
+    }
+
+    /// Whether there is room for a connection, or somebody gave way to it.
+    fn has_place(&mut self, now: Instant) -> bool {
+        !self.hall.is_full() || self.hall.make_place(now)
     }
 
     /// Notes why no connection was accepted.
@@ -203,8 +233,11 @@ pub fn listen<R: Net>(rt: &R, address: SocketAddr) -> io::Result<TcpListener> {
     TcpListener::bind(rt, address)
 }
 
-/// The moment by the clock, in milliseconds since 1970.
+/// The wall clock, in milliseconds since 1970.
 fn milliseconds<R: Clock>(rt: &R) -> io::Result<u64> {
-    let since = rt.since_1970()?.as_millis();
-    Ok(since.min(u128::from(u64::MAX)) as u64)
+    Ok(in_milliseconds(rt.since_1970()?))
+}
+
+fn in_milliseconds(time: Duration) -> u64 {
+    time.as_millis().min(u128::from(u64::MAX)) as u64
 }

@@ -20,6 +20,10 @@ impl Socket for Stream {
         write_to(&mut self.inner, bytes)
     }
 
+    fn stands(&mut self) -> bool {
+        matches!(self.inner.take_error(), Ok(None))
+    }
+
     fn finish(&mut self) -> io::Result<()> {
         self.inner.shutdown(Shutdown::Write)
     }

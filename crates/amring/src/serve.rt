@@ -109,7 +109,7 @@ fn serve_over<S: Rows + Drop, R: Net + Clock + Print + AllocGlobal, E: Sink>(
         "amring: serves http://{address}; GET /ready tells it the time, once a second or so\n"
     )?;
     errors.write_whole(ready.as_bytes())?;
-    attend(rt, listener, &mut world, count)?;
+    attend(rt, listener, &mut world, count, errors)?;
     Stops::none().tell(rt.alloc(), &world, errors)?;
     let faults = world.faults();
     print!(rt; "faults {faults}\n")?;
@@ -122,14 +122,24 @@ fn serve_over<S: Rows + Drop, R: Net + Clock + Print + AllocGlobal, E: Sink>(
     Ok(status)
 }
 
-/// Serves the clients of a listener until all is done, or the instance stopped.
-fn attend<S: Rows + Drop, R: Net + Clock + AllocGlobal>(
+/// Serves the clients of a listener until all is done, or the instance stopped; tells where the clock is off.
+fn attend<S: Rows + Drop, R: Net + Clock + AllocGlobal, E: Sink>(
     rt: &R,
     listener: TcpListener,
     world: &mut World<S>,
     count: Option<u64>,
+    errors: &mut E,
 ) -> io::Result<()> {
     let mut gateway = Gateway::new(rt.alloc(), world, SERVING)?;
     let mut server = Server::open(rt, rt.alloc(), listener, &mut gateway, count)?;
-    server.serve(rt)
+    for _ in 0..u64::MAX {
+        if server.is_done() || !server.is_up() {
+            break;
+        }
+        if let Some(news) = server.turn(rt)? {
+            let text = format!(in rt.alloc(); "amring: {news}\n")?;
+            errors.write_whole(text.as_bytes())?;
+        }
+    }
+    Ok(())
 }
