@@ -19,40 +19,36 @@ const FIRST_PIECE: &[u8] =
 
 const SECOND_PIECE: &[u8] = b"gth: 22\r\n\r\n[{\"labels\":{\"b\":\"c\"}}]";
 
-/// The server, and what a test does with it.
-#[derive(Drop)]
-struct Stand<'r, 's, 'w> {
-    rt: &'r HostRuntime,
-    address: SocketAddr,
-    server: Server<'s, Gateway<'w, TestStore>>,
+fn connect(rt: &HostRuntime, address: SocketAddr) -> io::Result<TcpStream> {
+    let client = TcpStream::connect(rt, address)?;
+    client.set_read_timeout(Some(Duration::from_secs(5)))?;
+    Ok(client)
 }
 
-impl Stand<'_, '_, '_> {
-    fn connect(&self) -> io::Result<TcpStream> {
-        let client = TcpStream::connect(self.rt, self.address)?;
-        client.set_read_timeout(Some(Duration::from_secs(5)))?;
-        Ok(client)
+/// Some turns: those in which the system tells of all that came, and one more.
+fn turns(rt: &HostRuntime, server: &mut Server<'_, Gateway<'_, TestStore>>) -> io::Result<()> {
+    for _ in 0..4u8 {
+        server.turn(rt)?;
     }
+    Ok(())
+}
 
-    /// Some turns: those in which the system tells of all that came, and one more.
-    fn turns(&mut self) -> io::Result<()> {
-        for _ in 0..4u8 {
-            self.server.turn(self.rt)?;
-        }
-        Ok(())
-    }
-
-    /// Sends a request in two pieces, each served before the next is sent, and gives the reply.
-    fn ask(&mut self, alloc: Global, first: &[u8], second: &[u8]) -> io::Result<String> {
-        let mut client = self.connect()?;
-        client.write_all(first)?;
-        self.turns()?;
-        client.write_all(second)?;
-        self.turns()?;
-        let mut reply = String::new(alloc);
-        client.read_to_string(&mut reply)?;
-        Ok(reply)
-    }
+/// Sends a request in two pieces, each served before the next is sent, and gives the reply.
+fn ask(
+    rt: &HostRuntime,
+    server: &mut Server<'_, Gateway<'_, TestStore>>,
+    address: SocketAddr,
+    first: &[u8],
+    second: &[u8],
+) -> io::Result<String> {
+    let mut client = connect(rt, address)?;
+    client.write_all(first)?;
+    turns(rt, server)?;
+    client.write_all(second)?;
+    turns(rt, server)?;
+    let mut reply = String::new(rt.alloc());
+    client.read_to_string(&mut reply)?;
+    Ok(reply)
 }
 
 fn post(alloc: Global, path: &str, body: &str) -> io::Result<String> {
@@ -71,13 +67,18 @@ fn configuration(alloc: Global, port: u16) -> io::Result<String> {
 }
 
 /// The requests that are asked of a server: one whole, one in two pieces, one of no tenant.
-fn asks(stand: &mut Stand<'_, '_, '_>, alloc: Global, port: u16) -> Result<(), Fail> {
-    let whole = configuration(alloc, port)?;
-    let reply = stand.ask(alloc, whole.as_bytes(), b"")?;
+fn asks(
+    rt: &HostRuntime,
+    server: &mut Server<'_, Gateway<'_, TestStore>>,
+    address: SocketAddr,
+    port: u16,
+) -> Result<(), Fail> {
+    let whole = configuration(rt.alloc(), port)?;
+    let reply = ask(rt, server, address, whole.as_bytes(), b"")?;
     holds(reply.starts_with("HTTP/1.1 201 "), "a configuration")?;
-    let reply = stand.ask(alloc, FIRST_PIECE, SECOND_PIECE)?;
+    let reply = ask(rt, server, address, FIRST_PIECE, SECOND_PIECE)?;
     holds(reply.starts_with("HTTP/1.1 200 "), "a post in two pieces")?;
-    let reply = stand.ask(alloc, b"GET /ready HTTP/1.1\r\n\r\n", b"")?;
+    let reply = ask(rt, server, address, b"GET /ready HTTP/1.1\r\n\r\n", b"")?;
     holds(reply.ends_with("ready"), "a request of no tenant")
 }
 
@@ -97,19 +98,14 @@ fn serves(rt: &HostRuntime, world: &mut World<TestStore>) -> Result<(), Fail> {
     let listener = listen(rt, any)?;
     let address = listener.local_addr()?;
     let mut gateway = Gateway::new(rt.alloc(), world, 1)?;
-    let server = Server::open(rt, rt.alloc(), listener, &mut gateway, Some(3))?;
-    let mut stand = Stand {
-        rt,
-        address,
-        server,
-    };
-    let _silent = stand.connect()?;
-    asks(&mut stand, rt.alloc(), hook.local_addr()?.port())?;
-    holds(stand.server.is_done(), "three requests were served")?;
+    let mut server = Server::open(rt, rt.alloc(), listener, &mut gateway, Some(3))?;
+    let _silent = connect(rt, address)?;
+    asks(rt, &mut server, address, hook.local_addr()?.port())?;
+    holds(server.is_done(), "three requests were served")?;
     let notice = takes_notice(&hook)?;
     equal(notice.as_slice(), b"POST /hook HTTP/1.1\r", "a notice")?;
-    stand.turns()?;
-    equal(stand.server.calls(), 0, "calls of webhooks")
+    turns(rt, &mut server)?;
+    equal(server.calls(), 0, "calls of webhooks")
 }
 
 #[test]
