@@ -4,11 +4,10 @@ ghost use Rattle.std.specs.Prelude.{◌≡◌, IfOk, filter, map};
 ghost use Rattle.am_alert.specs.Held.{AreRising, fires, firing, seen};
 ghost use Rattle.am_alert.specs.HeldAlert.{all_held, held_alert};
 
-use am_item::{AlertDetails, Held, Stamped};
+use am_item::{AlertDetails, Held, SharedMap, Stamped};
 use am_labels::LabelSet;
 use am_text::Moment;
 use std::alloc::{AllocError, Global};
-use std::collections::BTreeMap;
 use std::marker::Model;
 
 /// An alert that is held, borrowed.
@@ -66,15 +65,19 @@ impl<'a> AlertBook<'a> {
 // The alerts that end after the moment, in their order.
 fn firing_among<'a>(
     alloc: Global,
-    alerts: &'a BTreeMap<LabelSet, Stamped<AlertDetails>>,
+    alerts: &'a SharedMap<LabelSet, AlertDetails>,
     moment: Moment,
 ) -> Result<Vec<HeldAlert<'a>>, AllocError>
-    ensures { IfOk result (λ v. map held_alert v.items ≡ filter (λ alert. fires moment alert) (all_held alerts.now.entries)) }
+    ensures firing { IfOk result (λ v. map held_alert v.items ≡ filter (λ alert. fires moment alert) (all_held alerts.now)) }
+    ensures rising { IfOk result (λ v. AreRising (map held_alert v.items)) }
 {
     let mut firing = Vec::new(alloc);
-    for (labels, details) in alerts {
-        if moment < details.value.ends_at {
-            firing.push(HeldAlert { labels, details })?;
+    for kept in alerts.entries() {
+        if moment < kept.value().value.ends_at {
+            firing.push(HeldAlert {
+                labels: kept.key(),
+                details: kept.value(),
+            })?;
         }
     }
     Ok(firing)

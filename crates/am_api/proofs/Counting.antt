@@ -1,6 +1,7 @@
 -- How posted label sets that aren't held are counted.
-use Rattle.std.proofs.Common.{◌≡◌, ℕ, ◌+◌, ◌-◌, ◌≤◌, nat_lt, List, [], ◌∷◌, ◌++◌, Bool, true, false, not, cond, ◌||◌, length, map, if◌then◌else◌, refl, sym, ap, ◌∙◌, arith, append_assoc}
+use Rattle.std.proofs.Common.{◌≡◌, ℕ, ◌+◌, ◌-◌, ◌≤◌, nat_lt, Bor, Option, None, Some, List, [], ◌∷◌, ◌++◌, Bool, true, false, not, cond, ◌||◌, length, map, if◌then◌else◌, refl, sym, ap, ◌∙◌, arith, append_assoc}
 use Rattle.std.specs.Cmp.{eq_by_cmp_equiv}
+use Rattle.std.specs.Option.{is_some, option_copied, option_map}
 use Rattle.std.specs.Ordering.{eq_by_cmp, is_eq}
 use Rattle.std.specs.Set.{distinct_count, is_member}
 use Rattle.std.proofs.lemmas.Bool.Decides.{nat_tests}
@@ -62,3 +63,8 @@ new_few held posted =
 
 pub past_few : (limit len new whole room count : ℕ) → whole ≡ len + new → len ≤ limit → room ≡ limit - len → new ≤ count → count ≤ room → false ≡ nat_lt limit whole
 past_few limit len new whole room count is within left few fits = grind (arith, nat_tests)
+
+-- a borrowed value is there where what is made of it is
+pub some_held : {S T : Type 0} (f : S → T) (o : Option (Bor S)) → is_some o ≡ is_some (option_map f (option_copied o))
+some_held f None = refl
+some_held f (Some b) = refl

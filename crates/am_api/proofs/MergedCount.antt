@@ -1,6 +1,7 @@
 -- How many alerts are held once posted ones have come: those that are held, and the posted label sets that are new.
 use Rattle.std.proofs.Common.{◌≡◌, ℕ, suc, ◌+◌, List, [], ◌∷◌, ◌++◌, Bool, true, false, not, ◌&&◌, ◌||◌, Option, Some, None, map, length, refl, sym, ap, ◌∙◌, subst, arith}
-use Rattle.std.specs.BTreeMap.{BTreeMap, IsOrdered, keys}
+use Rattle.std.specs.Map.{keys_of}
+use Rattle.am_item.specs.Sorted.{IsOrdered}
 use Rattle.std.specs.Cmp.{Equal-is, eq_by_cmp_equiv}
 use Rattle.std.specs.List.{AllByRecursion, IsDistinct, list_any}
 use Rattle.std.specs.List.Sorted.{IsStrictlySortedBy}
@@ -194,16 +195,16 @@ sets_kept : (xs : List Item) → sets_of (alerts_of xs) ≡ sets_of xs
 sets_kept [] = refl
 sets_kept (x ∷ xs) = kept_next x.thing x xs refl (sets_kept xs)
 
-module _ (entries : BTreeMap (List Label) (Stamped AlertDetails)) (held : List Item) (are : items_by alert_item entries.entries ≡ alerts_of held) where
+module _ (entries : List (List Label × Stamped AlertDetails)) (held : List Item) (are : items_by alert_item entries ≡ alerts_of held) where
   sets_by : (pairs : List (List Label × Stamped AlertDetails)) → sets_of (items_by alert_item pairs) ≡ map (λ e. e.0) pairs
   sets_by [] = refl
   sets_by ((key, value) ∷ pairs) = ap (λ sets. key ∷ sets) (sets_by pairs)
 
-  held_sets : sets_of held ≡ keys entries
-  held_sets = sym (sets_kept held) ∙ ap sets_of (sym are) ∙ sets_by entries.entries
+  held_sets : sets_of held ≡ keys_of entries
+  held_sets = sym (sets_kept held) ∙ ap sets_of (sym are) ∙ sets_by entries
 
   once_each : IsOrdered labels_cmp entries → IsDistinct same_set (sets_of held)
-  once_each ordered = subst (IsDistinct same_set) (sym held_sets) (IsDistinct-from_sorted labels_cmp (keys entries) ordered)
+  once_each ordered = subst (IsDistinct same_set) (sym held_sets) (IsDistinct-from_sorted labels_cmp (keys_of entries) ordered)
 
 -- ---- those that are held, and those that are new
 
@@ -269,14 +270,14 @@ module _ (held : List Item) (posted : List Alert) where
       ∙ sym (list_any-append (same_set k) (new_sets held posted) (sets_of held) ∙ ap (λ b. b || is_member same_set (sets_of held) k) (new_member k))
 
   -- the alerts that are held once posted ones have come
-  pub merged_count : (moment : ℕ) (maker : Maker) (entries : BTreeMap (List Label) (Stamped AlertDetails)) (len new : ℕ) →
-      items_by alert_item entries.entries ≡ alerts_of held → IsOrdered labels_cmp entries → len ≡ length entries.entries → new ≡ new_count held posted →
+  pub merged_count : (moment : ℕ) (maker : Maker) (entries : List (List Label × Stamped AlertDetails)) (len new : ℕ) →
+      items_by alert_item entries ≡ alerts_of held → IsOrdered labels_cmp entries → len ≡ length entries → new ≡ new_count held posted →
       count_with held moment maker posted ≡ len + new
   unfolding count_with
   merged_count moment maker entries len new are ordered lens news =
       let once = once_each entries held are ordered in
-      let number : distinct_count same_set (sets_of held) ≡ length entries.entries =
-      distinct_count-from_IsDistinct (eq_by_cmp_equiv labels_total) (sets_of held) once ∙ ap length (held_sets entries held are) ∙ length-keys entries.entries in
+      let number : distinct_count same_set (sets_of held) ≡ length entries =
+      distinct_count-from_IsDistinct (eq_by_cmp_equiv labels_total) (sets_of held) once ∙ ap length (held_sets entries held are) ∙ length-keys entries in
       let all = count_sets (all_joined held (made held moment maker posted))
       ∙ length-from_keys (eq_by_cmp_equiv labels_total) (sets_of (all_joined held (made held moment maker posted))) (new_sets held posted ++ sets_of held)
       (distinct_joined held (made held moment maker posted) once) (same_members moment maker)

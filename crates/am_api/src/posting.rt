@@ -56,7 +56,7 @@ fn store(
 fn is_past(alloc: Global, limit: u64, held: &Held, posted: &[Alert]) -> Result<bool, AllocError>
     ensures { IfOk result (λ past. (time : ℕ) (maker : Maker) → past ≡ nat_lt limit (count_with held.now time maker posted.now)) }
 {
-    let Some(room) = limit.checked_sub(held.alerts().len() as u64) else {
+    let Some(room) = limit.checked_sub(held.alerts().entries().len() as u64) else {
         return Ok(true);
     };
     if posted.len() as u64 <= room {
@@ -85,5 +85,5 @@ fn count_new(alloc: Global, held: &Held, posted: &[Alert]) -> Result<usize, Allo
 fn has_alert(held: &Held, labels: &LabelSet) -> bool
     ensures { result ≡ has_alert held.now labels.now }
 {
-    held.alerts().contains_key(labels)
+    held.alerts().get(labels).is_some()
 }

@@ -1,5 +1,5 @@
 -- Rising lists without the items of a key, or without those that a test leaves out.
-use Rattle.std.proofs.Common.{◌≡◌, Bool, true, false, cond, List, [], ◌∷◌, Option, Some, None, refl, sym, ap, ◌∙◌, subst}
+use Rattle.std.proofs.Common.{◌≡◌, Bool, true, false, cond, List, [], ◌∷◌, Option, Some, None, Result, Ok, Err, OnOk, OnErr, refl, sym, ap, ◌∙◌, subst}
 use Rattle.std.specs.List.{filter}
 use Rattle.std.specs.List.Sorted.{IsStrictlySortedBy}
 use Rattle.std.specs.Option.{is_some}
@@ -30,6 +30,11 @@ rising-filter p (x ∷ xs) up =
     by_cases (p x)
     (λ e. subst (λ zs. IsRising zs) (sym (cond-true _ (x ∷ filter p xs) (filter p xs) e)) (above_filter p (key_of x) xs up.0, rising-filter p xs up.1))
     (λ e. subst (λ zs. IsRising zs) (sym (cond-false _ (x ∷ filter p xs) (filter p xs) e)) (rising-filter p xs up.1))
+
+-- a rising list rises whether what fails a test went, or all stayed
+pub rising_left : {T E : Type 0} (r : Result T E) (p : Item → Bool) (was now : List Item) → OnOk r (now ≡ filter p was) → OnErr r (now ≡ was) → IsRising was → IsRising now
+rising_left (Ok _) p was now gone _ up = rw gone (rising-filter p was up)
+rising_left (Err _) p was now _ stay up = rw stay up
 
 -- a look-up where the items of a key are gone
 pub at-lacking : (q k : ThingKey) (xs : List Item) → item_at q (filter (lacks_key k) xs) ≡ cond (is_eq (key_cmp q k)) None (item_at q xs)

@@ -182,6 +182,16 @@ held_passed m n tenant p found now there is gets t =
     ∙ sym (cond-true _ (filter p (held_of t m)) (held_of t m) h))
     (λ h. ap found_items (cond-false _ (Some now) (get tenants m t) (test ∙ h)) ∙ sym (cond-false _ (filter p (held_of t m)) (held_of t m) h))
 
+-- .. and where they stayed
+pub held_stayed : (m n : BTreeMap (List ℕ) (List Item)) (tenant : List ℕ) (found now : List Item) → Some found ≡ get tenants m tenant → now ≡ found
+    → ((q : List ℕ) → get tenants n q ≡ cond (is_at (tenants tenant) q) (Some now) (get tenants m q)) → (t : List ℕ) → held_of t n ≡ held_of t m
+held_stayed m n tenant found now there is gets t =
+    let test : is_at (tenants tenant) t ≡ same t tenant = is_eq-name_cmp tenant t ∙ same-sym tenant t in
+    ap found_items (gets t)
+    ∙ by_cases (same t tenant)
+    (λ h. ap found_items (cond-true _ (Some now) (get tenants m t) (test ∙ h)) ∙ is ∙ ap found_items there ∙ ap (λ q. held_of q m) (sym (eq_from_same t tenant h)))
+    (λ h. ap found_items (cond-false _ (Some now) (get tenants m t) (test ∙ h)))
+
 -- of a tenant that isn't there nothing is left out
 pub held_missed : (m : BTreeMap (List ℕ) (List Item)) (tenant : List ℕ) (p : Item → Bool) → None ≡ get tenants m tenant → (t : List ℕ) → held_of t m ≡ cond (same t tenant) (filter p (held_of t m)) (held_of t m)
 held_missed m tenant p none t =

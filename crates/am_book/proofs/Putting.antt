@@ -4,7 +4,6 @@ use Rattle.std.specs.Option.{is_some, option_map}
 use Rattle.std.specs.Ordering.{is_gt}
 use Rattle.std.proofs.lemmas.Bool.{false≢true}
 use Rattle.am_tenant.specs.Names.{same}
-use Rattle.am_tenant.proofs.Same.{same-refl}
 use Rattle.am_item.specs.Best.{IsRising, item_at, joined}
 use Rattle.am_item.specs.Key.{key_of}
 use Rattle.am_item.specs.Retirement.{put_over, standing_of}
@@ -19,7 +18,6 @@ use Rattle.am_item.proofs.Greatest.{some_same}
 use Rattle.am_item.proofs.Joining.{joined_stays}
 use Rattle.am_book.specs.Row.{is_row_of, tells}
 use Rattle.am_book.specs.declared.row.Row.{Row}
-use Rattle.am_book.proofs.RowLemmas.{is_made, told_by}
 use Rattle.am_book.proofs.Told.{told_added, told_replaced, told_still}
 
 -- ---- what was held
@@ -85,14 +83,6 @@ there_before : (b h : Bool) → (b ≡ true → h ≡ true) → cond b true h �
 there_before true h f = sym (f refl)
 there_before false h f = refl
 
--- the row of a key that none has was not there
-row_new : (t : List ℕ) (k : ThingKey) (s : Standing) (old : List Item) (has0 : Row → Bool) → ((row : Row) → same row.tenant t ≡ true → has0 row ≡ tells row old)
-    → item_at k old ≡ None → (row : Row) → is_row_of t k s row ≡ true → has0 row ≡ false
-unfolding tells
-row_new t k s old has0 told none row h =
-    let made = is_made t k row s h in
-    told row (ap (λ n. same n t) made.tenant_is ∙ same-refl t) ∙ ap (told_by row) (ap (λ q. item_at q old) made.key_is ∙ none)
-
 -- ---- what the rows tell once the row of an item came and the item was put
 
 module _ (t : List ℕ) (item : Item) (k own : ThingKey) (s : Standing) (named : k ≡ key_of item) (own_named : own ≡ key_of item) (stands : s ≡ standing_of item)
@@ -137,28 +127,22 @@ module _ (t : List ℕ) (item : Item) (k own : ThingKey) (s : Standing) (named :
         went row ∙ ap (λ b. cond b false (has1 row)) (is_its own own_named row) ∙ ap (cond (its_row row) false) (its_came row)
         ∙ gone_again (its_row row) (has0 row) (fresh row)
 
-    -- memory ran out where none of its key was held
-    pub told_refused : item_at (key_of item) old ≡ None → new ≡ old → ((row : Row) → has2 row ≡ cond (is_row_of t own s row) false (has1 row))
-        → (row : Row) → has2 row ≡ cond (same row.tenant t) (tells row new) (has0 row)
-    unfolding its_row
-    told_refused none still went =
-        told_still t old new has0 has2 told still (row_gone went (row_new t (key_of item) (standing_of item) old has0 told none))
+  -- where one that is no older was held, all stays
+  pub older_stays : Older ≡ put_over (option_map standing_of (item_at (key_of item) old)) item.stamp → new ≡ joined old item → new ≡ old
+  older_stays put joins =
+      let stayed = one_stayed (item_at (key_of item) old) item.stamp put in
+      joins ∙ joined_stays old stayed.item item up stayed.found stayed.no_greater
 
-  module _ (put : Older ≡ put_over (option_map standing_of (item_at (key_of item) old)) item.stamp) (joins : new ≡ joined old item)
-      (added : Bool) (fresh : (row : Row) → is_row_of t k s row ≡ true → has0 row ≡ not added) where
-    still : new ≡ old
-    still =
-        let stayed = one_stayed (item_at (key_of item) old) item.stamp put in
-        joins ∙ joined_stays old stayed.item item up stayed.found stayed.no_greater
-
-    -- one that is no older stayed, and the row, which was new, went
-    pub told_older : (has2 : Row → Bool) → added ≡ true → ((row : Row) → has2 row ≡ cond (is_row_of t own s row) false (has1 row))
+  -- nothing was put
+  module _ (still : new ≡ old) (added : Bool) (fresh : (row : Row) → is_row_of t k s row ≡ true → has0 row ≡ not added) where
+    -- the row, which was new, went again
+    pub told_taken_back : (has2 : Row → Bool) → added ≡ true → ((row : Row) → has2 row ≡ cond (is_row_of t own s row) false (has1 row))
         → (row : Row) → has2 row ≡ cond (same row.tenant t) (tells row new) (has0 row)
-    told_older has2 is went =
+    told_taken_back has2 is went =
         told_still t old new has0 has2 told still (row_gone has2 went (λ row h. fresh row (is_its k named row ∙ h) ∙ ap not is))
 
-    -- one that is no older stayed, and the row, which was its own
-    pub told_again : added ≡ false → (row : Row) → has1 row ≡ cond (same row.tenant t) (tells row new) (has0 row)
-    told_again is =
+    -- the row was there before
+    pub told_before : added ≡ false → (row : Row) → has1 row ≡ cond (same row.tenant t) (tells row new) (has0 row)
+    told_before is =
         told_still t old new has0 has1 told still
         (λ row. its_came row ∙ there_before (its_row row) (has0 row) (λ h. fresh row (is_its k named row ∙ h) ∙ ap not is))

@@ -4,7 +4,7 @@ use Rattle.std.specs.BTreeSet.{BTreeSet}
 use Rattle.std.specs.Cmp.{Equal-is, nat_cmp_is}
 use Rattle.std.specs.Cmp.Lexicographic.{slice_cmp}
 use Rattle.std.specs.List.{list_any, slice_get}
-use Rattle.std.specs.Option.{IfSome, option_map_or}
+use Rattle.std.specs.Option.{option_map_or}
 use Rattle.std.specs.Ordering.{is_eq, is_gt, nat_cmp, ordering_then}
 use Rattle.std.specs.declared.cmp.Ordering.TheVariants.{Equal, Greater}
 use Rattle.std.proofs.lemmas.Bool.{false≢true, leb-false, leb-true}
@@ -153,11 +153,5 @@ not_due first row moment h late =
     earlier a b m h k = omega arith
 
 -- the first of a list is the one that is taken from its front
-pub taken_first : (o : Option Row) (first : Row) (ks rest : List Row) → slice_get ks 0 ≡ Some first → IfSome o (λ k. ks ≡ k ∷ rest) → IfSome o (λ k. k ≡ first)
-taken_first None first ks rest h is = tt
-taken_first (Some k) first ks rest h is = some_same k first (sym (ap (λ l. slice_get l 0) is) ∙ h)
-
--- what follows from what is so of a value
-pub if_some_weaker : {X : Type 0} (o : Option X) (P Q : X → Type 0) → ((x : X) → P x → Q x) → IfSome o P → IfSome o Q
-if_some_weaker None P Q f h = tt
-if_some_weaker (Some x) P Q f h = f x h
+pub first_taken : (first taken : Row) (ks rest : List Row) → slice_get ks 0 ≡ Some first → ks ≡ taken ∷ rest → first ≡ taken
+first_taken first taken ks rest h is = some_same first taken (sym h ∙ ap (λ l. slice_get l 0) is)

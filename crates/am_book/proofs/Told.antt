@@ -3,7 +3,7 @@ use Rattle.std.proofs.Common.{◌≡◌, ℕ, Bool, true, false, cond, not, List
 use Rattle.std.specs.List.{filter}
 use Rattle.std.specs.Option.{option_map_or}
 use Rattle.std.specs.Ordering.{is_eq, is_gt}
-use Rattle.std.proofs.lemmas.Bool.{cond-false, cond-true, false≢true, not_from_false, not_from_true}
+use Rattle.std.proofs.lemmas.Bool.{cond-false, cond-true, false≢true, not_from_false}
 use Rattle.am_tenant.specs.Names.{same}
 use Rattle.am_tenant.proofs.Same.{eq_from_same}
 use Rattle.am_item.specs.declared.item.Item.{Item}
@@ -19,7 +19,7 @@ use Rattle.am_item.proofs.Keys.{key_same}
 use Rattle.am_item.proofs.Removed.{lacks_key}
 use Rattle.am_book.specs.Row.{is_row_of, same_row, tells}
 use Rattle.am_book.specs.declared.row.Row.{Row}
-use Rattle.am_book.proofs.Dropping.{at-lacking, filter-lacking, filter_found}
+use Rattle.am_book.proofs.Dropping.{at-lacking, filter_found}
 use Rattle.am_book.proofs.RowLemmas.{apart_keys, apart_tenants, is_made, other_key, other_tenant, own_row, row_itself, same_parts, told_by, told_item}
 
 -- ---- an item was put
@@ -132,10 +132,6 @@ told_still t old new has0 has1 told still rows row =
 abbrev pub stays : ℕ → Item → Bool
 stays moment item = not (is_retired moment item)
 
--- an item that retires at or before the moment is retired, one that retires later isn't
-retired_at : (moment at : ℕ) (x : Item) → retires_at x ≡ Some at → nat_le at moment ≡ true → stays moment x ≡ false
-retired_at moment at x h le = not_from_true (is_retired moment x) (ap (λ o. option_map_or (λ n. nat_le n moment) o false) h ∙ le)
-
 module _ (held0 : List ℕ → List Item) (has0 : Row → Bool) (told : (row : Row) → has0 row ≡ tells row (held0 row.tenant)) where
   -- where no row is due, nothing is retired
   pub none_retired : (moment : ℕ) → ((row : Row) → has0 row ≡ true → nat_le row.retires_at moment ≡ false) → (t : List ℕ) → IsRising (held0 t) → filter (stays moment) (held0 t) ≡ held0 t
@@ -186,15 +182,3 @@ module _ (held0 : List ℕ → List Item) (has0 : Row → Bool) (told : (row : R
         (λ h.
         cond-false _ false (has0 row) (apart_tenants first row h) ∙ told row
         ∙ sym (ap (λ ys. told_by row (item_at row.key ys)) (lists row.tenant ∙ cond-false _ (filter (lacks_key first.key) xs) xs h)))
-
-    -- what isn't retired is left
-    pub left_dropped : (moment : ℕ) → nat_le first.retires_at moment ≡ true → (t : List ℕ) → IsRising (held0 t) → filter (stays moment) (held1 t) ≡ filter (stays moment) (held0 t)
-    unfolding tells
-    left_dropped moment due t up =
-        by_cases (same t first.tenant)
-        (λ h.
-        let of_first = told_item first (item_at first.key (held0 first.tenant)) (sym (told first) ∙ there) in
-        ap (filter (stays moment)) (lists t ∙ cond-true _ (filter (lacks_key first.key) (held0 t)) (held0 t) h)
-        ∙ filter-lacking (stays moment) first.key of_first.item (held0 t) up (ap (λ n. item_at first.key (held0 n)) (eq_from_same t first.tenant h) ∙ of_first.found)
-        (retired_at moment first.retires_at of_first.item of_first.at due))
-        (λ h. ap (filter (stays moment)) (lists t ∙ cond-false _ (filter (lacks_key first.key) (held0 t)) (held0 t) h))

@@ -1,6 +1,5 @@
-ghost use Rattle.std.specs.Prelude.{◌≡◌, ◌+◌, ℕ, List, [], length, true, false, not, filter, IsSome, nat_le, IfNone, IfOk, IfSome, OnErr, OnOk, if◌then◌else◌};
+ghost use Rattle.std.specs.Prelude.{◌≡◌, ◌+◌, ℕ, List, [], Some, length, slice_get, true, false, not, filter, IsSome, nat_le, IfNone, IfOk, IfSome, OnErr, OnOk, if◌then◌else◌};
 ghost use Rattle.std.specs.BTreeMap.{IsOrdered};
-ghost use Rattle.std.specs.BTreeSet.{btree_set_len};
 ghost use Rattle.std.specs.Cmp.Lexicographic.{slice_cmp};
 ghost use Rattle.std.specs.Option.{option_map_or};
 ghost use Rattle.std.specs.Ordering.{nat_cmp};
@@ -13,7 +12,7 @@ ghost use Rattle.am_book.specs.Row.{has_row, is_row_of, same_row, tells};
 ghost use Rattle.am_book.specs.declared.row.Row.{Row};
 
 use crate::row::Row;
-use am_item::{Held, Item, Put, Standing, ThingKey};
+use am_item::{Held, Put, SharedItem, Standing, ThingKey};
 use am_tenant::TenantName;
 use am_text::Moment;
 use std::alloc::{AllocError, Global};
@@ -56,14 +55,23 @@ impl Model for Book {
 impl Book {
     /// A book without items.
     #[tactic(auto, unfolding(crate::specs::Book::pairs_of, crate::specs::Row::tells))]
-    pub fn new(alloc: Global) -> Book
-        ensures { result ≡ [] }
+    pub fn new(alloc: Global) -> Result<Book, AllocError>
+        ensures { IfOk result (λ book. book ≡ []) }
     {
-        Book {
+        Ok(Book {
             tenants: BTreeMap::new(alloc),
             rows: BTreeSet::new(alloc),
-            nothing: Held::new(alloc),
-        }
+            nothing: Held::new(alloc)?,
+        })
+    }
+
+    /// Forgets all items. It takes no memory.
+    #[tactic(auto, unfolding(crate::specs::Book::pairs_of, crate::specs::Row::tells))]
+    pub fn clear(&mut self)
+        ensures { self.new ≡ [] }
+    {
+        self.tenants.clear();
+        self.rows.clear();
     }
 
     /// What is held of a tenant, in the order of keys.
@@ -84,13 +92,15 @@ impl Book {
         &mut self,
         alloc: Global,
         tenant: &TenantName,
-        item: Item,
+        item: SharedItem,
     ) -> Result<bool, AllocError>
         ensures joined { OnOk result ((t : List ℕ) → items_of t self.new ≡ (if same t tenant.now then joined (items_of t self.old) item else items_of t self.old)) }
         ensures new { IfOk result (λ new. new ≡ is_new (items_of tenant.now self.old) item) }
         ensures err { OnErr result ((t : List ℕ) → items_of t self.new ≡ items_of t self.old) }
     {
-        let held = self.tenants.entry(*tenant)?.or_insert(Held::new(alloc));
+        // A tenant's first items begin with the lists of nothing, which cost no memory until they change.
+        let nothing = self.nothing.snapshot()?;
+        let held = self.tenants.entry(*tenant)?.or_insert(nothing);
         put_in(alloc, held, &mut self.rows, tenant, item)
     }
 
@@ -100,7 +110,7 @@ impl Book {
         &mut self,
         alloc: Global,
         tenant: &TenantName,
-        items: Vec<Item>,
+        items: Vec<SharedItem>,
     ) -> Result<Vec<bool>, AllocError>
         ensures joined { OnOk result ((t : List ℕ) → items_of t self.new ≡ (if same t tenant.now then all_joined (items_of t self.old) items.items else items_of t self.old)) }
         ensures new { IfOk result (λ new. new.items ≡ are_new (items_of tenant.now self.old) items.items) }
@@ -116,28 +126,28 @@ impl Book {
         Ok(answers)
     }
 
-    /// Drops of every tenant what is retired at the moment. It takes no memory, and looks at no more than what it
-    /// drops and what retires next.
-    pub fn retire(&mut self, moment: Moment)
-        ensures { (t : List ℕ) → items_of t self.new ≡ filter (λ item. not (is_retired moment item)) (items_of t self.old) }
-    {
-        while let Some(row) = pop_row(&mut self.rows, moment) {
-            remove_of(&mut self.tenants, &row);
-        }
-    }
-
     /// Takes out the item that is retired first, where one is retired at the moment, and answers whose it was and its
-    /// key. It takes no memory, and looks at no more than that item and the one that retires next.
-    pub fn pop_retired(&mut self, moment: Moment) -> Option<(TenantName, ThingKey)>
-        ensures none { IfNone result ((t : List ℕ) → filter (λ item. not (is_retired moment item)) (items_of t self.old) ≡ items_of t self.old) }
-        ensures stays { IfNone result ((t : List ℕ) → items_of t self.new ≡ items_of t self.old) }
-        ensures retired { IfSome result (λ first. option_map_or (is_retired moment) (item_at first.1 (items_of first.0 self.old)) false ≡ true) }
-        ensures others { IfSome result (λ first. (t : List ℕ) → items_of t self.new ≡ (if same t first.0 then filter (λ item. not (has_key first.1 item)) (items_of t self.old) else items_of t self.old)) }
-        ensures fewer { IfSome result (λ first. length self.new + 1 ≡ length self.old) }
+    /// key. It looks at no more than that item and the one that retires next. An error, which is out of memory, leaves
+    /// all items as they were; it comes only where a snapshot shares the list that the item stands in.
+    pub fn pop_retired(
+        &mut self,
+        moment: Moment,
+    ) -> Result<Option<(TenantName, ThingKey)>, AllocError>
+        ensures none { IfOk result (λ first. IfNone first ((t : List ℕ) → filter (λ item. not (is_retired moment item)) (items_of t self.old) ≡ items_of t self.old)) }
+        ensures stays { IfOk result (λ first. IfNone first ((t : List ℕ) → items_of t self.new ≡ items_of t self.old)) }
+        ensures retired { IfOk result (λ first. IfSome first (λ first. option_map_or (is_retired moment) (item_at first.1 (items_of first.0 self.old)) false ≡ true)) }
+        ensures others { IfOk result (λ first. IfSome first (λ first. (t : List ℕ) → items_of t self.new ≡ (if same t first.0 then filter (λ item. not (has_key first.1 item)) (items_of t self.old) else items_of t self.old))) }
+        ensures fewer { IfOk result (λ first. IfSome first (λ _. length self.new + 1 ≡ length self.old)) }
+        ensures err { OnErr result ((t : List ℕ) → items_of t self.new ≡ items_of t self.old) }
     {
-        let row = pop_row(&mut self.rows, moment)?;
-        remove_of(&mut self.tenants, &row);
-        Some((row.tenant, row.key))
+        let Some(row) = first_due(&self.rows, moment) else {
+            return Ok(None);
+        };
+        remove_of(&mut self.tenants, row)?;
+        let Some(row) = self.rows.pop_first() else {
+            unreachable!();
+        };
+        Ok(Some((row.tenant, row.key)))
     }
 }
 
@@ -148,16 +158,17 @@ fn put_in(
     held: &mut Held,
     rows: &mut BTreeSet<Row>,
     tenant: &TenantName,
-    item: Item,
+    item: SharedItem,
 ) -> Result<bool, AllocError>
-    requires { (row : Row) → same row.tenant tenant.now ≡ true → has_row rows.old row ≡ tells row held.old }
+    requires rising { IsRising held.old }
+    requires told { (row : Row) → same row.tenant tenant.now ≡ true → has_row rows.old row ≡ tells row held.old }
     ensures joined { OnOk result (held.new ≡ joined held.old item) }
     ensures new { IfOk result (λ new. new ≡ is_new held.old item) }
     ensures err { OnErr result (held.new ≡ held.old) }
     ensures told { (row : Row) → has_row rows.new row ≡ (if same row.tenant tenant.now then tells row held.new else has_row rows.old row) }
 {
-    let key = item.thing.key(alloc)?;
-    let own = item.thing.key(alloc)?;
+    let key = item.key(alloc)?;
+    let own = item.key(alloc)?;
     let standing = item.standing();
     // The row comes first: nothing that is held has to be taken back where memory runs out for it.
     let added = remember(rows, tenant, &standing, key)?;
@@ -175,7 +186,9 @@ fn put_in(
             Ok(false)
         }
         Err(refused) => {
-            forget(rows, tenant, &standing, own);
+            if added {
+                forget(rows, tenant, &standing, own);
+            }
             Err(refused)
         }
     }
@@ -220,20 +233,18 @@ fn forget(rows: &mut BTreeSet<Row>, tenant: &TenantName, standing: &Standing, ke
     }
 }
 
-// Takes the first row, where its item is retired at the moment.
-fn pop_row(rows: &mut BTreeSet<Row>, moment: Moment) -> Option<Row>
-    ensures none { IfNone result ((row : Row) → has_row rows.new row ≡ true → nat_le row.retires_at moment ≡ false) }
-    ensures stay { IfNone result (rows.new.keys ≡ rows.old.keys) }
-    ensures due { IfSome result (λ first. nat_le first.retires_at moment ≡ true) }
-    ensures there { IfSome result (λ first. has_row rows.old first ≡ true) }
-    ensures others { IfSome result (λ first. (row : Row) → has_row rows.new row ≡ (if same_row first row then false else has_row rows.old row)) }
-    ensures fewer { IfSome result (λ _. btree_set_len rows.new + 1 ≡ btree_set_len rows.old) }
+// The first row, where its item is retired at the moment.
+fn first_due(rows: &BTreeSet<Row>, moment: Moment) -> Option<&Row>
+    ensures none { IfNone result ((row : Row) → has_row rows.now row ≡ true → nat_le row.retires_at moment ≡ false) }
+    ensures due { IfSome result (λ row. nat_le row.now.retires_at moment ≡ true) }
+    ensures first { IfSome result (λ row. slice_get rows.now.keys 0 ≡ Some row.now) }
+    ensures there { IfSome result (λ row. has_row rows.now row.now ≡ true) }
 {
     match rows.first() {
         None => None,
         Some(first) => {
             if first.retires_at <= moment {
-                rows.pop_first()
+                Some(first)
             } else {
                 None
             }
@@ -241,14 +252,16 @@ fn pop_row(rows: &mut BTreeSet<Row>, moment: Moment) -> Option<Row>
     }
 }
 
-// Removes the item of a row.
-fn remove_of(tenants: &mut BTreeMap<TenantName, Held>, row: &Row)
+// Removes the item of a row. Where memory runs out, all items stay.
+fn remove_of(tenants: &mut BTreeMap<TenantName, Held>, row: &Row) -> Result<(), AllocError>
     requires { AreHeld tenants.old }
-    ensures held { (t : List ℕ) → held_of t tenants.new ≡ (if same t row.now.tenant then filter (λ item. not (has_key row.now.key item)) (held_of t tenants.old) else held_of t tenants.old) }
-    ensures fewer { IsSome (item_at row.now.key (held_of row.now.tenant tenants.old)) → length (pairs_of tenants.new) + 1 ≡ length (pairs_of tenants.old) }
+    ensures held { OnOk result ((t : List ℕ) → held_of t tenants.new ≡ (if same t row.now.tenant then filter (λ item. not (has_key row.now.key item)) (held_of t tenants.old) else held_of t tenants.old)) }
+    ensures fewer { OnOk result (IsSome (item_at row.now.key (held_of row.now.tenant tenants.old)) → length (pairs_of tenants.new) + 1 ≡ length (pairs_of tenants.old)) }
+    ensures err { OnErr result ((t : List ℕ) → held_of t tenants.new ≡ held_of t tenants.old) }
     ensures ordered { AreHeld tenants.new }
 {
-    if let Some(held) = tenants.get_mut(&row.tenant) {
-        held.remove(&row.key);
+    match tenants.get_mut(&row.tenant) {
+        None => Ok(()),
+        Some(held) => held.remove(&row.key),
     }
 }

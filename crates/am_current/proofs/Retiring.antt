@@ -1,5 +1,5 @@
 -- What is in use stays in use where what is retired goes.
-use Rattle.std.proofs.Common.{◌≡◌, ℕ, Bool, true, false, not, nat_le, filter, find, List, [], ◌∷◌, Option, Some, None, IfNone, IfSome, cond, refl, sym, ap, ◌∙◌, subst, inl, inr}
+use Rattle.std.proofs.Common.{◌≡◌, ℕ, Bool, true, false, not, nat_le, filter, List, [], ◌∷◌, Option, Some, None, Result, Ok, Err, IfNone, IfOk, IfSome, OnErr, cond, refl, sym, ap, ◌∙◌, subst, inl, inr}
 use Rattle.std.specs.BTreeMap.{BTreeMap}
 use Rattle.std.specs.Option.{option_map_or}
 use Rattle.std.specs.Ordering.{is_eq}
@@ -22,17 +22,6 @@ use Rattle.am_item.proofs.Removed.{lacks_key}
 use Rattle.am_item.proofs.Rising.{here_at, later_at}
 use Rattle.am_current.specs.Current.{AreInUse, configuration_at, configuration_in, read_for}
 
--- what is found is found where only others went
-found_still : (q p : Item → Bool) → ((x : Item) → q x ≡ true → p x ≡ true) → (xs : List Item) → find q (filter p xs) ≡ find q xs
-found_still q p passes [] = refl
-found_still q p passes (x ∷ xs) = elim (cases_Bool (q x)) [
-  | inl h ↦ rw (passes x h, h) refl
-  | inr h ↦ elim (cases_Bool (p x)) [
-    | inl k ↦ rw (k, h) (found_still q p passes xs)
-    | inr k ↦ rw (k, h) (found_still q p passes xs)
-  ]
-]
-
 -- a configuration never retires
 never : (moment written : ℕ) (thing : Thing) → is_eq (key_cmp ConfigurationKey (key_in thing)) ≡ true →
     not (option_map_or (λ at. nat_le at moment) (thing_retires_at written thing) false) ≡ true
@@ -45,17 +34,6 @@ never moment written (SentEntry entry) h = absurd cc
 stays : (moment : ℕ) (x : Item) → has_key ConfigurationKey x ≡ true → not (is_retired moment x) ≡ true
 unfolding retires_at
 stays moment x h = never moment x.stamp.moment x.thing h
-
-same_used : (moment : ℕ) (held : List Item) → configuration_in (filter (λ x. not (is_retired moment x)) held) ≡ configuration_in held
-unfolding configuration_in
-same_used moment held = ap configuration_at (found_still (has_key ConfigurationKey) (λ x. not (is_retired moment x)) (stays moment) held)
-
-pub in_use_retired : (m : BTreeMap (List ℕ) Configuration) (book now : List (List ℕ × Item)) (moment : ℕ) → AreInUse m book
-    → ((t : List ℕ) → items_of t now ≡ filter (λ x. not (is_retired moment x)) (items_of t book)) → AreInUse m now
-in_use_retired m book now moment are gone t =
-    subst (λ used. IfSome (read_for t m) (λ c. c ≡ used)) (sym (ap configuration_in (gone t) ∙ same_used moment (items_of t book))) (are t)
-
--- ---- one item
 
 -- the item of a key is held, and is retired
 abbrev is_gone : ℕ → ThingKey → List Item → Bool
@@ -85,7 +63,7 @@ used_lacking key held other = ap configuration_at (at-lacking ConfigurationKey k
 
 module _ (m : BTreeMap (List ℕ) Configuration) (book now : List (List ℕ × Item)) (moment : ℕ) (are : AreInUse m book) where
   -- whatever was taken out, where something was
-  pub in_use_popped : (popped : Option (List ℕ × ThingKey))
+  in_use_popped : (popped : Option (List ℕ × ThingKey))
       → IfNone popped ((t : List ℕ) → items_of t now ≡ items_of t book)
       → IfSome popped (λ first. is_gone moment first.1 (items_of first.0 book) ≡ true)
       → IfSome popped (λ first. (t : List ℕ) →
@@ -101,3 +79,14 @@ module _ (m : BTreeMap (List ℕ) Configuration) (book now : List (List ℕ × I
       (λ e. ap configuration_in (cond-true _ (filter (lacks_key first.1) was) was e) ∙ used_lacking first.1 was other)
       (λ e. ap configuration_in (cond-false _ (filter (lacks_key first.1) was) was e)) in
       subst (λ c. IfSome (read_for t m) (λ d. d ≡ c)) (sym used) (are t)
+
+  -- .. and where memory ran out, nothing was
+  pub in_use_after : {E : Type 0} (r : Result (Option (List ℕ × ThingKey)) E)
+      → IfOk r (λ popped. IfNone popped ((t : List ℕ) → items_of t now ≡ items_of t book))
+      → IfOk r (λ popped. IfSome popped (λ first. is_gone moment first.1 (items_of first.0 book) ≡ true))
+      → IfOk r (λ popped. IfSome popped (λ first. (t : List ℕ) →
+      items_of t now ≡ cond (same t first.0) (filter (lacks_key first.1) (items_of t book)) (items_of t book)))
+      → OnErr r ((t : List ℕ) → items_of t now ≡ items_of t book)
+      → AreInUse m now
+  in_use_after (Ok popped) stay gone others _ = in_use_popped popped stay gone others
+  in_use_after (Err _) _ _ _ stay = in_use_popped None stay tt tt

@@ -1,5 +1,5 @@
 -- Which configuration is in use once items came.
-use Rattle.std.proofs.Common.{◌≡◌, ℕ, cond, true, false, List, [], ◌∷◌, Option, Some, None, Ok, refl, ap, ◌∙◌, subst, sym}
+use Rattle.std.proofs.Common.{◌≡◌, ℕ, Bor, cond, true, false, List, [], ◌∷◌, Option, Some, None, Ok, refl, ap, ◌∙◌, subst, sym}
 use Rattle.std.specs.List.{list_any}
 use Rattle.std.specs.Ordering.{is_eq}
 use Rattle.std.proofs.lemmas.Bool.{and_parts, cond-false, cond-true, or_from, or_parts}
@@ -13,10 +13,20 @@ use Rattle.am_item.specs.declared.item.Thing.TheVariants.{Configuration, Silence
 use Rattle.am_item.specs.Best.{IsRising, all_joined, item_at, joined}
 use Rattle.am_item.specs.Key.{exceeds, has_key, key_cmp, key_in}
 use Rattle.am_item.specs.declared.key.ThingKey.TheVariants.{Configuration as ConfigurationKey}
+use Rattle.am_item.specs.Shared.{thing_in}
+use Rattle.am_item.specs.declared.shared_item.Part.{Part}
+use Rattle.am_item.specs.declared.shared_item.Part.TheVariants as part
 use Rattle.am_item.proofs.Greatest.{by_cases}
 use Rattle.am_item.proofs.Joined.{at-joined, rising-joined, with_item}
 use Rattle.am_current.specs.Current.{configuration_at, configuration_by, configuration_in, or_default}
 use Rattle.am_current.specs.Replacing.{replaces}
+
+-- a part that is no configuration is none as a thing either
+pub no_configuration : (p : Part) → ((text : Bor (Option (List ℕ))) → p ≡ part.Configuration text → ⊥) → (text : Option (List ℕ)) → thing_in p ≡ Configuration text → ⊥
+no_configuration (part.Configuration held) other text is = other held refl
+no_configuration (part.Silence id silence) other text is = let clash = is in cc
+no_configuration (part.Alert labels alert) other text is = let clash = is in cc
+no_configuration (part.SentEntry key entry) other text is = let clash = is in cc
 
 -- a thing that is no configuration has another key
 other_key : (thing : Thing) → ((text : Option (List ℕ)) → thing ≡ Configuration text → ⊥) → is_eq (key_cmp ConfigurationKey (key_in thing)) ≡ false

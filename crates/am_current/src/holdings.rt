@@ -13,7 +13,7 @@ use crate::reading::Readings;
 use crate::replacing::is_replaced;
 use am_book::Book;
 use am_config::Config;
-use am_item::{Held, Item, ThingKey};
+use am_item::{Held, SharedItem, ThingKey};
 use am_tenant::TenantName;
 use am_text::Moment;
 use std::alloc::{AllocError, Global};
@@ -74,17 +74,17 @@ impl Holdings {
         ensures { IfOk result (λ holdings. holdings ≡ []) }
     {
         let parts = Parts {
-            book: Book::new(alloc),
+            book: Book::new(alloc)?,
             readings: Readings::new(alloc)?,
         };
         Ok(Holdings { parts })
     }
 
     /// Forgets all that is held. It takes no memory.
-    pub fn clear(&mut self, alloc: Global)
+    pub fn clear(&mut self)
         ensures { self.new ≡ [] }
     {
-        self.parts.book = Book::new(alloc);
+        self.parts.book.clear();
         self.parts.readings.clear();
     }
 
@@ -124,7 +124,7 @@ impl Holdings {
         &mut self,
         alloc: Global,
         tenant: &TenantName,
-        items: Vec<Item>,
+        items: Vec<SharedItem>,
     ) -> Result<Vec<bool>, AllocError>
         ensures joined { OnOk result ((t : List ℕ) → items_of t self.new ≡ (if same t tenant.now then all_joined (items_of t self.old) items.items else items_of t self.old)) }
         ensures new { IfOk result (λ new. new.items ≡ are_new (items_of tenant.now self.old) items.items) }
@@ -138,22 +138,21 @@ impl Holdings {
         put
     }
 
-    /// Drops of every tenant what is retired at the moment, which no configuration ever is. It takes no memory.
-    pub fn retire(&mut self, moment: Moment)
-        ensures { (t : List ℕ) → items_of t self.new ≡ filter (λ item. not (is_retired moment item)) (items_of t self.old) }
-    {
-        self.parts.book.retire(moment);
-    }
-
     /// Takes out the item that is retired first, where one is retired at the moment, and answers whose it was and its
-    /// key, which is never that of a configuration. It takes no memory, and looks at no more than that item and the one
-    /// that retires next.
-    pub fn pop_retired(&mut self, moment: Moment) -> Option<(TenantName, ThingKey)>
-        ensures none { IfNone result ((t : List ℕ) → filter (λ item. not (is_retired moment item)) (items_of t self.old) ≡ items_of t self.old) }
-        ensures stays { IfNone result ((t : List ℕ) → items_of t self.new ≡ items_of t self.old) }
-        ensures retired { IfSome result (λ first. option_map_or (is_retired moment) (item_at first.1 (items_of first.0 self.old)) false ≡ true) }
-        ensures others { IfSome result (λ first. (t : List ℕ) → items_of t self.new ≡ (if same t first.0 then filter (λ item. not (has_key first.1 item)) (items_of t self.old) else items_of t self.old)) }
-        ensures fewer { IfSome result (λ first. length self.new + 1 ≡ length self.old) }
+    /// key, which is never that of a configuration. It looks at no more than that item and the one that retires next.
+    ///
+    /// # Errors
+    /// Out of memory alone; what is held stays then.
+    pub fn pop_retired(
+        &mut self,
+        moment: Moment,
+    ) -> Result<Option<(TenantName, ThingKey)>, AllocError>
+        ensures none { IfOk result (λ first. IfNone first ((t : List ℕ) → filter (λ item. not (is_retired moment item)) (items_of t self.old) ≡ items_of t self.old)) }
+        ensures stays { IfOk result (λ first. IfNone first ((t : List ℕ) → items_of t self.new ≡ items_of t self.old)) }
+        ensures retired { IfOk result (λ first. IfSome first (λ first. option_map_or (is_retired moment) (item_at first.1 (items_of first.0 self.old)) false ≡ true)) }
+        ensures others { IfOk result (λ first. IfSome first (λ first. (t : List ℕ) → items_of t self.new ≡ (if same t first.0 then filter (λ item. not (has_key first.1 item)) (items_of t self.old) else items_of t self.old))) }
+        ensures fewer { IfOk result (λ first. IfSome first (λ _. length self.new + 1 ≡ length self.old)) }
+        ensures err { OnErr result ((t : List ℕ) → items_of t self.new ≡ items_of t self.old) }
     {
         self.parts.book.pop_retired(moment)
     }

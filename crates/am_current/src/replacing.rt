@@ -8,11 +8,11 @@ ghost use Rattle.am_item.specs.Held.{configuration_item};
 ghost use Rattle.am_item.specs.declared.key.ThingKey.TheVariants.{Configuration as ConfigurationKey};
 ghost use Rattle.am_current.specs.Replacing.{replaces};
 
-use am_item::{Held, Item, Stamped, Thing};
+use am_item::{Held, Part, SharedItem, Stamped};
 use am_text::Text;
 
 /// Whether one of these items is a configuration newer than the one that is held.
-pub fn is_replaced(held: &Held, items: &[Item]) -> bool
+pub fn is_replaced(held: &Held, items: &[SharedItem]) -> bool
     ensures { result ≡ list_any (replaces (item_at ConfigurationKey held.now)) items.now }
 {
     let configuration = held.configuration();
@@ -20,12 +20,12 @@ pub fn is_replaced(held: &Held, items: &[Item]) -> bool
 }
 
 // Whether this item is.
-fn replaces(configuration: Option<&Stamped<Option<Text>>>, item: &Item) -> bool
+fn replaces(configuration: Option<&Stamped<Option<Text>>>, item: &SharedItem) -> bool
     ensures { result ≡ replaces (option_map configuration_item (option_copied configuration.entry)) item.now }
 {
-    match (&item.thing, configuration) {
-        (Thing::Configuration(_), Some(held)) => item.stamp.exceeds(&held.stamp),
-        (Thing::Configuration(_), None) => true,
+    match (item.part(), configuration) {
+        (Part::Configuration(_), Some(held)) => item.stamp().exceeds(&held.stamp),
+        (Part::Configuration(_), None) => true,
         _ => false,
     }
 }

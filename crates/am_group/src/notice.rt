@@ -11,11 +11,10 @@ ghost use Rattle.am_group.specs.Notices.{deed_for, deeds_from, entry_at, has_new
 
 use am_alert::HeldAlert;
 use am_config::{Receiver, Webhook};
-use am_item::{EntryDetails, EntryKey, LabelSets, SentEntry, Stamped};
+use am_item::{EntryDetails, EntryKey, LabelSets, SentEntry, SharedMap, Stamped};
 use am_labels::LabelSet;
 use am_text::{Listed, Moment, Text};
 use std::alloc::{AllocError, Global};
-use std::collections::BTreeMap;
 
 /// A notice that goes out.
 #[derive(Drop)]
@@ -63,7 +62,7 @@ pub fn flush<'a>(
     alloc: Global,
     receiver: &Receiver,
     key: &Text,
-    sent: &BTreeMap<EntryKey, Stamped<EntryDetails>>,
+    sent: &SharedMap<EntryKey, EntryDetails>,
     alerts: &[HeldAlert<'a>],
     repeat_interval: u64,
     moment: Moment,
@@ -71,7 +70,7 @@ pub fn flush<'a>(
     requires rising { AreRising (map held_alert alerts.now) }
     requires few { length receiver.now.webhooks ≤ most_webhooks }
     ensures { IfOk result (λ v. map deed v.items
-        ≡ deeds_from 0 receiver.now.name key.now receiver.now.webhooks sent.now.entries (map held_alert alerts.now) repeat_interval moment) }
+        ≡ deeds_from 0 receiver.now.name key.now receiver.now.webhooks sent.now (map held_alert alerts.now) repeat_interval moment) }
 {
     let parted = part(alloc, alerts, moment)?;
     let mut acts = Vec::new(alloc);
@@ -122,9 +121,9 @@ fn entry_at<'a>(
     receiver: &Text,
     key: &Text,
     webhook: u8,
-    sent: &'a BTreeMap<EntryKey, Stamped<EntryDetails>>,
+    sent: &'a SharedMap<EntryKey, EntryDetails>,
 ) -> Result<Option<&'a Stamped<EntryDetails>>, AllocError>
-    ensures { IfOk result (λ entry. option_copied entry ≡ entry_at receiver.now key.now webhook sent.now.entries) }
+    ensures { IfOk result (λ entry. option_copied entry ≡ entry_at receiver.now key.now webhook sent.now) }
 {
     let key = EntryKey {
         receiver: receiver.copy(alloc)?,

@@ -6,7 +6,7 @@ ghost use Rattle.am_incarnation.specs.Incarnations.{IsGreatestFrom, IsGreatestIn
 ghost use Rattle.am_rows.specs.Refusing.{IsCaused, IsJudged, MayRefuse, Wears};
 ghost use Rattle.am_rows.specs.Rows.{Keeps, rows_of};
 
-use am_item::Item;
+use am_item::SharedItem;
 use am_rows::{Rows, StoreRefusal};
 use am_tenant::TenantName;
 use am_text::Failure;
@@ -55,12 +55,12 @@ fn greatest_of<R: Rows>(
 }
 
 // The greatest of this incarnation and those of the rows.
-fn greatest_from(least: u32, rows: &[Item]) -> u32
+fn greatest_from(least: u32, rows: &[SharedItem]) -> u32
     ensures { IsGreatestFrom least result rows.now }
 {
     let mut greatest = least;
     for row in rows {
-        greatest = greatest.max(row.stamp.incarnation);
+        greatest = greatest.max(row.stamp().incarnation);
     }
     greatest
 }

@@ -17,7 +17,7 @@ use am_context::{Context, Start};
 use am_http::{
     ConnectionId, Fed, Front, FrontRefusal, Request, ready_reply, refusal_body, reply_bytes,
 };
-use am_item::Fault;
+use am_item::{Fault, to_shared};
 use am_node::{Dispatch, Made, Node};
 use am_pattern::PatternCache;
 use am_rows::{Rows, StoreRefusal};
@@ -401,8 +401,9 @@ impl Instance {
     {
         let decided = self.decide(alloc, request, occasion)?;
         let bytes = reply_bytes(alloc, decided.status, decided.body.as_slice())?;
+        let items = to_shared(alloc, decided.items)?;
         let made = Made {
-            items: decided.items,
+            items,
             drawn: decided.drawn,
         };
         let cache = &mut self.cache;

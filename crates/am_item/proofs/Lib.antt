@@ -9,8 +9,11 @@ pub mod Joining
 pub mod Adjacent
 pub mod ByName
 pub mod Whole
-pub mod Removed
 pub mod Merging
 pub mod Tallies
 pub mod Reading
-pub mod NewestLemmas
+pub mod Entries
+pub mod Steps
+pub mod Found
+pub mod Removed
+pub mod Sharing

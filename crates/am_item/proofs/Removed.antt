@@ -74,55 +74,55 @@ configuration_gone (Some v) = refl
 pub removed_configuration : (h n : Inside) → n.configuration ≡ None → n.silences ≡ h.silences → n.alerts ≡ h.alerts → n.sent ≡ h.sent → items_in n ≡ filter (lacks_key ConfigurationKey) (items_in h)
 unfolding items_in key_cmp
 removed_configuration h n configuration silences alerts sent =
-    ap (λ o. configuration_items o ++ (items_by silence_item n.silences.entries ++ (items_by alert_item n.alerts.entries ++ items_by entry_item n.sent.entries))) configuration
-    ∙ ap (λ m. items_by silence_item m.entries ++ (items_by alert_item n.alerts.entries ++ items_by entry_item n.sent.entries)) silences
-    ∙ ap (λ m. items_by silence_item h.silences.entries ++ (items_by alert_item m.entries ++ items_by entry_item n.sent.entries)) alerts
-    ∙ ap (λ m. items_by silence_item h.silences.entries ++ (items_by alert_item h.alerts.entries ++ items_by entry_item m.entries)) sent
-    ∙ sym (passed (lacks_key ConfigurationKey) (configuration_items h.configuration) (items_by silence_item h.silences.entries) (items_by alert_item h.alerts.entries) (items_by entry_item h.sent.entries)
-    [] (items_by silence_item h.silences.entries) (items_by alert_item h.alerts.entries) (items_by entry_item h.sent.entries)
-    (configuration_gone h.configuration) (passed_by silence_item (lacks_key ConfigurationKey) (λ k v. refl) h.silences.entries)
-    (passed_by alert_item (lacks_key ConfigurationKey) (λ k v. refl) h.alerts.entries) (passed_by entry_item (lacks_key ConfigurationKey) (λ k v. refl) h.sent.entries))
+    ap (λ o. configuration_items o ++ (items_by silence_item n.silences ++ (items_by alert_item n.alerts ++ items_by entry_item n.sent))) configuration
+    ∙ ap (λ m. items_by silence_item m ++ (items_by alert_item n.alerts ++ items_by entry_item n.sent)) silences
+    ∙ ap (λ m. items_by silence_item h.silences ++ (items_by alert_item m ++ items_by entry_item n.sent)) alerts
+    ∙ ap (λ m. items_by silence_item h.silences ++ (items_by alert_item h.alerts ++ items_by entry_item m)) sent
+    ∙ sym (passed (lacks_key ConfigurationKey) (configuration_items h.configuration) (items_by silence_item h.silences) (items_by alert_item h.alerts) (items_by entry_item h.sent)
+    [] (items_by silence_item h.silences) (items_by alert_item h.alerts) (items_by entry_item h.sent)
+    (configuration_gone h.configuration) (passed_by silence_item (lacks_key ConfigurationKey) (λ k v. refl) h.silences)
+    (passed_by alert_item (lacks_key ConfigurationKey) (λ k v. refl) h.alerts) (passed_by entry_item (lacks_key ConfigurationKey) (λ k v. refl) h.sent))
 
-pub removed_silence : (h n : Inside) (id : List ℕ) → AreOrdered h → n.configuration ≡ h.configuration → n.silences.entries ≡ remove_entry (is_at (ids_cmp id)) h.silences.entries → n.alerts ≡ h.alerts → n.sent ≡ h.sent
+pub removed_silence : (h n : Inside) (id : List ℕ) → AreOrdered h → n.configuration ≡ h.configuration → n.silences ≡ remove_entry (is_at (ids_cmp id)) h.silences → n.alerts ≡ h.alerts → n.sent ≡ h.sent
     → items_in n ≡ filter (lacks_key (SilenceKey id)) (items_in h)
 unfolding items_in key_cmp
 removed_silence h n id are configuration silences alerts sent =
-    let left = items_by silence_item (remove_entry (is_at (ids_cmp id)) h.silences.entries) in
-    ap (λ o. configuration_items o ++ (items_by silence_item n.silences.entries ++ (items_by alert_item n.alerts.entries ++ items_by entry_item n.sent.entries))) configuration
-    ∙ ap (λ es. configuration_items h.configuration ++ (items_by silence_item es ++ (items_by alert_item n.alerts.entries ++ items_by entry_item n.sent.entries))) silences
-    ∙ ap (λ m. configuration_items h.configuration ++ (left ++ (items_by alert_item m.entries ++ items_by entry_item n.sent.entries))) alerts
-    ∙ ap (λ m. configuration_items h.configuration ++ (left ++ (items_by alert_item h.alerts.entries ++ items_by entry_item m.entries))) sent
-    ∙ sym (passed (lacks_key (SilenceKey id)) (configuration_items h.configuration) (items_by silence_item h.silences.entries) (items_by alert_item h.alerts.entries) (items_by entry_item h.sent.entries)
-    (configuration_items h.configuration) left (items_by alert_item h.alerts.entries) (items_by entry_item h.sent.entries)
+    let left = items_by silence_item (remove_entry (is_at (ids_cmp id)) h.silences) in
+    ap (λ o. configuration_items o ++ (items_by silence_item n.silences ++ (items_by alert_item n.alerts ++ items_by entry_item n.sent))) configuration
+    ∙ ap (λ es. configuration_items h.configuration ++ (items_by silence_item es ++ (items_by alert_item n.alerts ++ items_by entry_item n.sent))) silences
+    ∙ ap (λ m. configuration_items h.configuration ++ (left ++ (items_by alert_item m ++ items_by entry_item n.sent))) alerts
+    ∙ ap (λ m. configuration_items h.configuration ++ (left ++ (items_by alert_item h.alerts ++ items_by entry_item m))) sent
+    ∙ sym (passed (lacks_key (SilenceKey id)) (configuration_items h.configuration) (items_by silence_item h.silences) (items_by alert_item h.alerts) (items_by entry_item h.sent)
+    (configuration_items h.configuration) left (items_by alert_item h.alerts) (items_by entry_item h.sent)
     (other_configuration (SilenceKey id) refl h.configuration)
-    (removed_by ids_cmp nat_list_cmp_total exact_bytes SilenceKey silence_item (λ k v. refl) (λ k v. refl) silences_like id h.silences.entries are.silences)
-    (passed_by alert_item (lacks_key (SilenceKey id)) (λ k v. refl) h.alerts.entries) (passed_by entry_item (lacks_key (SilenceKey id)) (λ k v. refl) h.sent.entries))
+    (removed_by ids_cmp nat_list_cmp_total exact_bytes SilenceKey silence_item (λ k v. refl) (λ k v. refl) silences_like id h.silences are.silences)
+    (passed_by alert_item (lacks_key (SilenceKey id)) (λ k v. refl) h.alerts) (passed_by entry_item (lacks_key (SilenceKey id)) (λ k v. refl) h.sent))
 
-pub removed_alert : (h n : Inside) (labels : List Label) → AreOrdered h → n.configuration ≡ h.configuration → n.silences ≡ h.silences → n.alerts.entries ≡ remove_entry (is_at (labels_cmp labels)) h.alerts.entries → n.sent ≡ h.sent
+pub removed_alert : (h n : Inside) (labels : List Label) → AreOrdered h → n.configuration ≡ h.configuration → n.silences ≡ h.silences → n.alerts ≡ remove_entry (is_at (labels_cmp labels)) h.alerts → n.sent ≡ h.sent
     → items_in n ≡ filter (lacks_key (AlertKey labels)) (items_in h)
 unfolding items_in key_cmp
 removed_alert h n labels are configuration silences alerts sent =
-    let left = items_by alert_item (remove_entry (is_at (labels_cmp labels)) h.alerts.entries) in
-    ap (λ o. configuration_items o ++ (items_by silence_item n.silences.entries ++ (items_by alert_item n.alerts.entries ++ items_by entry_item n.sent.entries))) configuration
-    ∙ ap (λ m. configuration_items h.configuration ++ (items_by silence_item m.entries ++ (items_by alert_item n.alerts.entries ++ items_by entry_item n.sent.entries))) silences
-    ∙ ap (λ es. configuration_items h.configuration ++ (items_by silence_item h.silences.entries ++ (items_by alert_item es ++ items_by entry_item n.sent.entries))) alerts
-    ∙ ap (λ m. configuration_items h.configuration ++ (items_by silence_item h.silences.entries ++ (left ++ items_by entry_item m.entries))) sent
-    ∙ sym (passed (lacks_key (AlertKey labels)) (configuration_items h.configuration) (items_by silence_item h.silences.entries) (items_by alert_item h.alerts.entries) (items_by entry_item h.sent.entries)
-    (configuration_items h.configuration) (items_by silence_item h.silences.entries) left (items_by entry_item h.sent.entries)
-    (other_configuration (AlertKey labels) refl h.configuration) (passed_by silence_item (lacks_key (AlertKey labels)) (λ k v. refl) h.silences.entries)
-    (removed_by labels_cmp labels_total labels_exact AlertKey alert_item (λ k v. refl) (λ k v. refl) alerts_like labels h.alerts.entries are.alerts)
-    (passed_by entry_item (lacks_key (AlertKey labels)) (λ k v. refl) h.sent.entries))
+    let left = items_by alert_item (remove_entry (is_at (labels_cmp labels)) h.alerts) in
+    ap (λ o. configuration_items o ++ (items_by silence_item n.silences ++ (items_by alert_item n.alerts ++ items_by entry_item n.sent))) configuration
+    ∙ ap (λ m. configuration_items h.configuration ++ (items_by silence_item m ++ (items_by alert_item n.alerts ++ items_by entry_item n.sent))) silences
+    ∙ ap (λ es. configuration_items h.configuration ++ (items_by silence_item h.silences ++ (items_by alert_item es ++ items_by entry_item n.sent))) alerts
+    ∙ ap (λ m. configuration_items h.configuration ++ (items_by silence_item h.silences ++ (left ++ items_by entry_item m))) sent
+    ∙ sym (passed (lacks_key (AlertKey labels)) (configuration_items h.configuration) (items_by silence_item h.silences) (items_by alert_item h.alerts) (items_by entry_item h.sent)
+    (configuration_items h.configuration) (items_by silence_item h.silences) left (items_by entry_item h.sent)
+    (other_configuration (AlertKey labels) refl h.configuration) (passed_by silence_item (lacks_key (AlertKey labels)) (λ k v. refl) h.silences)
+    (removed_by labels_cmp labels_total labels_exact AlertKey alert_item (λ k v. refl) (λ k v. refl) alerts_like labels h.alerts are.alerts)
+    (passed_by entry_item (lacks_key (AlertKey labels)) (λ k v. refl) h.sent))
 
-pub removed_entry : (h n : Inside) (key : EntryKey) → AreOrdered h → n.configuration ≡ h.configuration → n.silences ≡ h.silences → n.alerts ≡ h.alerts → n.sent.entries ≡ remove_entry (is_at (entry_cmp key)) h.sent.entries
+pub removed_entry : (h n : Inside) (key : EntryKey) → AreOrdered h → n.configuration ≡ h.configuration → n.silences ≡ h.silences → n.alerts ≡ h.alerts → n.sent ≡ remove_entry (is_at (entry_cmp key)) h.sent
     → items_in n ≡ filter (lacks_key (SentEntryKey key)) (items_in h)
 unfolding items_in key_cmp
 removed_entry h n key are configuration silences alerts sent =
-    ap (λ o. configuration_items o ++ (items_by silence_item n.silences.entries ++ (items_by alert_item n.alerts.entries ++ items_by entry_item n.sent.entries))) configuration
-    ∙ ap (λ m. configuration_items h.configuration ++ (items_by silence_item m.entries ++ (items_by alert_item n.alerts.entries ++ items_by entry_item n.sent.entries))) silences
-    ∙ ap (λ m. configuration_items h.configuration ++ (items_by silence_item h.silences.entries ++ (items_by alert_item m.entries ++ items_by entry_item n.sent.entries))) alerts
-    ∙ ap (λ es. configuration_items h.configuration ++ (items_by silence_item h.silences.entries ++ (items_by alert_item h.alerts.entries ++ items_by entry_item es))) sent
-    ∙ sym (passed (lacks_key (SentEntryKey key)) (configuration_items h.configuration) (items_by silence_item h.silences.entries) (items_by alert_item h.alerts.entries) (items_by entry_item h.sent.entries)
-    (configuration_items h.configuration) (items_by silence_item h.silences.entries) (items_by alert_item h.alerts.entries) (items_by entry_item (remove_entry (is_at (entry_cmp key)) h.sent.entries))
-    (other_configuration (SentEntryKey key) refl h.configuration) (passed_by silence_item (lacks_key (SentEntryKey key)) (λ k v. refl) h.silences.entries)
-    (passed_by alert_item (lacks_key (SentEntryKey key)) (λ k v. refl) h.alerts.entries)
-    (removed_by entry_cmp entry_total entries_exact SentEntryKey entry_item (λ k v. refl) (λ k v. refl) entries_like key h.sent.entries are.sent))
+    ap (λ o. configuration_items o ++ (items_by silence_item n.silences ++ (items_by alert_item n.alerts ++ items_by entry_item n.sent))) configuration
+    ∙ ap (λ m. configuration_items h.configuration ++ (items_by silence_item m ++ (items_by alert_item n.alerts ++ items_by entry_item n.sent))) silences
+    ∙ ap (λ m. configuration_items h.configuration ++ (items_by silence_item h.silences ++ (items_by alert_item m ++ items_by entry_item n.sent))) alerts
+    ∙ ap (λ es. configuration_items h.configuration ++ (items_by silence_item h.silences ++ (items_by alert_item h.alerts ++ items_by entry_item es))) sent
+    ∙ sym (passed (lacks_key (SentEntryKey key)) (configuration_items h.configuration) (items_by silence_item h.silences) (items_by alert_item h.alerts) (items_by entry_item h.sent)
+    (configuration_items h.configuration) (items_by silence_item h.silences) (items_by alert_item h.alerts) (items_by entry_item (remove_entry (is_at (entry_cmp key)) h.sent))
+    (other_configuration (SentEntryKey key) refl h.configuration) (passed_by silence_item (lacks_key (SentEntryKey key)) (λ k v. refl) h.silences)
+    (passed_by alert_item (lacks_key (SentEntryKey key)) (λ k v. refl) h.alerts)
+    (removed_by entry_cmp entry_total entries_exact SentEntryKey entry_item (λ k v. refl) (λ k v. refl) entries_like key h.sent are.sent))

@@ -1,6 +1,7 @@
 -- All that is held of a tenant: it rises, a look-up goes to the kind of its key, and what an item makes of it.
 use Rattle.std.proofs.Common.{◌≡◌, ℕ, Bool, false, cond, List, [], ◌∷◌, ◌++◌, Option, Some, None, Ordering, refl, sym, ap, ◌∙◌}
-use Rattle.std.specs.BTreeMap.{get, is_at}
+use Rattle.std.specs.BTreeMap.{is_at}
+use Rattle.am_item.specs.Sorted.{get}
 use Rattle.std.specs.Cmp.Lexicographic.{slice_cmp, nat_list_cmp_total}
 use Rattle.std.specs.List.{AllByRecursion, filter}
 use Rattle.std.specs.List.Sorted.{IsStrictlySortedBy}
@@ -112,15 +113,15 @@ entries_like a b = refl
 pub rising_whole : (h : Inside) → AreOrdered h → IsRising (items_in h)
 unfolding items_in
 rising_whole h are =
-    let entries = items_by entry_item h.sent.entries in
-    let alerts = items_by alert_item h.alerts.entries in
-    let silences = items_by silence_item h.silences.entries in
-    let of_entries : OfKind 4 entries = kind_by entry_cmp entry_total entries_exact SentEntryKey entry_item (λ k v. refl) (λ k v. refl) entries_like 4 (λ k. refl) h.sent.entries in
-    let of_alerts : OfKind 3 alerts = kind_by labels_cmp labels_total labels_exact AlertKey alert_item (λ k v. refl) (λ k v. refl) alerts_like 3 (λ k. refl) h.alerts.entries in
-    let of_silences : OfKind 2 silences = kind_by ids_cmp nat_list_cmp_total exact_bytes SilenceKey silence_item (λ k v. refl) (λ k v. refl) silences_like 2 (λ k. refl) h.silences.entries in
-    let up_entries = rising_by entry_cmp entry_total entries_exact SentEntryKey entry_item (λ k v. refl) (λ k v. refl) entries_like h.sent.entries are.sent in
-    let up_alerts = rising_by labels_cmp labels_total labels_exact AlertKey alert_item (λ k v. refl) (λ k v. refl) alerts_like h.alerts.entries are.alerts in
-    let up_silences = rising_by ids_cmp nat_list_cmp_total exact_bytes SilenceKey silence_item (λ k v. refl) (λ k v. refl) silences_like h.silences.entries are.silences in
+    let entries = items_by entry_item h.sent in
+    let alerts = items_by alert_item h.alerts in
+    let silences = items_by silence_item h.silences in
+    let of_entries : OfKind 4 entries = kind_by entry_cmp entry_total entries_exact SentEntryKey entry_item (λ k v. refl) (λ k v. refl) entries_like 4 (λ k. refl) h.sent in
+    let of_alerts : OfKind 3 alerts = kind_by labels_cmp labels_total labels_exact AlertKey alert_item (λ k v. refl) (λ k v. refl) alerts_like 3 (λ k. refl) h.alerts in
+    let of_silences : OfKind 2 silences = kind_by ids_cmp nat_list_cmp_total exact_bytes SilenceKey silence_item (λ k v. refl) (λ k v. refl) silences_like 2 (λ k. refl) h.silences in
+    let up_entries = rising_by entry_cmp entry_total entries_exact SentEntryKey entry_item (λ k v. refl) (λ k v. refl) entries_like h.sent are.sent in
+    let up_alerts = rising_by labels_cmp labels_total labels_exact AlertKey alert_item (λ k v. refl) (λ k v. refl) alerts_like h.alerts are.alerts in
+    let up_silences = rising_by ids_cmp nat_list_cmp_total exact_bytes SilenceKey silence_item (λ k v. refl) (λ k v. refl) silences_like h.silences are.silences in
     let later_alerts = rising_row 3 alerts entries of_alerts up_alerts (above_kind 3 4 entries refl of_entries) up_entries in
     let above_silences : AboveKind 2 (alerts ++ entries) = all_append _ alerts entries (above_kind 2 3 alerts refl of_alerts) (above_kind 2 4 entries refl of_entries) in
     let later_silences = rising_row 2 silences (alerts ++ entries) of_silences up_silences above_silences later_alerts in
@@ -171,23 +172,23 @@ not_entry = at_other entry_cmp entry_total entries_exact SentEntryKey entry_item
 pub at_whole : (key : Key) (h : Inside) → item_at key (items_in h) ≡ at_held key h
 unfolding items_in key_cmp
 at_whole ConfigurationKey h =
-    four ConfigurationKey (configuration_items h.configuration) (items_by silence_item h.silences.entries) (items_by alert_item h.alerts.entries) (items_by entry_item h.sent.entries) _ None None None
-    (at_configuration h.configuration) (not_silence ConfigurationKey (λ id. refl) h.silences.entries) (not_alert ConfigurationKey (λ labels. refl) h.alerts.entries) (not_entry ConfigurationKey (λ entry. refl) h.sent.entries)
+    four ConfigurationKey (configuration_items h.configuration) (items_by silence_item h.silences) (items_by alert_item h.alerts) (items_by entry_item h.sent) _ None None None
+    (at_configuration h.configuration) (not_silence ConfigurationKey (λ id. refl) h.silences) (not_alert ConfigurationKey (λ labels. refl) h.alerts) (not_entry ConfigurationKey (λ entry. refl) h.sent)
     ∙ first-none _
 at_whole (SilenceKey id) h =
-    four (SilenceKey id) (configuration_items h.configuration) (items_by silence_item h.silences.entries) (items_by alert_item h.alerts.entries) (items_by entry_item h.sent.entries) None _ None None
-    (not_configuration (SilenceKey id) refl h.configuration) (at_by ids_cmp nat_list_cmp_total exact_bytes SilenceKey silence_item (λ k v. refl) (λ k v. refl) silences_like id h.silences.entries)
-    (not_alert (SilenceKey id) (λ labels. refl) h.alerts.entries) (not_entry (SilenceKey id) (λ entry. refl) h.sent.entries)
+    four (SilenceKey id) (configuration_items h.configuration) (items_by silence_item h.silences) (items_by alert_item h.alerts) (items_by entry_item h.sent) None _ None None
+    (not_configuration (SilenceKey id) refl h.configuration) (at_by ids_cmp nat_list_cmp_total exact_bytes SilenceKey silence_item (λ k v. refl) (λ k v. refl) silences_like id h.silences)
+    (not_alert (SilenceKey id) (λ labels. refl) h.alerts) (not_entry (SilenceKey id) (λ entry. refl) h.sent)
     ∙ first-none _
 at_whole (AlertKey labels) h =
-    four (AlertKey labels) (configuration_items h.configuration) (items_by silence_item h.silences.entries) (items_by alert_item h.alerts.entries) (items_by entry_item h.sent.entries) None None _ None
-    (not_configuration (AlertKey labels) refl h.configuration) (not_silence (AlertKey labels) (λ id. refl) h.silences.entries)
-    (at_by labels_cmp labels_total labels_exact AlertKey alert_item (λ k v. refl) (λ k v. refl) alerts_like labels h.alerts.entries) (not_entry (AlertKey labels) (λ entry. refl) h.sent.entries)
+    four (AlertKey labels) (configuration_items h.configuration) (items_by silence_item h.silences) (items_by alert_item h.alerts) (items_by entry_item h.sent) None None _ None
+    (not_configuration (AlertKey labels) refl h.configuration) (not_silence (AlertKey labels) (λ id. refl) h.silences)
+    (at_by labels_cmp labels_total labels_exact AlertKey alert_item (λ k v. refl) (λ k v. refl) alerts_like labels h.alerts) (not_entry (AlertKey labels) (λ entry. refl) h.sent)
     ∙ first-none _
 at_whole (SentEntryKey entry) h =
-    four (SentEntryKey entry) (configuration_items h.configuration) (items_by silence_item h.silences.entries) (items_by alert_item h.alerts.entries) (items_by entry_item h.sent.entries) None None None _
-    (not_configuration (SentEntryKey entry) refl h.configuration) (not_silence (SentEntryKey entry) (λ id. refl) h.silences.entries)
-    (not_alert (SentEntryKey entry) (λ labels. refl) h.alerts.entries) (at_by entry_cmp entry_total entries_exact SentEntryKey entry_item (λ k v. refl) (λ k v. refl) entries_like entry h.sent.entries)
+    four (SentEntryKey entry) (configuration_items h.configuration) (items_by silence_item h.silences) (items_by alert_item h.alerts) (items_by entry_item h.sent) None None None _
+    (not_configuration (SentEntryKey entry) refl h.configuration) (not_silence (SentEntryKey entry) (λ id. refl) h.silences)
+    (not_alert (SentEntryKey entry) (λ labels. refl) h.alerts) (at_by entry_cmp entry_total entries_exact SentEntryKey entry_item (λ k v. refl) (λ k v. refl) entries_like entry h.sent)
 
 -- ---- one kind of all that is held
 
@@ -204,33 +205,33 @@ no_configuration p h None = refl
 no_configuration p h (Some v) = cond-false _ (configuration_item v ∷ []) [] (h v)
 
 -- the silences of all that is held
-pub silences_whole : (h : Inside) → silences_of (items_in h) ≡ items_by silence_item h.silences.entries
+pub silences_whole : (h : Inside) → silences_of (items_in h) ≡ items_by silence_item h.silences
 unfolding items_in
 silences_whole h =
     let p : Item → Bool = λ (x : Item). is_silence x.thing in
-    passed p (configuration_items h.configuration) (items_by silence_item h.silences.entries) (items_by alert_item h.alerts.entries) (items_by entry_item h.sent.entries)
-    [] (items_by silence_item h.silences.entries) [] [] (no_configuration p (λ v. refl) h.configuration) (passed_by silence_item p (λ k v. refl) h.silences.entries)
-    (failed_by alert_item p (λ k v. refl) h.alerts.entries) (failed_by entry_item p (λ k v. refl) h.sent.entries)
-    ∙ append-nil (items_by silence_item h.silences.entries)
+    passed p (configuration_items h.configuration) (items_by silence_item h.silences) (items_by alert_item h.alerts) (items_by entry_item h.sent)
+    [] (items_by silence_item h.silences) [] [] (no_configuration p (λ v. refl) h.configuration) (passed_by silence_item p (λ k v. refl) h.silences)
+    (failed_by alert_item p (λ k v. refl) h.alerts) (failed_by entry_item p (λ k v. refl) h.sent)
+    ∙ append-nil (items_by silence_item h.silences)
 
 -- the alerts of all that is held
-pub alerts_whole : (h : Inside) → alerts_of (items_in h) ≡ items_by alert_item h.alerts.entries
+pub alerts_whole : (h : Inside) → alerts_of (items_in h) ≡ items_by alert_item h.alerts
 unfolding items_in
 alerts_whole h =
     let p : Item → Bool = λ (x : Item). is_alert x.thing in
-    passed p (configuration_items h.configuration) (items_by silence_item h.silences.entries) (items_by alert_item h.alerts.entries) (items_by entry_item h.sent.entries)
-    [] [] (items_by alert_item h.alerts.entries) [] (no_configuration p (λ v. refl) h.configuration) (failed_by silence_item p (λ k v. refl) h.silences.entries)
-    (passed_by alert_item p (λ k v. refl) h.alerts.entries) (failed_by entry_item p (λ k v. refl) h.sent.entries)
-    ∙ append-nil (items_by alert_item h.alerts.entries)
+    passed p (configuration_items h.configuration) (items_by silence_item h.silences) (items_by alert_item h.alerts) (items_by entry_item h.sent)
+    [] [] (items_by alert_item h.alerts) [] (no_configuration p (λ v. refl) h.configuration) (failed_by silence_item p (λ k v. refl) h.silences)
+    (passed_by alert_item p (λ k v. refl) h.alerts) (failed_by entry_item p (λ k v. refl) h.sent)
+    ∙ append-nil (items_by alert_item h.alerts)
 
 -- the sent entries of all that is held
-pub entries_whole : (h : Inside) → entries_of (items_in h) ≡ items_by entry_item h.sent.entries
+pub entries_whole : (h : Inside) → entries_of (items_in h) ≡ items_by entry_item h.sent
 unfolding items_in
 entries_whole h =
     let p : Item → Bool = λ (x : Item). is_sent_entry x.thing in
-    passed p (configuration_items h.configuration) (items_by silence_item h.silences.entries) (items_by alert_item h.alerts.entries) (items_by entry_item h.sent.entries)
-    [] [] [] (items_by entry_item h.sent.entries) (no_configuration p (λ v. refl) h.configuration) (failed_by silence_item p (λ k v. refl) h.silences.entries)
-    (failed_by alert_item p (λ k v. refl) h.alerts.entries) (passed_by entry_item p (λ k v. refl) h.sent.entries)
+    passed p (configuration_items h.configuration) (items_by silence_item h.silences) (items_by alert_item h.alerts) (items_by entry_item h.sent)
+    [] [] [] (items_by entry_item h.sent) (no_configuration p (λ v. refl) h.configuration) (failed_by silence_item p (λ k v. refl) h.silences)
+    (failed_by alert_item p (λ k v. refl) h.alerts) (passed_by entry_item p (λ k v. refl) h.sent)
 
 -- all that is held is its kinds in a row
 pub in_a_row : (h : Inside) → items_in h ≡ configuration_items h.configuration ++ (silences_of (items_in h) ++ (alerts_of (items_in h) ++ entries_of (items_in h)))
@@ -238,8 +239,8 @@ unfolding items_in
 in_a_row h =
     let front = configuration_items h.configuration in
     sym (ap (λ xs. front ++ (xs ++ (alerts_of (items_in h) ++ entries_of (items_in h)))) (silences_whole h)
-    ∙ ap (λ xs. front ++ (items_by silence_item h.silences.entries ++ (xs ++ entries_of (items_in h)))) (alerts_whole h)
-    ∙ ap (λ xs. front ++ (items_by silence_item h.silences.entries ++ (items_by alert_item h.alerts.entries ++ xs))) (entries_whole h))
+    ∙ ap (λ xs. front ++ (items_by silence_item h.silences ++ (xs ++ entries_of (items_in h)))) (alerts_whole h)
+    ∙ ap (λ xs. front ++ (items_by silence_item h.silences ++ (items_by alert_item h.alerts ++ xs))) (entries_whole h))
 
 -- ---- an item more
 
@@ -299,10 +300,10 @@ came_entry h n k v configuration silences alerts new (SentEntryKey entry) =
     came_by entry_cmp entry_total entries_exact SentEntryKey entry_item (λ q u. refl) (λ q u. refl) entries_like k entry v (get entry_cmp h.sent entry) (get entry_cmp n.sent entry) (new entry)
 
 -- the same entries of each kind are the same items
-pub same_whole : (h n : Inside) → n.configuration ≡ h.configuration → n.silences.entries ≡ h.silences.entries → n.alerts.entries ≡ h.alerts.entries → n.sent.entries ≡ h.sent.entries → items_in n ≡ items_in h
+pub same_whole : (h n : Inside) → n.configuration ≡ h.configuration → n.silences ≡ h.silences → n.alerts ≡ h.alerts → n.sent ≡ h.sent → items_in n ≡ items_in h
 unfolding items_in
 same_whole h n configuration silences alerts sent =
-    ap (λ o. configuration_items o ++ (items_by silence_item n.silences.entries ++ (items_by alert_item n.alerts.entries ++ items_by entry_item n.sent.entries))) configuration
-    ∙ ap (λ es. configuration_items h.configuration ++ (items_by silence_item es ++ (items_by alert_item n.alerts.entries ++ items_by entry_item n.sent.entries))) silences
-    ∙ ap (λ es. configuration_items h.configuration ++ (items_by silence_item h.silences.entries ++ (items_by alert_item es ++ items_by entry_item n.sent.entries))) alerts
-    ∙ ap (λ es. configuration_items h.configuration ++ (items_by silence_item h.silences.entries ++ (items_by alert_item h.alerts.entries ++ items_by entry_item es))) sent
+    ap (λ o. configuration_items o ++ (items_by silence_item n.silences ++ (items_by alert_item n.alerts ++ items_by entry_item n.sent))) configuration
+    ∙ ap (λ es. configuration_items h.configuration ++ (items_by silence_item es ++ (items_by alert_item n.alerts ++ items_by entry_item n.sent))) silences
+    ∙ ap (λ es. configuration_items h.configuration ++ (items_by silence_item h.silences ++ (items_by alert_item es ++ items_by entry_item n.sent))) alerts
+    ∙ ap (λ es. configuration_items h.configuration ++ (items_by silence_item h.silences ++ (items_by alert_item h.alerts ++ items_by entry_item es))) sent

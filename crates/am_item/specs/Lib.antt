@@ -5,7 +5,10 @@ pub mod Key
 pub mod KeyTotal
 pub mod Best
 pub mod Newest
+pub mod Sorted
+pub mod Places
 pub mod Held
+pub mod Shared
 pub mod Kinds
 pub mod Retirement
 pub mod Counts

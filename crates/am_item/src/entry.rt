@@ -1,9 +1,10 @@
-ghost use Rattle.std.specs.Prelude.{◌≡◌, Some, refl};
+ghost use Rattle.std.specs.Prelude.{◌≡◌, IfOk, Some, refl};
 ghost use Rattle.std.specs.Cmp.{partial_equiv_from_equiv, eq_by_cmp_equiv, po};
 ghost use Rattle.std.specs.Ordering.{eq_by_cmp};
 
 use crate::label_sets::LabelSets;
 use am_text::{Moment, Text};
+use std::alloc::{AllocError, Global};
 use std::cmp::Ordering;
 
 /// What names a sent entry: whom was told of what.
@@ -15,6 +16,21 @@ pub struct EntryKey {
     pub group: Text,
     /// Which of the receiver's webhooks it was, from 0 on.
     pub webhook: u8,
+}
+
+impl EntryKey {
+    /// The same key once more.
+    ///
+    /// An error is out of memory.
+    pub fn copy(&self, alloc: Global) -> Result<EntryKey, AllocError>
+        ensures { IfOk result (λ copy. copy ≡ self.now) }
+    {
+        Ok(EntryKey {
+            receiver: self.receiver.copy(alloc)?,
+            group: self.group.copy(alloc)?,
+            webhook: self.webhook,
+        })
+    }
 }
 
 impl PartialEq for EntryKey {

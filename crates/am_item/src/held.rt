@@ -1,27 +1,29 @@
-ghost use Rattle.std.specs.Prelude.{◌≡◌, ◌++◌, ℕ, List, [], None, IfOk, OnErr, OnOk, if◌then◌else◌};
-ghost use Rattle.std.specs.BTreeMap.{IsOrdered, IsUnchanged, get, is_at};
+ghost use Rattle.std.specs.Prelude.{◌≡◌, ◌++◌, ℕ, List, [], None, Some, IfOk, OnErr, OnOk};
 ghost use Rattle.std.specs.Cmp.Lexicographic.{slice_cmp};
 ghost use Rattle.std.specs.Option.{option_copied, option_map};
 ghost use Rattle.std.specs.Ordering.{nat_cmp};
 ghost use Rattle.am_labels.specs.declared.Label.{Label};
 ghost use Rattle.am_labels.specs.Labels.{labels_cmp};
+ghost use Rattle.am_item.specs.Best.{joined};
 ghost use Rattle.am_item.specs.EntryKey.{entry_cmp};
-ghost use Rattle.std.specs.Map.{remove_entry};
 ghost use Rattle.am_item.specs.Held.{alert_item, configuration_item, entry_item, items_by, silence_item};
 ghost use Rattle.am_item.specs.Newest.{newer, newest};
-ghost use Rattle.am_item.specs.Retirement.{held_standing, put_over, standing_of};
+ghost use Rattle.am_item.specs.Retirement.{put_over, standing_of};
+ghost use Rattle.am_item.specs.Sorted.{IsOrdered, get};
 
 use crate::entry::{EntryDetails, EntryKey};
-use crate::item::{AlertDetails, Item, Thing};
+use crate::item::AlertDetails;
+use crate::kept::KeptValue;
 use crate::key::ThingKey;
-use crate::retirement::Retiring;
+use crate::map::SharedMap;
+use crate::shared_item::{
+    KeptItem, SharedItem, push_alerts, push_configuration, push_entries, push_silences,
+};
 use crate::silence::{SilenceDetails, SilenceId};
 use crate::stamp::{Stamp, Stamped};
 use am_labels::LabelSet;
 use am_text::{Moment, Text};
 use std::alloc::{AllocError, Global};
-use std::collections::BTreeMap;
-use std::collections::btree_map::Entry;
 use std::marker::Model;
 
 /// The stamp of an item that is held, and from when on the item is retired.
@@ -47,10 +49,10 @@ pub enum Put {
 /// What is held of one tenant: of each key the item with the greatest stamp, kind by kind, each kind in the
 /// order of its keys.
 pub struct Held {
-    configuration: Option<Stamped<Option<Text>>>,
-    silences: BTreeMap<SilenceId, Stamped<SilenceDetails>>,
-    alerts: BTreeMap<LabelSet, Stamped<AlertDetails>>,
-    sent: BTreeMap<EntryKey, Stamped<EntryDetails>>,
+    configuration: Option<KeptValue<Option<Text>>>,
+    silences: SharedMap<SilenceId, SilenceDetails>,
+    alerts: SharedMap<LabelSet, AlertDetails>,
+    sent: SharedMap<EntryKey, EntryDetails>,
 }
 
 // Written out, so that a crate which owns one need not prove anew how its parts are dropped.
@@ -83,24 +85,38 @@ impl Model for Held {
 }
 
 impl Held {
+    ghost use Rattle.am_item.specs.Best.{IsRising, best, item_at, joined, merged};
     ghost use Rattle.std.specs.Prelude.{filter, not};
-    ghost use Rattle.am_item.specs.Best.{IsRising, item_at, joined, merged};
     ghost use Rattle.am_item.specs.Held.{configuration_items};
+    ghost use Rattle.am_item.specs.declared.entry.EntryKey.{EntryKey};
     ghost use Rattle.am_item.specs.Key.{AlertKey, ConfigurationKey, SentEntryKey, SilenceKey, has_key, key_of};
     ghost use Rattle.am_item.specs.Kinds.{alerts_of, entries_of, silences_of};
-    ghost use Rattle.am_item.specs.declared.entry.EntryKey.{EntryKey};
 
     /// Nothing held.
     #[tactic(auto, unfolding(crate::specs::Held::items_in))]
-    pub fn new(alloc: Global) -> Held
-        ensures { result ≡ [] }
+    pub fn new(alloc: Global) -> Result<Held, AllocError>
+        ensures { IfOk result (λ held. held ≡ []) }
     {
-        Held {
+        Ok(Held {
             configuration: None,
-            silences: BTreeMap::new(alloc),
-            alerts: BTreeMap::new(alloc),
-            sent: BTreeMap::new(alloc),
+            silences: SharedMap::new(alloc)?,
+            alerts: SharedMap::new(alloc)?,
+            sent: SharedMap::new(alloc)?,
+        })
+    }
+
+    /// The best of these items.
+    ///
+    /// An error is out of memory.
+    pub fn best_of(alloc: Global, items: &[SharedItem]) -> Result<Held, AllocError>
+        ensures { IfOk result (λ held. held ≡ best items.now) }
+    {
+        let mut held = Held::new(alloc)?;
+        for item in items {
+            let item = item.share()?;
+            add(&mut held, item)?;
         }
+        Ok(held)
     }
 
     /// The configuration, where one is held: its text, or none where it was deleted. It comes before the silences,
@@ -109,161 +125,178 @@ impl Held {
         ensures whole { self.now ≡ configuration_items (option_copied result) ++ (silences_of self.now ++ (alerts_of self.now ++ entries_of self.now)) }
         ensures at { option_map configuration_item (option_copied result) ≡ item_at ConfigurationKey self.now }
     {
-        self.configuration.as_ref()
+        value_of(&self.configuration)
     }
 
     /// The silences by their identifiers, in order.
-    pub fn silences(&self) -> &BTreeMap<SilenceId, Stamped<SilenceDetails>>
-        ensures items { items_by silence_item result.now.entries ≡ silences_of self.now }
+    pub fn silences(&self) -> &SharedMap<SilenceId, SilenceDetails>
+        ensures items { items_by silence_item result.now ≡ silences_of self.now }
         ensures at { (id : List ℕ) → option_map (silence_item id) (get (slice_cmp nat_cmp) result.now id) ≡ item_at (SilenceKey id) self.now }
-        ensures ordered { IsOrdered (slice_cmp nat_cmp) result.now }
     {
         &self.silences
     }
 
-    /// The sent entries by receiver, group and webhook, in order.
-    pub fn sent_entries(&self) -> &BTreeMap<EntryKey, Stamped<EntryDetails>>
-        ensures items { items_by entry_item result.now.entries ≡ entries_of self.now }
-        ensures at { (key : EntryKey) → option_map (entry_item key) (get entry_cmp result.now key) ≡ item_at (SentEntryKey key) self.now }
-        ensures ordered { IsOrdered entry_cmp result.now }
-    {
-        &self.sent
-    }
-
     /// The alerts by their label sets, in order.
-    pub fn alerts(&self) -> &BTreeMap<LabelSet, Stamped<AlertDetails>>
-        ensures items { items_by alert_item result.now.entries ≡ alerts_of self.now }
+    pub fn alerts(&self) -> &SharedMap<LabelSet, AlertDetails>
+        ensures items { items_by alert_item result.now ≡ alerts_of self.now }
         ensures at { (labels : List Label) → option_map (alert_item labels) (get labels_cmp result.now labels) ≡ item_at (AlertKey labels) self.now }
-        ensures ordered { IsOrdered labels_cmp result.now }
     {
         &self.alerts
     }
 
-    /// Removes the item of a key, where one is held. It takes no memory.
-    pub fn remove(&mut self, key: &ThingKey)
-        ensures { self.new ≡ filter (λ item. not (has_key key.now item)) self.old }
+    /// The sent entries by receiver, group and webhook, in order.
+    pub fn sent_entries(&self) -> &SharedMap<EntryKey, EntryDetails>
+        ensures items { items_by entry_item result.now ≡ entries_of self.now }
+        ensures at { (key : EntryKey) → option_map (entry_item key) (get entry_cmp result.now key) ≡ item_at (SentEntryKey key) self.now }
     {
-        match key {
-            ThingKey::Configuration => remove_configuration(&mut self.configuration),
-            ThingKey::Silence(id) => remove_key(&mut self.silences, id),
-            ThingKey::Alert(labels) => remove_key(&mut self.alerts, labels),
-            ThingKey::SentEntry(key) => remove_key(&mut self.sent, key),
-        }
+        &self.sent
     }
 
     /// Puts an item: it takes its key's place, unless an item of that key is held whose stamp is no smaller. Answers
-    /// which of these it was. An error, which is out of memory, leaves all items as they were; it comes only where no
-    /// item of that key is held.
-    pub fn put(&mut self, item: Item) -> Result<Put, AllocError>
-        ensures joined { OnOk result (self.new ≡ joined self.old item) }
+    /// which of these it was. An error, which is out of memory, leaves all items as they were.
+    pub fn put(&mut self, item: SharedItem) -> Result<Put, AllocError>
         ensures put { IfOk result (λ put. put ≡ put_over (option_map standing_of (item_at (key_of item) self.old)) item.stamp) }
+        ensures joined { OnOk result (self.new ≡ joined self.old item) }
         ensures err { OnErr result (self.new ≡ self.old) }
-        ensures absent { OnErr result (item_at (key_of item) self.old ≡ None) }
-        ensures rising { IsRising self.old }
     {
-        let Item { stamp, thing } = item;
-        match thing {
-            Thing::Configuration(value) => {
-                let configuration = Stamped { stamp, value };
-                Ok(put_configuration(&mut self.configuration, configuration))
-            }
-            Thing::Silence(silence) => {
-                let (id, value) = silence.into_parts();
-                put_newest(&mut self.silences, id, Stamped { stamp, value })
-            }
-            Thing::Alert(alert) => {
-                let (labels, value) = alert.into_parts();
-                put_newest(&mut self.alerts, labels, Stamped { stamp, value })
-            }
-            Thing::SentEntry(entry) => {
-                let (key, value) = entry.into_parts();
-                put_newest(&mut self.sent, key, Stamped { stamp, value })
-            }
+        match item.into_kept() {
+            KeptItem::Configuration(kept) => put_configuration(&mut self.configuration, kept),
+            KeptItem::Silence(kept) => self.silences.put(kept),
+            KeptItem::Alert(kept) => self.alerts.put(kept),
+            KeptItem::SentEntry(kept) => self.sent.put(kept),
         }
     }
 
-    /// Merges what is held elsewhere of the same tenant: of each key the item with the greater stamp stays, of two
-    /// with one stamp the own. After an error, which is out of memory, some of the other's items may have come.
-    pub fn merge(&mut self, other: Held) -> Result<(), AllocError>
-        ensures { OnOk result (self.new ≡ merged self.old other) }
+    /// Removes the item of a key, where one is held. An error, which is out of memory, leaves all items as they were;
+    /// it comes only where a snapshot shares the list that the item stands in, which is then copied.
+    pub fn remove(&mut self, key: &ThingKey) -> Result<(), AllocError>
+        ensures removed { OnOk result (self.new ≡ filter (λ item. not (has_key key.now item)) self.old) }
+        ensures err { OnErr result (self.new ≡ self.old) }
     {
-        let Held {
+        match key {
+            ThingKey::Configuration => {
+                remove_configuration(&mut self.configuration);
+                Ok(())
+            }
+            ThingKey::Silence(id) => self.silences.remove(id),
+            ThingKey::Alert(labels) => self.alerts.remove(labels),
+            ThingKey::SentEntry(key) => self.sent.remove(key),
+        }
+    }
+
+    /// What is held now, whatever comes later. It copies no item and no list, so it takes the same time however much is
+    /// held; a put or a remove of either copies the one list that it changes, and no item.
+    pub fn snapshot(&self) -> Result<Held, AllocError>
+        ensures same { IfOk result (λ held. held ≡ self.now) }
+        ensures rising { IsRising self.now }
+    {
+        let configuration = copy_of(&self.configuration)?;
+        let silences = self.silences.snapshot()?;
+        let alerts = self.alerts.snapshot()?;
+        let sent = self.sent.snapshot()?;
+        Ok(Held {
             configuration,
             silences,
             alerts,
             sent,
-        } = other;
-        merge_configuration(&mut self.configuration, configuration);
-        merge_newest(&mut self.silences, silences)?;
-        merge_newest(&mut self.alerts, alerts)?;
-        merge_newest(&mut self.sent, sent)?;
-        Ok(())
+        })
+    }
+
+    /// All that is held, in the order of keys, shared with those who hold it.
+    pub fn items(&self, alloc: Global) -> Result<Vec<SharedItem>, AllocError>
+        ensures { IfOk result (λ items. items.items ≡ self.now) }
+    {
+        let mut items = Vec::new(alloc);
+        push_configuration(&mut items, &self.configuration)?;
+        push_silences(&mut items, self.silences.entries())?;
+        push_alerts(&mut items, self.alerts.entries())?;
+        push_entries(&mut items, self.sent.entries())?;
+        Ok(items)
+    }
+
+    /// The merge of two holdings: of each key the item with the greater stamp, of two with one stamp the own. Its items
+    /// are shared with both; it takes one walk over both.
+    pub fn merged(&self, alloc: Global, other: &Held) -> Result<Held, AllocError>
+        ensures { IfOk result (λ held. held ≡ merged self.now other.now) }
+    {
+        let configuration = merged_configuration(&self.configuration, &other.configuration)?;
+        let silences = self.silences.merged(alloc, &other.silences)?;
+        let alerts = self.alerts.merged(alloc, &other.alerts)?;
+        let sent = self.sent.merged(alloc, &other.sent)?;
+        Ok(Held {
+            configuration,
+            silences,
+            alerts,
+            sent,
+        })
     }
 }
 
-// Removes what is held under a key.
-fn remove_key<K: Ord + Drop, V: Drop>(held: &mut BTreeMap<K, V>, key: &K)
-    ensures entries { held.new.entries ≡ remove_entry (is_at (K.cmp key.now)) held.old.entries }
-    ensures ordered { IsOrdered K.cmp held.new }
+// Puts an item, whatever that does.
+fn add(held: &mut Held, item: SharedItem) -> Result<(), AllocError>
+    ensures { OnOk result (held.new ≡ joined held.old item) }
 {
-    held.remove(key);
+    match held.put(item) {
+        Ok(Put::New) => Ok(()),
+        Ok(Put::Replaced(_standing)) => Ok(()),
+        Ok(Put::Older) => Ok(()),
+        Err(refused) => Err(refused),
+    }
 }
 
 // Removes a configuration.
-fn remove_configuration(held: &mut Option<Stamped<Option<Text>>>)
+fn remove_configuration(held: &mut Option<KeptValue<Option<Text>>>)
     ensures { held.new ≡ None }
 {
     *held = None;
 }
 
-// Puts a configuration, unless one is held whose stamp is no smaller.
-#[tactic(auto, unfolding(crate::specs::Retirement::retires_at))]
-fn put_configuration(
-    held: &mut Option<Stamped<Option<Text>>>,
-    configuration: Stamped<Option<Text>>,
-) -> Put
-    ensures held { held.new ≡ newest held.old configuration }
-    ensures put { result ≡ put_over (option_map (λ stamped. standing_of (configuration_item stamped)) held.old) configuration.stamp }
+// The configuration, where there is one.
+fn value_of<V: Drop>(held: &Option<KeptValue<V>>) -> Option<&Stamped<V>>
+    ensures { option_copied result ≡ held.now }
 {
     match held {
-        None => {
-            *held = Some(configuration);
-            Put::New
-        }
-        Some(old) if configuration.stamp.exceeds(&old.stamp) => {
-            let old = Standing {
-                stamp: old.stamp,
-                retires_at: None,
-            };
-            *held = Some(configuration);
-            Put::Replaced(old)
-        }
-        Some(_) => Put::Older,
+        None => None,
+        Some(kept) => Some(kept.get()),
     }
 }
 
-// Puts a value under its key, unless one is held there whose stamp is no smaller.
-fn put_newest<K: Ord + Drop, V: Retiring + Drop>(
-    held: &mut BTreeMap<K, Stamped<V>>,
-    key: K,
-    value: Stamped<V>,
-) -> Result<Put, AllocError>
-    requires { IsOrdered K.cmp held.old }
-    ensures put { IfOk result (λ put. put ≡ put_over (option_map (held_standing V.retires) (get K.cmp held.old key)) value.stamp) }
-    ensures newest { OnOk result ((q : K) → get K.cmp held.new q ≡ (if is_at (K.cmp key) q then newest (get K.cmp held.old q) value else get K.cmp held.old q)) }
-    ensures err { OnErr result (IsUnchanged held.old held.new) }
-    ensures absent { OnErr result (get K.cmp held.old key ≡ None) }
-    ensures ordered { IsOrdered K.cmp held.new }
+// The same configuration, held once more.
+fn copy_of<V: Drop>(held: &Option<KeptValue<V>>) -> Result<Option<KeptValue<V>>, AllocError>
+    ensures { IfOk result (λ copy. copy ≡ held.now) }
 {
-    match held.entry(key)? {
-        Entry::Vacant(place) => {
-            place.insert(value);
+    match held {
+        None => Ok(None),
+        Some(kept) => {
+            let kept = kept.copy()?;
+            Ok(Some(kept))
+        }
+    }
+}
+
+// Puts a configuration, unless one is held whose stamp is no smaller.
+#[tactic(auto, unfolding(crate::specs::Retirement::retires_at))]
+fn put_configuration(
+    held: &mut Option<KeptValue<Option<Text>>>,
+    kept: KeptValue<Option<Text>>,
+) -> Result<Put, AllocError>
+    ensures held { OnOk result (held.new ≡ newest held.old kept) }
+    ensures put { IfOk result (λ put. put ≡ put_over (option_map (λ stamped. standing_of (configuration_item stamped)) held.old) kept.stamp) }
+    ensures err { OnErr result (held.new ≡ held.old) }
+{
+    match held.as_ref() {
+        None => {
+            write_configuration(held, kept);
             Ok(Put::New)
         }
-        Entry::Occupied(mut place) => {
-            if value.stamp.exceeds(&place.get().stamp) {
-                let old = place.insert(value);
-                Ok(Put::Replaced(old.standing()))
+        Some(old) => {
+            if kept.get().stamp.exceeds(&old.get().stamp) {
+                let standing = Standing {
+                    stamp: old.get().stamp,
+                    retires_at: None,
+                };
+                write_configuration(held, kept);
+                Ok(Put::Replaced(standing))
             } else {
                 Ok(Put::Older)
             }
@@ -271,29 +304,29 @@ fn put_newest<K: Ord + Drop, V: Retiring + Drop>(
     }
 }
 
-// Puts another configuration, where there is one.
-fn merge_configuration(
-    held: &mut Option<Stamped<Option<Text>>>,
-    other: Option<Stamped<Option<Text>>>,
-)
-    ensures { held.new ≡ newer held.old other }
+// Puts a configuration, whatever is held.
+fn write_configuration(held: &mut Option<KeptValue<Option<Text>>>, kept: KeptValue<Option<Text>>)
+    ensures { held.new ≡ Some kept }
 {
-    if let Some(configuration) = other {
-        put_configuration(held, configuration);
-    }
+    *held = Some(kept);
 }
 
-// Puts other values under their keys.
-fn merge_newest<K: Ord + Drop, V: Retiring + Drop>(
-    held: &mut BTreeMap<K, Stamped<V>>,
-    others: BTreeMap<K, Stamped<V>>,
-) -> Result<(), AllocError>
-    requires { IsOrdered K.cmp held.old }
-    ensures merged { OnOk result ((q : K) → get K.cmp held.new q ≡ newer (get K.cmp held.old q) (get K.cmp others q)) }
-    ensures ordered { IsOrdered K.cmp held.new }
+// The newer of two configurations.
+fn merged_configuration<V: Drop>(
+    own: &Option<KeptValue<V>>,
+    other: &Option<KeptValue<V>>,
+) -> Result<Option<KeptValue<V>>, AllocError>
+    ensures { IfOk result (λ held. held ≡ newer own.now other.now) }
 {
-    for (key, other) in others {
-        put_newest(held, key, other)?;
+    match (own, other) {
+        (_, None) => copy_of(own),
+        (None, Some(_)) => copy_of(other),
+        (Some(held), Some(value)) => {
+            if value.get().stamp.exceeds(&held.get().stamp) {
+                copy_of(other)
+            } else {
+                copy_of(own)
+            }
+        }
     }
-    Ok(())
 }

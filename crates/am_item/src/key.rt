@@ -1,12 +1,10 @@
-ghost use Rattle.std.specs.Prelude.{◌≡◌, IfOk, Some, refl};
+ghost use Rattle.std.specs.Prelude.{◌≡◌, Some, refl};
 ghost use Rattle.std.specs.Cmp.{partial_equiv_from_equiv, eq_by_cmp_equiv, po};
 ghost use Rattle.std.specs.Ordering.{eq_by_cmp};
 
 use crate::entry::EntryKey;
-use crate::item::Thing;
 use crate::silence::SilenceId;
 use am_labels::LabelSet;
-use std::alloc::{AllocError, Global};
 use std::cmp::Ordering;
 
 /// What names an item within its tenant.
@@ -91,25 +89,5 @@ impl Ord for ThingKey {
             (ThingKey::SentEntry(own), ThingKey::SentEntry(entry)) => own.cmp(entry),
             _ => self.kind().cmp(&other.kind()),
         }
-    }
-}
-
-impl Thing {
-    ghost use Rattle.am_item.specs.Key.{key_in};
-
-    /// What names the thing within its tenant.
-    pub fn key(&self, alloc: Global) -> Result<ThingKey, AllocError>
-        ensures { IfOk result (λ key. key ≡ key_in self.now) }
-    {
-        Ok(match self {
-            Thing::Configuration(_) => ThingKey::Configuration,
-            Thing::Silence(silence) => ThingKey::Silence(silence.id),
-            Thing::Alert(alert) => ThingKey::Alert(alert.labels.copy()?),
-            Thing::SentEntry(entry) => ThingKey::SentEntry(EntryKey {
-                receiver: entry.receiver.copy(alloc)?,
-                group: entry.group.copy(alloc)?,
-                webhook: entry.webhook,
-            }),
-        })
     }
 }

@@ -1,9 +1,9 @@
 ghost use Rattle.std.specs.Prelude.{◌≡◌, ◌*◌, ℕ, max};
-ghost use Rattle.am_item.specs.Retirement.{held_standing, hour, is_retired, moment_after, retires_at, standing_of};
+ghost use Rattle.am_item.specs.Retirement.{held_standing, hour, moment_after};
 
 use crate::entry::EntryDetails;
 use crate::held::Standing;
-use crate::item::{AlertDetails, Item, Thing};
+use crate::item::AlertDetails;
 use crate::silence::SilenceDetails;
 use crate::stamp::Stamped;
 use am_text::Moment;
@@ -29,41 +29,6 @@ pub fn entry_retires_at(ends_at: Moment) -> Moment
     ensures { result ≡ moment_after ends_at hour }
 {
     ends_at.plus(HOUR)
-}
-
-impl Item {
-    /// From when on the item is retired; `None` for a configuration, which never is.
-    #[tactic(auto, unfolding(crate::specs::Retirement::retires_at))]
-    pub fn retires_at(&self) -> Option<Moment>
-        ensures { result ≡ retires_at self.now }
-    {
-        match &self.thing {
-            Thing::Configuration(_) => None,
-            Thing::Silence(silence) => Some(silence_retires_at(silence.kept_until)),
-            Thing::Alert(alert) => Some(alert_retires_at(alert.ends_at, self.stamp.moment)),
-            Thing::SentEntry(entry) => Some(entry_retires_at(entry.ends_at)),
-        }
-    }
-
-    /// The stamp of the item, and from when on it is retired.
-    pub fn standing(&self) -> Standing
-        ensures { result ≡ standing_of self.now }
-    {
-        Standing {
-            stamp: self.stamp,
-            retires_at: self.retires_at(),
-        }
-    }
-
-    /// Whether the item is retired at the moment: from the moment of its retirement on.
-    pub fn is_retired(&self, moment: Moment) -> bool
-        ensures { result ≡ is_retired moment self.now }
-    {
-        match self.retires_at() {
-            None => false,
-            Some(at) => at <= moment,
-        }
-    }
 }
 
 // What is held of an item beside its key, where that tells from when on the item is retired.

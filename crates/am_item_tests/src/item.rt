@@ -1,7 +1,7 @@
 use crate::parts::{at, hold, hold_posted, label_set, text};
 use am_expect::equal;
 use am_item::{
-    AlertDetails, Held, LabelSets, Matchers, SentEntry, Silence, SilenceId, Stamped, Thing,
+    AlertDetails, Held, Kept, LabelSets, Matchers, SentEntry, Silence, SilenceId, Thing,
 };
 use am_labels::LabelSet;
 use std::alloc::Global;
@@ -43,27 +43,27 @@ fn hold_all(alloc: Global, held: &mut Held) -> Result<(), Fail> {
     )?;
     hold_posted(alloc, held, r#"[{"labels":{"a":"2"}}]"#, 4)?;
     hold_posted(alloc, held, r#"[{"labels":{"a":"1"}}]"#, 6)?;
-    hold(held, Thing::SentEntry(sent_entry(alloc)?), 5);
-    hold(held, Thing::Silence(silence(alloc, 2)), 5);
-    hold(held, Thing::Configuration(None), 5);
-    hold(held, Thing::Silence(silence(alloc, 1)), 6);
+    hold(alloc, held, Thing::SentEntry(sent_entry(alloc)?), 5)?;
+    hold(alloc, held, Thing::Silence(silence(alloc, 2)), 5)?;
+    hold(alloc, held, Thing::Configuration(None), 5)?;
+    hold(alloc, held, Thing::Silence(silence(alloc, 1)), 6)?;
     Ok(())
 }
 
 // When what is held of an alert was written.
-fn written_at(alert: Option<(&LabelSet, &Stamped<AlertDetails>)>) -> u64 {
+fn written_at(alert: Option<&Kept<LabelSet, AlertDetails>>) -> u64 {
     match alert {
-        Some((_, alert)) => alert.stamp.moment.milliseconds(),
+        Some(kept) => kept.value().stamp.moment.milliseconds(),
         None => 0,
     }
 }
 
 // Of two alerts the greater stamps, and how much there is of each kind.
 fn best_are_held(held: &Held) -> Result<(), Fail> {
-    let alerts = held.alerts();
+    let alerts = held.alerts().entries();
     let found = (
-        written_at(alerts.first_key_value()),
-        written_at(alerts.last_key_value()),
+        written_at(alerts.first()),
+        written_at(alerts.last()),
         alerts.len(),
         held.sent_entries().len(),
         held.silences().len(),
@@ -74,7 +74,7 @@ fn best_are_held(held: &Held) -> Result<(), Fail> {
 
 #[test]
 fn of_each_key_the_greater_stamp_stays(rt: HostRuntime) -> Result<(), Fail> {
-    let mut held = Held::new(rt.alloc());
+    let mut held = Held::new(rt.alloc())?;
     hold_all(rt.alloc(), &mut held)?;
     best_are_held(&held)
 }

@@ -2,10 +2,10 @@
 //! absent, and no example that has it holds.
 
 use am_alert::read_posted;
-use am_item::{Held, Item, Stamp, Thing};
+use am_item::{Held, Item, SharedItem, Stamp, Thing};
 use am_labels::{Label, LabelRefusal, LabelSet};
 use am_text::{Failure, Moment, Text};
-use std::alloc::Global;
+use std::alloc::{AllocError, Global};
 use std::test::Fail;
 
 /// 2025-06-15T15:06:40Z, when all is posted.
@@ -33,15 +33,22 @@ pub fn label_set(alloc: Global, value: &str) -> Result<LabelSet, Failure<LabelRe
 }
 
 /// Puts a thing that was written at so many milliseconds, whatever it replaces.
-pub fn hold(held: &mut Held, thing: Thing, milliseconds: u64) {
+pub fn hold(
+    alloc: Global,
+    held: &mut Held,
+    thing: Thing,
+    milliseconds: u64,
+) -> Result<(), AllocError> {
     let stamp = Stamp {
         moment: at(milliseconds),
         instance: 1,
         incarnation: 1,
         count: 1,
     };
-    match held.put(Item { stamp, thing }) {
-        Ok(_) | Err(_) => {}
+    let item = SharedItem::new(alloc, Item { stamp, thing })?;
+    match held.put(item) {
+        Ok(_) => Ok(()),
+        Err(refused) => Err(refused),
     }
 }
 
@@ -53,7 +60,7 @@ pub fn hold_posted(
     milliseconds: u64,
 ) -> Result<(), Fail> {
     for alert in read_posted(alloc, body.as_bytes(), at(POSTED_AT), 300_000)? {
-        hold(held, Thing::Alert(alert), milliseconds);
+        hold(alloc, held, Thing::Alert(alert), milliseconds)?;
     }
     Ok(())
 }

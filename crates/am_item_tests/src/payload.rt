@@ -4,7 +4,7 @@ use crate::parts::{POSTED_AT, at, hold_posted, label_set, text};
 use am_alert::HeldAlert;
 use am_config::Config;
 use am_expect::equal;
-use am_item::{AlertDetails, Held, SilenceId, Stamped};
+use am_item::{AlertDetails, Held, Kept, SilenceId};
 use am_labels::LabelSet;
 use am_payload::{
     ReadAlert, ReadGroup, ToldAlert, WebhookBody, alerts_json, groups_json, webhook_json,
@@ -32,7 +32,7 @@ const ID: [u8; 16] = [0, 1, 2, 3, 4, 5, 0x46, 7, 0x88, 9, 10, 11, 12, 13, 14, 15
 
 // What is held of alerts that were posted a millisecond before.
 fn held(alloc: Global, body: &str) -> Result<Held, Fail> {
-    let mut held = Held::new(alloc);
+    let mut held = Held::new(alloc)?;
     hold_posted(alloc, &mut held, body, POSTED_AT + 1)?;
     Ok(held)
 }
@@ -116,22 +116,21 @@ fn muted_is_read<'a>(
 const READ: &str =
     r#"[{"labels":{"a":"b"},"generatorURL":"http://p"},{"labels":{"x":"y"},"generatorURL":"http://p"}]"#;
 
+fn borrowed(kept: &Kept<LabelSet, AlertDetails>) -> HeldAlert<'_> {
+    HeldAlert {
+        labels: kept.key(),
+        details: kept.value(),
+    }
+}
+
 #[test]
 fn alerts_are_read(rt: HostRuntime) -> Result<(), Fail> {
     let held = held(rt.alloc(), READ)?;
-    let alerts = held.alerts();
-    match (alerts.first_key_value(), alerts.last_key_value()) {
-        (Some((first, muted)), Some((last, active))) => muted_is_read(
-            rt.alloc(),
-            HeldAlert {
-                labels: first,
-                details: muted,
-            },
-            HeldAlert {
-                labels: last,
-                details: active,
-            },
-        ),
+    let alerts = held.alerts().entries();
+    match (alerts.first(), alerts.last()) {
+        (Some(muted), Some(active)) => {
+            muted_is_read(rt.alloc(), borrowed(muted), borrowed(active))
+        }
         _ => Err(Fail::new("no alerts")),
     }
 }
@@ -139,10 +138,10 @@ fn alerts_are_read(rt: HostRuntime) -> Result<(), Fail> {
 // Those fire that end later.
 fn told_alerts(alloc: Global, held: &Held) -> Result<Vec<ToldAlert<'_>>, AllocError> {
     let mut alerts = Vec::new(alloc);
-    for (labels, details) in held.alerts() {
+    for kept in held.alerts().entries() {
         alerts.push(ToldAlert {
-            alert: HeldAlert { labels, details },
-            fires: details.value.ends_at > at(POSTED_AT),
+            alert: borrowed(kept),
+            fires: kept.value().value.ends_at > at(POSTED_AT),
         })?;
     }
     Ok(alerts)

@@ -1,7 +1,7 @@
 //! The random words of tenants, and identifiers.
 
 use am_expect::{equal, holds};
-use am_item::{Held, Item, Matchers, Silence, SilenceId, Stamp, Thing};
+use am_item::{Held, Item, Matchers, SharedItem, Silence, SilenceId, Stamp, Thing};
 use am_tenant::TenantName;
 use am_text::{Moment, Text};
 use am_words::{ID_LENGTH, MOST_DRAWS, Place, Places, Words, WordsRefusal, print_id, read_id};
@@ -77,7 +77,7 @@ fn stream_draws(held: &Held, stream: &Stream) -> Result<(), Fail> {
 
 #[test]
 fn each_stream_has_its_identifiers(rt: HostRuntime) -> Result<(), Fail> {
-    let held = Held::new(rt.alloc());
+    let held = Held::new(rt.alloc())?;
     for stream in STREAMS {
         stream_draws(&held, stream)?;
     }
@@ -109,7 +109,7 @@ const DRAWN: &[&str] = &[
 
 #[test]
 fn draws_go_on_from_a_tenants_place(rt: HostRuntime) -> Result<(), Fail> {
-    let held = Held::new(rt.alloc());
+    let held = Held::new(rt.alloc())?;
     let mut places = Places::new(rt.alloc());
     for wanted in DRAWN {
         draws_next(rt.alloc(), &mut places, &held, wanted)?;
@@ -118,7 +118,7 @@ fn draws_go_on_from_a_tenants_place(rt: HostRuntime) -> Result<(), Fail> {
     equal(other, Place::first(), "another tenant")
 }
 
-fn silence(alloc: Global, id: SilenceId) -> Result<Item, AllocError> {
+fn silence(alloc: Global, id: SilenceId) -> Result<SharedItem, AllocError> {
     let moment = Moment::greatest();
     let stamp = Stamp {
         moment,
@@ -135,7 +135,7 @@ fn silence(alloc: Global, id: SilenceId) -> Result<Item, AllocError> {
         comment: Text::read(alloc, "")?,
         matchers: Matchers::from_vec(Vec::new(alloc)),
     });
-    Ok(Item { stamp, thing })
+    SharedItem::new(alloc, Item { stamp, thing })
 }
 
 // Holds a silence of the first identifier that isn't held.
@@ -149,7 +149,7 @@ fn hold_next(alloc: Global, held: &mut Held) -> Result<(), Fail> {
 
 #[test]
 fn held_ones_are_drawn_again(rt: HostRuntime) -> Result<(), Fail> {
-    let mut held = Held::new(rt.alloc());
+    let mut held = Held::new(rt.alloc())?;
     for _ in 0..MOST_DRAWS {
         hold_next(rt.alloc(), &mut held)?;
     }

@@ -1,5 +1,5 @@
 -- The label sets of all alerts, and those of them that are chosen.
-use Rattle.std.proofs.Common.{◌≡◌, ℕ, zero, suc, ◌+◌, ◌<◌, Bool, true, false, Bor, List, [], ◌∷◌, ◌++◌, filter, map, length, drop, get_or, inl, inr, refl, sym, ap, ◌∙◌, subst, arith, add-one, append_assoc, append-nil}
+use Rattle.std.proofs.Common.{◌≡◌, ℕ, zero, suc, ◌+◌, ◌<◌, Bool, true, false, Bor, List, [], ◌∷◌, ◌++◌, filter, map, length, drop, get_or, inl, inr, refl, sym, ap, ◌∙◌, arith, add-one, append_assoc}
 use Rattle.std.specs.List.Sorted.{IsStrictlySortedBy}
 use Rattle.std.proofs.lemmas.Bool.{cases_Bool}
 use Rattle.std.proofs.lemmas.List.{get_or-map, length-map}
@@ -40,14 +40,6 @@ of_kind (item ∷ items) = of_thing item.stamp item.thing items (of_kind items)
 -- all of them
 pub sets_held : (entries : List (List Label × Stamped AlertDetails)) (held : List Item) → items_by alert_item entries ≡ alerts_of held → map (λ e. e.0) entries ≡ alert_sets held
 sets_held entries held are = of_entries entries ∙ ap alert_sets are ∙ sym (of_kind held)
-
--- they rise as the keys do that they are held under
-pub sets_rise : (sets : List (List Label)) (rest entries : List (List Label × Stamped AlertDetails)) (held : List Item) → rest ≡ [] → sets ++ map (λ e. e.0) rest ≡ alert_sets held →
-    items_by alert_item entries ≡ alerts_of held → IsStrictlySortedBy labels_cmp (map (λ e. e.0) entries) → IsStrictlySortedBy labels_cmp sets
-sets_rise sets rest entries held over so_far are rising =
-    let all : map (λ e. e.0) entries ≡ sets =
-    sets_held entries held are ∙ sym so_far ∙ ap (λ (more : List (List Label × Stamped AlertDetails)). sets ++ map (λ e. e.0) more) over ∙ append-nil sets in
-    subst (IsStrictlySortedBy labels_cmp) all rising
 
 -- ---- the chosen ones
 

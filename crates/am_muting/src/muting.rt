@@ -15,13 +15,12 @@ use crate::mutes::Mutes;
 use am_alert::{AlertBook, HeldAlert};
 use am_config::Config;
 use am_inhibit::{Inhibited, inhibitors_of_each};
-use am_item::{Held, LabelSets, SilenceDetails, SilenceId, Stamped};
+use am_item::{Held, LabelSets, SharedMap, SilenceDetails, SilenceId};
 use am_labels::LabelSet;
 use am_pattern::{PatternCache, PatternRefusal};
 use am_silence::{SilenceBook, SilenceState, Silenced};
 use am_text::{Failure, Moment};
 use std::alloc::{AllocError, Global};
-use std::collections::BTreeMap;
 
 /// What mutes each of the alerts with these label sets at a moment, whether they fire or are resolved: the active silences
 /// that take it, and the firing alerts that inhibit it.
@@ -171,11 +170,11 @@ fn has_active(held: &Held, moment: Moment) -> bool
 }
 
 // Whether one of these silences is active.
-fn is_active_in(silences: &BTreeMap<SilenceId, Stamped<SilenceDetails>>, moment: Moment) -> bool
-    ensures { result ≡ not (length (active_in moment silences.now.entries) == 0) }
+fn is_active_in(silences: &SharedMap<SilenceId, SilenceDetails>, moment: Moment) -> bool
+    ensures { result ≡ not (length (active_in moment silences.now) == 0) }
 {
-    for (_, silence) in silences {
-        if is_active(&silence.value, moment) {
+    for kept in silences.entries() {
+        if is_active(&kept.value().value, moment) {
             return true;
         }
     }
@@ -194,10 +193,10 @@ fn alert_sets<'a>(alloc: Global, held: &'a Held) -> Result<Vec<&'a LabelSet>, Al
     ensures sets { IfOk result (λ v. map (λ set. set.now) v.items ≡ alert_sets held.now) }
     ensures rising { IfOk result (λ v. IsStrictlySortedBy labels_cmp (map (λ set. set.now) v.items)) }
 {
-    let alerts = held.alerts();
+    let alerts = held.alerts().entries();
     let mut sets = Vec::with_capacity(alloc, alerts.len())?;
-    for (labels, _) in alerts {
-        sets.push(labels)?;
+    for kept in alerts {
+        sets.push(kept.key())?;
     }
     Ok(sets)
 }

@@ -15,7 +15,7 @@ ghost use Rattle.am_node.specs.Storing.{AreStored, LeavesStore};
 
 use crate::made::Made;
 use crate::parts::Parts;
-use am_item::{Fault, Item};
+use am_item::{Fault, SharedItem};
 use am_pattern::PatternCache;
 use am_replica::commit;
 use am_rows::Rows;
@@ -40,7 +40,7 @@ impl Parts {
         alloc: Global,
         tenant: &TenantName,
         moment: Moment,
-        items: Vec<Item>,
+        items: Vec<SharedItem>,
         cache: &mut PatternCache,
     ) -> Result<(), Fault>
         requires planned { IsPlanned (local_of tenant.now self.old) }

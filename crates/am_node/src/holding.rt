@@ -15,7 +15,7 @@ ghost use Rattle.am_node.specs.Local.{blank};
 ghost use Rattle.am_node.specs.Plans.{IsPlanned};
 
 use crate::parts::Parts;
-use am_item::{Fault, Item};
+use am_item::{Fault, SharedItem};
 use am_pattern::PatternCache;
 use am_rows::{Rows, StoreRefusal};
 use am_tenant::TenantName;
@@ -87,7 +87,7 @@ impl Parts {
         alloc: Global,
         tenant: &TenantName,
         moment: Moment,
-        rows: Vec<Item>,
+        rows: Vec<SharedItem>,
         cache: &mut PatternCache,
     ) -> Result<(), Failure<StoreRefusal>>
         requires blank { local_of tenant.now self.old ≡ blank }

@@ -8,7 +8,7 @@ ghost use Rattle.am_members.specs.Names.{is_set};
 ghost use Rattle.am_notifier.specs.Flushing.{alerts_but, unmuted_among, unmuted_at};
 
 use am_alert::HeldAlert;
-use am_item::{AlertDetails, Held, LabelSets, Stamped};
+use am_item::{AlertDetails, Held, LabelSets, SharedMap};
 use am_labels::LabelSet;
 use am_members::Members;
 use am_text::Moment;
@@ -33,10 +33,10 @@ pub(crate) fn unmuted<'a>(
 fn unmuted_among<'a>(
     alloc: Global,
     sinces: &'a BTreeMap<LabelSet, Moment>,
-    alerts: &'a BTreeMap<LabelSet, Stamped<AlertDetails>>,
+    alerts: &'a SharedMap<LabelSet, AlertDetails>,
     muted: &LabelSets,
 ) -> Result<Vec<HeldAlert<'a>>, AllocError>
-    ensures { IfOk result (λ v. map held_alert v.items ≡ unmuted_among muted.now alerts.now.entries sinces.now.entries) }
+    ensures { IfOk result (λ v. map held_alert v.items ≡ unmuted_among muted.now alerts.now sinces.now.entries) }
 {
     let mut unmuted = Vec::new(alloc);
     for (labels, _) in sinces {
@@ -49,11 +49,11 @@ fn unmuted_among<'a>(
 
 // The alert of a label set, where it is held and not muted.
 fn unmuted_at<'a>(
-    alerts: &'a BTreeMap<LabelSet, Stamped<AlertDetails>>,
+    alerts: &'a SharedMap<LabelSet, AlertDetails>,
     muted: &LabelSets,
     labels: &'a LabelSet,
 ) -> Option<HeldAlert<'a>>
-    ensures { option_map held_alert result ≡ unmuted_at muted.now alerts.now.entries labels.now }
+    ensures { option_map held_alert result ≡ unmuted_at muted.now alerts.now labels.now }
 {
     if is_among(muted, labels) {
         return None;

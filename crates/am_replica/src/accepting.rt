@@ -8,7 +8,7 @@ ghost use Rattle.am_replica.specs.Holds.{Makes, accepted, counted, holds_of};
 use crate::replica::Replica;
 use am_context::Came;
 use am_current::is_replaced;
-use am_item::{Item, Thing};
+use am_item::{Part, SharedItem};
 use am_labels::LabelSet;
 use am_tenant::TenantName;
 use std::alloc::{AllocError, Global};
@@ -19,7 +19,7 @@ impl Replica {
         &mut self,
         alloc: Global,
         tenant: &TenantName,
-        items: Vec<Item>,
+        items: Vec<SharedItem>,
     ) -> Result<Came, AllocError>
         ensures holds { OnOk result (Makes tenant.now (accepted items.items) self.old self.new) }
         ensures sets { IfOk result (λ came. came.sets.items
@@ -50,7 +50,7 @@ impl Replica {
 }
 
 // The label sets of items that are alerts, copied, each in the place of its item.
-fn label_sets(alloc: Global, items: &[Item]) -> Result<Vec<Option<LabelSet>>, AllocError>
+fn label_sets(alloc: Global, items: &[SharedItem]) -> Result<Vec<Option<LabelSet>>, AllocError>
     ensures { IfOk result (λ v. v.items ≡ map set_of items.now) }
 {
     let mut sets = Vec::new(alloc);
@@ -61,11 +61,11 @@ fn label_sets(alloc: Global, items: &[Item]) -> Result<Vec<Option<LabelSet>>, Al
 }
 
 // The label set of an item that is an alert, copied.
-fn label_set(item: &Item) -> Result<Option<LabelSet>, AllocError>
+fn label_set(item: &SharedItem) -> Result<Option<LabelSet>, AllocError>
     ensures { IfOk result (λ set. set ≡ set_of item.now) }
 {
-    match &item.thing {
-        Thing::Alert(alert) => Ok(Some(alert.labels.copy()?)),
+    match item.part() {
+        Part::Alert(labels, _) => Ok(Some(labels.copy()?)),
         _ => Ok(None),
     }
 }

@@ -12,7 +12,7 @@ use am_alert::stamp_moment;
 use am_context::{Context, Receipt};
 use am_current::Holdings;
 use am_group::recorded;
-use am_item::{EntryKey, Fault, GREATEST_COUNT, Item, Stamp, Thing};
+use am_item::{EntryKey, Fault, GREATEST_COUNT, Item, SharedItem, Stamp, Thing};
 use am_tenant::TenantName;
 use am_text::Moment;
 use std::alloc::Global;
@@ -39,6 +39,7 @@ impl Replica {
         }
         let moment = stamp_moment(context.moment, seen(&self.holdings, tenant, &receipt.key));
         let entry = entry(context, receipt, moment, used + 1);
+        let entry = SharedItem::new(alloc, entry)?;
         let items = vec![in alloc; entry]?;
         self.holdings.put_all(alloc, tenant, items)?;
         self.counts.set(alloc, tenant, used + 1)?;

@@ -50,7 +50,7 @@ impl Replica {
     pub fn clear(&mut self, alloc: Global)
         ensures { (t : List ℕ) → holds_of t self.new ≡ nothing }
     {
-        self.holdings.clear(alloc);
+        self.holdings.clear();
         self.counts = Counts::new(alloc);
     }
 

@@ -47,9 +47,9 @@ impl Replica {
     {
         let mut gone = Vec::new(alloc);
         let mut silences = Vec::new(alloc);
-        while let Some((tenant, key)) = self.holdings.pop_retired(moment) {
-            note_silence(&mut silences, &tenant, &key)?;
-            gone.push((tenant, key))?;
+        while let Some(first) = self.holdings.pop_retired(moment)? {
+            note_silence(&mut silences, &first.0, &first.1)?;
+            gone.push(first)?;
         }
         drop_rows(store, &silences)?;
         Ok(gone)

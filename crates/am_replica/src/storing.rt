@@ -7,7 +7,7 @@ ghost use Rattle.am_rows.specs.Rows.{Keeps, Makes as MakesRows, has_stored, is_s
 ghost use Rattle.am_rows.specs.Rows.{without_silences};
 ghost use Rattle.am_replica.specs.Storing.{StopsStoring, fault_for, fault_in, silence_named};
 
-use am_item::{Fault, Item, SilenceId, Thing, ThingKey};
+use am_item::{Fault, Part, SharedItem, SilenceId, ThingKey};
 use am_rows::{Rows, StoreRefusal};
 use am_tenant::TenantName;
 use am_text::Failure;
@@ -18,7 +18,7 @@ pub fn commit<R: Rows>(
     alloc: Global,
     store: &mut R,
     tenant: &TenantName,
-    items: &[Item],
+    items: &[SharedItem],
 ) -> Result<(), Fault>
     requires open { R.is_open store.old ≡ true }
     ensures clean { R.is_clean store.new ≡ true → R.is_clean store.old ≡ true }
@@ -40,18 +40,18 @@ pub fn commit<R: Rows>(
 }
 
 // Whether one of the items is stored.
-fn has_stored(items: &[Item]) -> bool
+fn has_stored(items: &[SharedItem]) -> bool
     ensures { result ≡ has_stored items.now }
 {
     items.iter().any(is_stored)
 }
 
-fn is_stored(item: &Item) -> bool
+fn is_stored(item: &SharedItem) -> bool
     ensures { result ≡ is_stored item.now }
 {
-    match &item.thing {
-        Thing::Configuration(_) | Thing::Silence(_) => true,
-        Thing::Alert(_) | Thing::SentEntry(_) => false,
+    match item.part() {
+        Part::Configuration(_) | Part::Silence(..) => true,
+        Part::Alert(..) | Part::SentEntry(..) => false,
     }
 }
 

@@ -1,5 +1,5 @@
 -- One call of a store after another: what it makes of the medium, and what a later one is refused for.
-use Rattle.std.proofs.Common.{◌≡◌, ◌⊎◌, ◌≤◌, inl, inr, true, arith}
+use Rattle.std.proofs.Common.{◌≤◌, inl, inr, arith}
 use Rattle.am_text.specs.declared.failure.Failure.{Failure}
 use Rattle.am_text.specs.declared.failure.Failure.TheVariants.{Refused, OutOfMemory}
 use Rattle.am_rows.specs.Refusing.{IsCaused, IsJudged, MayRefuse, Medium, Wears}

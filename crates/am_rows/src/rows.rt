@@ -13,7 +13,7 @@ ghost use Rattle.am_rows.specs.Refusing.{IsCaused, IsJudged, MayRefuse, Medium, 
 ghost use Rattle.am_rows.specs.Rows.{Keeps, Makes, no_rows, put_rows, rows_of, stored_in, without_key, without_silences};
 
 use crate::refusal::StoreRefusal;
-use am_item::{Item, SilenceId};
+use am_item::{SharedItem, SilenceId};
 use am_tenant::TenantName;
 use am_text::Failure;
 use std::alloc::Global;
@@ -63,7 +63,7 @@ pub trait Rows {
         &mut self,
         alloc: Global,
         tenant: &TenantName,
-        items: &[Item],
+        items: &[SharedItem],
     ) -> Result<(), Failure<StoreRefusal>>
         requires open { is_open self.old ≡ true }
         ensures clean { is_clean self.new ≡ true → is_clean self.old ≡ true }
@@ -84,7 +84,7 @@ pub trait Rows {
         &mut self,
         alloc: Global,
         tenant: &TenantName,
-    ) -> Result<Vec<Item>, Failure<StoreRefusal>>
+    ) -> Result<Vec<SharedItem>, Failure<StoreRefusal>>
         requires { is_open self.old ≡ true }
         ensures clean { is_clean self.new ≡ true → is_clean self.old ≡ true }
         ensures open { OnOk result (is_open self.new ≡ true) }

@@ -1,5 +1,8 @@
 -- The silences among items, as they are held under their identifiers.
-use Rattle.std.proofs.Common.{◌≡◌, Bor, ℕ, List, [], ◌∷◌, map, filter, Option, Some, None, refl, ap, sym, ◌∙◌}
+use Rattle.std.proofs.Common.{◌≡◌, ◌+◌, ◌<◌, Bool, Bor, ℕ, List, [], ◌∷◌, ◌++◌, cond, false, get_or, length, map, filter, take, true, Option, Some, None, refl, ap, sym, ◌∙◌}
+use Rattle.std.proofs.lemmas.Bool.{cond-false, cond-true}
+use Rattle.std.proofs.lemmas.List.{append-nil, map_push, take_more}
+use Rattle.std.proofs.lemmas.List.Elements.{filter-append}
 use Rattle.std.specs.Option.{option_and_then, option_map}
 use Rattle.am_item.specs.Held.{items_by, silence_item}
 use Rattle.am_item.specs.Kinds.{silences_of}
@@ -50,3 +53,21 @@ pub each_silencing : (moment : ℕ) (held : List Item) (sets : List (Bor (List L
 unfolding silencing
 each_silencing moment held [] = refl
 each_silencing moment held (s ∷ sets) = ap (λ rest. silencing moment held s.now ∷ rest) (each_silencing moment held sets)
+
+-- what passes a test of the first that are held, and of one more
+module _ (p : SilenceValue → Bool) (entries : List (List ℕ × Stamped SilenceDetails)) (i : ℕ) (entry : List ℕ × Stamped SilenceDetails)
+    (within : i < length entries) (is : entry ≡ get_or entries i entry) where
+  one_more : filter p (all_held (take (i + 1) entries)) ≡ filter p (all_held (take i entries)) ++ cond (p (held_under entry.0 entry.1)) (held_under entry.0 entry.1 ∷ []) []
+  one_more =
+      ap (λ es. filter p (all_held es)) (take_more entries i entry within ∙ ap (λ e. take i entries ++ e ∷ []) (sym is))
+      ∙ ap (filter p) (map_push (λ e. held_under e.0 e.1) (take i entries) entry)
+      ∙ filter-append p (all_held (take i entries)) (held_under entry.0 entry.1 ∷ [])
+
+  pub one_passed : p (held_under entry.0 entry.1) ≡ true
+      → filter p (all_held (take (i + 1) entries)) ≡ filter p (all_held (take i entries)) ++ held_under entry.0 entry.1 ∷ []
+  one_passed h = one_more ∙ ap (λ more. filter p (all_held (take i entries)) ++ more) (cond-true _ (held_under entry.0 entry.1 ∷ []) [] h)
+
+  pub one_failed : p (held_under entry.0 entry.1) ≡ false → filter p (all_held (take (i + 1) entries)) ≡ filter p (all_held (take i entries))
+  one_failed h =
+      one_more ∙ ap (λ more. filter p (all_held (take i entries)) ++ more) (cond-false _ (held_under entry.0 entry.1 ∷ []) [] h)
+      ∙ append-nil (filter p (all_held (take i entries)))

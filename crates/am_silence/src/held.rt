@@ -5,16 +5,15 @@ ghost use Rattle.std.specs.List.{list_any};
 ghost use Rattle.am_match.specs.Matchers.{MatcherText};
 ghost use Rattle.am_silence.specs.Changing.{same_matcher};
 ghost use Rattle.am_silence.specs.Having.{has_borrowed, has_matcher, has_matchers};
-ghost use Rattle.am_silence.specs.Held.{all_held, held_silence};
+ghost use Rattle.am_silence.specs.Held.{all_held, held_silence, held_under};
 ghost use Rattle.am_silence.specs.Silences.{details_of, is_active, is_expired, state_of};
 
 use crate::fields::MOST_MATCHERS;
 use crate::state::SilenceState;
-use am_item::{SilenceDetails, SilenceId, Stamped};
+use am_item::{Kept, SharedMap, SilenceDetails, SilenceId, Stamped};
 use am_match::Matcher;
 use am_text::Moment;
 use std::alloc::{AllocError, Global};
-use std::collections::BTreeMap;
 
 /// A silence that is held, borrowed.
 #[derive(Drop)]
@@ -25,6 +24,16 @@ pub struct HeldSilence<'a> {
     pub held: &'a Stamped<SilenceDetails>,
 }
 
+// A silence that is held, borrowed.
+fn borrowed(kept: &Kept<SilenceId, SilenceDetails>) -> HeldSilence<'_>
+    ensures { held_silence result ≡ held_under kept.now.0 kept.now.1 }
+{
+    HeldSilence {
+        id: kept.key(),
+        held: kept.value(),
+    }
+}
+
 /// The state of a silence at a moment.
 pub(crate) fn state_of(silence: &SilenceDetails, moment: Moment) -> SilenceState
     ensures { result ≡ state_of moment (details_of silence.now) }
@@ -32,19 +41,26 @@ pub(crate) fn state_of(silence: &SilenceDetails, moment: Moment) -> SilenceState
     SilenceState::at(moment, silence.starts_at, silence.ends_at)
 }
 
+// Whether a silence is active at the moment.
+fn is_active(silence: &SilenceDetails, moment: Moment) -> bool
+    ensures { result ≡ is_active moment silence.now.starts_at silence.now.ends_at }
+{
+    silence.starts_at <= moment && moment < silence.ends_at
+}
+
 /// Those that are active at the moment, in their order.
 pub(crate) fn active_among<'a>(
     alloc: Global,
-    silences: &'a BTreeMap<SilenceId, Stamped<SilenceDetails>>,
+    silences: &'a SharedMap<SilenceId, SilenceDetails>,
     moment: Moment,
 ) -> Result<Vec<HeldSilence<'a>>, AllocError>
     ensures { IfOk result (λ v. map held_silence v.items
-        ≡ filter (λ s. is_active moment s.details.starts_at s.details.ends_at) (all_held silences.now.entries)) }
+        ≡ filter (λ s. is_active moment s.details.starts_at s.details.ends_at) (all_held silences.now)) }
 {
     let mut active = Vec::new(alloc);
-    for (id, held) in silences {
-        if held.value.starts_at <= moment && moment < held.value.ends_at {
-            active.push(HeldSilence { id, held })?;
+    for kept in silences.entries() {
+        if is_active(&kept.value().value, moment) {
+            active.push(borrowed(kept))?;
         }
     }
     Ok(active)
@@ -53,13 +69,13 @@ pub(crate) fn active_among<'a>(
 /// All of them, in their order.
 pub(crate) fn all_of<'a>(
     alloc: Global,
-    silences: &'a BTreeMap<SilenceId, Stamped<SilenceDetails>>,
+    silences: &'a SharedMap<SilenceId, SilenceDetails>,
 ) -> Result<Vec<HeldSilence<'a>>, AllocError>
-    ensures { IfOk result (λ v. map held_silence v.items ≡ all_held silences.now.entries) }
+    ensures { IfOk result (λ v. map held_silence v.items ≡ all_held silences.now) }
 {
     let mut all = Vec::with_capacity(alloc, silences.len())?;
-    for (id, held) in silences {
-        all.push(HeldSilence { id, held })?;
+    for kept in silences.entries() {
+        all.push(borrowed(kept))?;
     }
     Ok(all)
 }
@@ -67,11 +83,11 @@ pub(crate) fn all_of<'a>(
 /// Those that have a matcher equal to each of the wanted ones, in their order.
 pub(crate) fn having<'a>(
     alloc: Global,
-    silences: &'a BTreeMap<SilenceId, Stamped<SilenceDetails>>,
+    silences: &'a SharedMap<SilenceId, SilenceDetails>,
     wanted: &[Matcher],
 ) -> Result<Vec<HeldSilence<'a>>, AllocError>
     ensures { IfOk result (λ v. map held_silence v.items
-        ≡ filter (λ s. has_matchers s.details.matchers wanted.now) (all_held silences.now.entries)) }
+        ≡ filter (λ s. has_matchers s.details.matchers wanted.now) (all_held silences.now)) }
 {
     let apart = told_apart(alloc, wanted)?;
     having_each(alloc, silences, &apart)
@@ -79,16 +95,16 @@ pub(crate) fn having<'a>(
 
 fn having_each<'a>(
     alloc: Global,
-    silences: &'a BTreeMap<SilenceId, Stamped<SilenceDetails>>,
+    silences: &'a SharedMap<SilenceId, SilenceDetails>,
     wanted: &[&Matcher],
 ) -> Result<Vec<HeldSilence<'a>>, AllocError>
     ensures { IfOk result (λ v. map held_silence v.items
-        ≡ filter (λ s. has_borrowed s.details.matchers wanted.now) (all_held silences.now.entries)) }
+        ≡ filter (λ s. has_borrowed s.details.matchers wanted.now) (all_held silences.now)) }
 {
     let mut found = Vec::new(alloc);
-    for (id, held) in silences {
-        if has_matchers(held.value.matchers.as_slice(), wanted) {
-            found.push(HeldSilence { id, held })?;
+    for kept in silences.entries() {
+        if has_matchers(kept.value().value.matchers.as_slice(), wanted) {
+            found.push(borrowed(kept))?;
         }
     }
     Ok(found)
@@ -138,15 +154,12 @@ fn has_matcher(matchers: &[Matcher], wanted: &Matcher) -> bool
 }
 
 /// How many have not expired at the moment.
-pub(crate) fn unexpired_of(
-    silences: &BTreeMap<SilenceId, Stamped<SilenceDetails>>,
-    moment: Moment,
-) -> usize
-    ensures { result ≡ count_by (λ s. not (is_expired moment s.details)) (all_held silences.now.entries) }
+pub(crate) fn unexpired_of(silences: &SharedMap<SilenceId, SilenceDetails>, moment: Moment) -> usize
+    ensures { result ≡ count_by (λ s. not (is_expired moment s.details)) (all_held silences.now) }
 {
     let mut count = 0;
-    for (_, held) in silences {
-        if !state_of(&held.value, moment).has_expired() {
+    for kept in silences.entries() {
+        if !state_of(&kept.value().value, moment).has_expired() {
             count += 1;
         }
     }

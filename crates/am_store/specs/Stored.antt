@@ -7,8 +7,10 @@ use Rattle.am_item.specs.declared.item.Item.{Item}
 use Rattle.am_item.specs.declared.item.Thing.{Thing}
 use Rattle.am_item.specs.declared.item.Thing.TheVariants as thing
 use Rattle.am_item.specs.declared.silence.Silence.{Silence}
+use Rattle.am_item.specs.declared.silence.SilenceDetails.{SilenceDetails}
 use Rattle.am_item.specs.declared.stamp.Stamp.{Stamp}
 use Rattle.am_item.specs.declared.stamp.Stamped.{Stamped}
+use Rattle.am_item.specs.Held.{silence_of}
 use Rattle.am_item.specs.Key.{key_cmp}
 use Rattle.am_item.specs.declared.key.ThingKey.{ThingKey as Key}
 use Rattle.am_item.specs.declared.key.ThingKey.TheVariants.{Configuration as ConfigurationKey, Silence as SilenceKey}
@@ -52,6 +54,10 @@ silence_text s = record {
   comment = s.comment;
   matchers = s.matchers;
 }
+
+-- a silence as it is stored, of its identifier and of what it is beside that
+abbrev pub words_of : List ℕ → SilenceDetails → SilenceText
+words_of id details = silence_text (silence_of id details)
 
 abbrev pub stamped : Stamp → Content → Stored
 stamped stamp content = record { stamp = stamp; value = content }

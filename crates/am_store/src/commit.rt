@@ -13,7 +13,7 @@ ghost use Rattle.am_store.specs.Steps.{Commits, Empties, IsSame, Leaves, Removes
 ghost use Rattle.am_store.specs.Stored.{stored_item, stored_items};
 
 use crate::{config, silence};
-use am_item::{Item, SilenceId, Thing};
+use am_item::{Part, SharedItem, SilenceId};
 use am_tenant::TenantName;
 use sqlite::{Alter, Connection, Error, Transaction};
 use std::alloc::Global;
@@ -24,7 +24,7 @@ fn put_one<S: Alter>(
     alloc: Global,
     tx: &mut Transaction<'_, S>,
     tenant: &TenantName,
-    item: &Item,
+    item: &SharedItem,
 ) -> Result<(), Error>
     requires { IsFit item.now }
     ensures same_reference { tx.new.conn.ghost_name ≡ tx.old.conn.ghost_name }
@@ -46,10 +46,10 @@ fn put_one<S: Alter>(
         → IsTrue (state S.Store tx.new.conn.now).in_transaction) }
     ensures survives { Survives (state S.Store tx.old.conn.now) (state S.Store tx.new.conn.now) (λ _. ⊥) }
 {
-    match &item.thing {
-        Thing::Configuration(body) => config::put(tx, tenant, &item.stamp, body),
-        Thing::Silence(silence) => silence::put(alloc, tx, tenant, &item.stamp, silence),
-        Thing::Alert(_) | Thing::SentEntry(_) => Ok(()),
+    match item.part() {
+        Part::Configuration(body) => config::put(tx, tenant, item.stamp(), body),
+        Part::Silence(id, silence) => silence::put(alloc, tx, tenant, item.stamp(), id, silence),
+        Part::Alert(_, _) | Part::SentEntry(_, _) => Ok(()),
     }
 }
 
@@ -58,7 +58,7 @@ fn put_each<S: Alter>(
     alloc: Global,
     tx: &mut Transaction<'_, S>,
     tenant: &TenantName,
-    items: &[Item],
+    items: &[SharedItem],
 ) -> Result<(), Error>
     requires { All IsFit items.now }
     ensures same_reference { tx.new.conn.ghost_name ≡ tx.old.conn.ghost_name }
@@ -91,7 +91,7 @@ pub(crate) fn put<S: Alter>(
     alloc: Global,
     conn: &mut Connection<S>,
     tenant: &TenantName,
-    items: &[Item],
+    items: &[SharedItem],
 ) -> Result<(), Error>
     requires fits { All IsFit items.now }
     requires idle { conn.old.in_transaction ≡ false }

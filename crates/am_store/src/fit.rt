@@ -4,11 +4,11 @@ ghost use Rattle.std.specs.Prelude.{◌≡◌, ◌<◌, ◌^◌, All, IsTrue, fa
 ghost use Rattle.am_match.specs.Spelling.{IsShort, IsSpellable};
 ghost use Rattle.am_rows.specs.Fit.{IsFit, IsNumbered};
 
-use am_item::{GREATEST_COUNT, Item, Stamp, Thing};
+use am_item::{GREATEST_COUNT, Part, SharedItem, Stamp};
 use am_match::Matcher;
 
 /// Whether items may be stored. That the item of a request may always be is not for the store to know.
-pub(crate) fn are_fit(items: &[Item]) -> bool
+pub(crate) fn are_fit(items: &[SharedItem]) -> bool
     ensures fits { IsTrue result → All IsFit items.now }
     ensures unfit { result ≡ false → All IsFit items.now → ⊥ }
 {
@@ -20,18 +20,18 @@ pub(crate) fn are_fit(items: &[Item]) -> bool
     true
 }
 
-fn is_fit(item: &Item) -> bool
+fn is_fit(item: &SharedItem) -> bool
     ensures fits { IsTrue result → IsFit item.now }
     ensures unfit { result ≡ false → IsFit item.now → ⊥ }
 {
-    if !is_numbered(&item.stamp) {
+    if !is_numbered(item.stamp()) {
         return false;
     }
-    match &item.thing {
-        Thing::Silence(silence) => are_spellable(silence.matchers.as_slice()),
-        Thing::Configuration(_) => true,
-        Thing::Alert(_) => true,
-        Thing::SentEntry(_) => true,
+    match item.part() {
+        Part::Silence(_, silence) => are_spellable(silence.matchers.as_slice()),
+        Part::Configuration(_) => true,
+        Part::Alert(_, _) => true,
+        Part::SentEntry(_, _) => true,
     }
 }
 

@@ -18,7 +18,7 @@ ghost use Rattle.am_rows.specs.Rows.{stored_in};
 use crate::config::named;
 use crate::query;
 use crate::reading::{read_config, read_silence};
-use am_item::Item;
+use am_item::{Item, SharedItem};
 use am_rows::StoreRefusal;
 use am_tenant::TenantName;
 use am_text::Failure;
@@ -59,20 +59,21 @@ fn found<S: Alter>(
 }
 
 // Whether the key of a row is greater than that of the row before it.
-fn is_above(alloc: Global, item: &Item, last: &Item) -> Result<bool, AllocError>
+fn is_above(alloc: Global, item: &SharedItem, last: &SharedItem) -> Result<bool, AllocError>
     ensures { IfOk result (λ is_above. IsTrue is_above ↔ (key_cmp (key_of last.now) (key_of item.now) ≡ Less)) }
 {
-    let last = last.thing.key(alloc)?;
-    let next = item.thing.key(alloc)?;
+    let last = last.key(alloc)?;
+    let next = item.key(alloc)?;
     Ok(last < next)
 }
 
 // Puts an item behind those of lesser keys.
-fn push(alloc: Global, items: &mut Vec<Item>, item: Item) -> Result<(), Failure<StoreRefusal>>
+fn push(alloc: Global, items: &mut Vec<SharedItem>, item: Item) -> Result<(), Failure<StoreRefusal>>
     ensures items { OnOk result (items.new.items ≡ items.old.items ++ item ∷ []) }
     ensures rising { IsRising items.old.items → OnOk result (IsRising items.new.items) }
     ensures given { KeysRise (map key_of items.old.items ++ key_of item ∷ []) → GivesValue result }
 {
+    let item = SharedItem::new(alloc, item)?;
     let len = items.len();
     if len > 0 {
         let rises = is_above(alloc, &item, &items[len - 1])?;
@@ -87,7 +88,7 @@ fn push(alloc: Global, items: &mut Vec<Item>, item: Item) -> Result<(), Failure<
 // Reads configurations behind the items that are there.
 fn push_configs(
     alloc: Global,
-    items: &mut Vec<Item>,
+    items: &mut Vec<SharedItem>,
     rows: &[Row],
 ) -> Result<(), Failure<StoreRefusal>>
     ensures items { OnOk result (stored_items items.new.items
@@ -107,7 +108,7 @@ fn push_configs(
 // Reads silences behind the items that are there.
 fn push_silences(
     alloc: Global,
-    items: &mut Vec<Item>,
+    items: &mut Vec<SharedItem>,
     rows: &[Row],
 ) -> Result<(), Failure<StoreRefusal>>
     ensures items { OnOk result (stored_items items.new.items
@@ -129,7 +130,7 @@ pub(crate) fn rows_of<S: Alter>(
     alloc: Global,
     conn: &mut Connection<S>,
     tenant: &TenantName,
-) -> Result<Vec<Item>, Failure<StoreRefusal>>
+) -> Result<Vec<SharedItem>, Failure<StoreRefusal>>
     ensures rows { HasCleanDisk (state S.Store conn.new) → IsStore (state S.Store conn.old).now
         → IfOk result (λ items. IsPermutation (things_of tenant.now (pairs_in (state S.Store conn.old).now.trees))
         (stored_items items.items)) }

@@ -7,7 +7,7 @@ ghost use Rattle.am_store.specs.Items.{kept_in};
 use crate::fit::are_fit;
 use crate::refusal::failure_of;
 use crate::{commit, opening, rows, tenants};
-use am_item::{Item, SilenceId};
+use am_item::{SharedItem, SilenceId};
 use am_rows::{Rows, StoreRefusal};
 use am_tenant::TenantName;
 use am_text::Failure;
@@ -106,7 +106,7 @@ impl<S: Alter> Rows for Shelf<S> {
         &mut self,
         alloc: Global,
         tenant: &TenantName,
-        items: &[Item],
+        items: &[SharedItem],
     ) -> Result<(), Failure<StoreRefusal>> {
         self.is_open = false;
         if !are_fit(items) {
@@ -125,7 +125,7 @@ impl<S: Alter> Rows for Shelf<S> {
         &mut self,
         alloc: Global,
         tenant: &TenantName,
-    ) -> Result<Vec<Item>, Failure<StoreRefusal>> {
+    ) -> Result<Vec<SharedItem>, Failure<StoreRefusal>> {
         self.is_open = false;
         match rows::rows_of(alloc, &mut self.conn, tenant) {
             Ok(items) => {

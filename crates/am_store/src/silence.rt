@@ -16,14 +16,14 @@ ghost use Rattle.am_store.specs.Reading.{GivesColumn};
 ghost use Rattle.am_rows.specs.Fit.{IsNumbered};
 ghost use Rattle.am_store.specs.Rows.{IsSilence, IsStamp, IsStore, id_text, silence_fields};
 ghost use Rattle.am_store.specs.Steps.{PutsRow, Stores, TakesOut};
-ghost use Rattle.am_store.specs.Stored.{SilenceWords, silence_text, stamped};
+ghost use Rattle.am_store.specs.Stored.{SilenceWords, stamped, words_of};
 ghost use Rattle.am_store.specs.Tables.{silence as silence_table, store_schema};
 ghost use Rattle.am_store.specs.Where.{hit, of_silence, of_tenant, silence_stamp};
 
 use crate::config::named;
 use crate::numbers::signed;
 use crate::stamps::is_reached;
-use am_item::{Silence, SilenceId, Stamp};
+use am_item::{SilenceDetails, SilenceId, Stamp};
 use am_match::{Matcher, SpellRefusal, spell_matchers};
 use am_tenant::TenantName;
 use am_text::{Failure, Octets};
@@ -70,22 +70,23 @@ fn spelled(alloc: Global, matchers: &[Matcher]) -> Result<Octets, Error>
 fn columns<'a>(
     tenant: &'a TenantName,
     stamp: &Stamp,
-    silence: &'a Silence,
-    id: &'a str,
+    id: &SilenceId,
+    silence: &'a SilenceDetails,
+    text: &'a str,
     matchers: &'a Octets,
 ) -> [ValueRef<'a>; 12]
     requires stamp { IsNumbered stamp.now }
-    requires id { id.now ≡ id_text silence.now.id }
-    requires back { parsed (id_text silence.now.id) ≡ Some silence.now.id }
+    requires text { text.now ≡ id_text id.now }
+    requires back { parsed (id_text id.now) ≡ Some id.now }
     requires matchers { Spells matchers.now silence.now.matchers }
     ensures stamp { IsStamp stamp.now }
-    ensures valid { IsSilence (silence_text silence.now) }
-    ensures bound { bound result ≡ silence_fields tenant.now stamp.now (silence_text silence.now) }
+    ensures valid { IsSilence (words_of id.now silence.now) }
+    ensures bound { bound result ≡ silence_fields tenant.now stamp.now (words_of id.now silence.now) }
     ensures name { IsTrue (is_tenant_name tenant.now) }
 {
     [
         ValueRef::Text(tenant.as_bytes()),
-        ValueRef::Text(id.as_bytes()),
+        ValueRef::Text(text.as_bytes()),
         ValueRef::Int(signed(silence.starts_at.milliseconds())),
         ValueRef::Int(signed(silence.ends_at.milliseconds())),
         ValueRef::Int(signed(silence.kept_until.milliseconds())),
@@ -182,25 +183,26 @@ fn put_in<S: Alter>(
     tx: &mut Transaction<'_, S>,
     tenant: &TenantName,
     stamp: &Stamp,
-    silence: &Silence,
-    id: &str,
+    id: &SilenceId,
+    silence: &SilenceDetails,
+    text: &str,
     matchers: &Octets,
 ) -> Result<(), Error>
     requires stamp { IsNumbered stamp.now }
-    requires id { id.now ≡ id_text silence.now.id }
-    requires back { parsed (id_text silence.now.id) ≡ Some silence.now.id }
+    requires text { text.now ≡ id_text id.now }
+    requires back { parsed (id_text id.now) ≡ Some id.now }
     requires matchers { Spells matchers.now silence.now.matchers }
     ensures stamp { IsStamp stamp.now }
-    ensures valid { IsSilence (silence_text silence.now) }
+    ensures valid { IsSilence (words_of id.now silence.now) }
     ensures name { IsTrue (is_tenant_name tenant.now) }
     ensures same_reference { tx.new.conn.ghost_name ≡ tx.old.conn.ghost_name }
     ensures ok { HasCleanDisk (state S.Store tx.new.conn.now)
         → (state S.Store tx.old.conn.now).now.schema ≡ store_schema
-        → OnOk result (PutsRow 3 (silence_fields tenant.now stamp.now (silence_text silence.now))
+        → OnOk result (PutsRow 3 (silence_fields tenant.now stamp.now (words_of id.now silence.now))
         (state S.Store tx.old.conn.now).now (state S.Store tx.new.conn.now).now) }
     ensures fails { HasCleanDisk (state S.Store tx.new.conn.now) → IsReady (state S.Store tx.old.conn.now)
         → IfErr result (λ e. IsExcused (state S.Store tx.old.conn.now) (state S.Store tx.new.conn.now) e
-        ⊎ RefusesRow (silence_table 3) (silence_fields tenant.now stamp.now (silence_text silence.now))
+        ⊎ RefusesRow (silence_table 3) (silence_fields tenant.now stamp.now (words_of id.now silence.now))
         (state S.Store tx.old.conn.now).now.trees) }
     ensures sound { HasCleanDisk (state S.Store tx.new.conn.now) → IsReady (state S.Store tx.old.conn.now)
         → OnOk result (IsDatabase (state S.Store tx.new.conn.now).now) }
@@ -213,7 +215,7 @@ fn put_in<S: Alter>(
 {
     tx.execute(
         "INSERT INTO silence VALUES (?1, ?2, ?3, ?4, ?5, ?6, ?7, ?8, ?9, ?10, ?11, ?12)",
-        &columns(tenant, stamp, silence, id, matchers),
+        &columns(tenant, stamp, id, silence, text, matchers),
     )?;
     Ok(())
 }
@@ -224,21 +226,22 @@ pub(crate) fn put<S: Alter>(
     tx: &mut Transaction<'_, S>,
     tenant: &TenantName,
     stamp: &Stamp,
-    silence: &Silence,
+    id: &SilenceId,
+    silence: &SilenceDetails,
 ) -> Result<(), Error>
     requires stamp { IsNumbered stamp.now }
     requires matchers { IsSpellable silence.now.matchers }
     ensures same_reference { tx.new.conn.ghost_name ≡ tx.old.conn.ghost_name }
     ensures ok { HasCleanDisk (state S.Store tx.new.conn.now) → IsStore (state S.Store tx.old.conn.now).now
-        → OnOk result (Stores tenant.now (stamped stamp.now (SilenceWords (silence_text silence.now)) ∷ [])
+        → OnOk result (Stores tenant.now (stamped stamp.now (SilenceWords (words_of id.now silence.now)) ∷ [])
         (state S.Store tx.old.conn.now).now (state S.Store tx.new.conn.now).now) }
     ensures fails { HasCleanDisk (state S.Store tx.new.conn.now) → IsReady (state S.Store tx.old.conn.now)
-        → IfErr result (IsPutExcused tenant.now (stamped stamp.now (SilenceWords (silence_text silence.now)) ∷ [])
+        → IfErr result (IsPutExcused tenant.now (stamped stamp.now (SilenceWords (words_of id.now silence.now)) ∷ [])
         (state S.Store tx.old.conn.now) (state S.Store tx.new.conn.now)) }
     ensures sound { HasCleanDisk (state S.Store tx.new.conn.now) → IsReady (state S.Store tx.old.conn.now)
         → OnOk result (IsDatabase (state S.Store tx.new.conn.now).now) }
     ensures puts { HasCleanDisk (state S.Store tx.new.conn.now) → IsStore (state S.Store tx.old.conn.now).now
-        → OnOk result (PutsEach tenant.now (stamped stamp.now (SilenceWords (silence_text silence.now)) ∷ [])
+        → OnOk result (PutsEach tenant.now (stamped stamp.now (SilenceWords (words_of id.now silence.now)) ∷ [])
         (state S.Store tx.old.conn.now).now (state S.Store tx.new.conn.now).now) }
     ensures kept { HasCleanDisk (state S.Store tx.new.conn.now) → IsStore (state S.Store tx.old.conn.now).now
         → KeepsCommit (state S.Store tx.old.conn.now) (state S.Store tx.new.conn.now) }
@@ -249,11 +252,11 @@ pub(crate) fn put<S: Alter>(
 {
     let matchers = spelled(alloc, silence.matchers.as_slice())?;
     let mut buffer = Uuid::encode_buffer();
-    let id = text_of(&silence.id, &mut buffer);
-    let rows = stamps(tx, tenant, id)?;
+    let text = text_of(id, &mut buffer);
+    let rows = stamps(tx, tenant, text)?;
     if is_reached(&rows, stamp)? {
         return Ok(());
     }
-    take_out(tx, tenant, id)?;
-    put_in(tx, tenant, stamp, silence, id, &matchers)
+    take_out(tx, tenant, text)?;
+    put_in(tx, tenant, stamp, id, silence, text, &matchers)
 }

@@ -22,7 +22,7 @@ ghost use Rattle.am_store.specs.Tables.{no_schema};
 
 use crate::refusal::failure_of;
 use crate::{commit, opening, rows, tenants};
-use am_item::{Item, SilenceId};
+use am_item::{SharedItem, SilenceId};
 use am_rows::StoreRefusal;
 use am_share::{ShareRefusal, Shared};
 use am_tenant::TenantName;
@@ -106,7 +106,7 @@ impl<S: Alter> Store<S> {
         &mut self,
         alloc: Global,
         tenant: &TenantName,
-        items: &[Item],
+        items: &[SharedItem],
     ) -> Result<(), Failure<StoreRefusal>>
         requires { All IsFit items.now }
         ensures put { HasCleanDisk (state S.Store self.new) → IsStore (state S.Store self.old).now
@@ -136,7 +136,7 @@ impl<S: Alter> Store<S> {
         &mut self,
         alloc: Global,
         tenant: &TenantName,
-    ) -> Result<Vec<Item>, Failure<StoreRefusal>>
+    ) -> Result<Vec<SharedItem>, Failure<StoreRefusal>>
         ensures rows { HasCleanDisk (state S.Store self.new) → IsStore (state S.Store self.old).now
             → IfOk result (λ items. IsPermutation (things_of tenant.now (pairs_in (state S.Store self.old).now.trees))
             (stored_items items.items)) }

@@ -2,7 +2,7 @@
 
 use crate::items::rows_of;
 use crate::work::Told;
-use am_item::{Item, Silence, Thing};
+use am_item::{Part, SharedItem, SilenceDetails};
 use am_store::Store;
 use sqlite::Alter;
 use std::alloc::Global;
@@ -62,34 +62,34 @@ pub(crate) const PIECES: &[(usize, &[u8])] = &[
     ),
 ];
 
-fn is_configuration(item: &Item) -> bool {
-    match &item.thing {
-        Thing::Configuration(Some(text)) => text.as_str() == "route: {}" && item.stamp.count == 7,
+fn is_configuration(item: &SharedItem) -> bool {
+    match item.part() {
+        Part::Configuration(Some(text)) => text.as_str() == "route: {}" && item.stamp().count == 7,
         _ => false,
     }
 }
 
-fn has_matcher(silence: &Silence) -> bool {
+fn has_matcher(silence: &SilenceDetails) -> bool {
     match silence.matchers.as_slice() {
         [matcher] => matcher.name() == "a" && matcher.value() == "b",
         _ => false,
     }
 }
 
-fn is_silence(item: &Item) -> bool {
-    let Thing::Silence(silence) = &item.thing else {
+fn is_silence(item: &SharedItem) -> bool {
+    let Part::Silence(id, silence) = item.part() else {
         return false;
     };
-    silence.id.as_bytes() == &[0, 0, 0, 0, 0, 0, 0x40, 0, 0x80, 0, 0, 0, 0, 0, 0, 1]
+    id.as_bytes() == &[0, 0, 0, 0, 0, 0, 0x40, 0, 0x80, 0, 0, 0, 0, 0, 0, 1]
         && silence.starts_at.milliseconds() == 1_750_000_000_000
         && silence.ends_at.milliseconds() == 1_750_003_600_000
         && silence.created_by.as_str() == "ada"
         && silence.comment.as_str() == "why"
         && has_matcher(silence)
-        && item.stamp.instance == 2
+        && item.stamp().instance == 2
 }
 
-fn are_known(items: &[Item]) -> bool {
+fn are_known(items: &[SharedItem]) -> bool {
     match items {
         [configuration, silence] => is_configuration(configuration) && is_silence(silence),
         _ => false,

@@ -4,7 +4,7 @@ ghost use Rattle.std.specs.Prelude.{All, IfOk};
 ghost use Rattle.am_rows.specs.Fit.{IsFit, IsNumbered};
 
 use crate::work::Told;
-use am_item::{Item, Matchers, Silence, SilenceId, Stamp, Thing};
+use am_item::{Item, Matchers, SharedItem, Silence, SilenceId, Stamp, Thing};
 use am_rows::StoreRefusal;
 use am_store::Store;
 use am_tenant::TenantName;
@@ -82,12 +82,14 @@ fn silence(alloc: Global, count: u8) -> Result<Item, AllocError>
 }
 
 // A configuration of this count and a silence of the next.
-fn items(alloc: Global, count: u8) -> Result<Vec<Item>, AllocError>
+fn items(alloc: Global, count: u8) -> Result<Vec<SharedItem>, AllocError>
     ensures { IfOk result (λ items. All IsFit items.items) }
 {
     let mut items = Vec::new(alloc);
-    items.push(configuration(alloc, count)?)?;
-    items.push(silence(alloc, count.saturating_add(1))?)?;
+    let configuration = configuration(alloc, count)?;
+    items.push(SharedItem::new(alloc, configuration)?)?;
+    let silence = silence(alloc, count.saturating_add(1))?;
+    items.push(SharedItem::new(alloc, silence)?)?;
     Ok(items)
 }
 
@@ -128,7 +130,7 @@ pub(crate) fn rows_of<S: Alter>(
     alloc: Global,
     store: &mut Store<S>,
     tenant: &[u8],
-) -> Result<Vec<Item>, Failure<StoreRefusal>> {
+) -> Result<Vec<SharedItem>, Failure<StoreRefusal>> {
     match TenantName::read(tenant) {
         Ok(tenant) => store.rows_of(alloc, &tenant),
         Err(_) => Err(Failure::Refused(StoreRefusal::Database)),
@@ -136,10 +138,10 @@ pub(crate) fn rows_of<S: Alter>(
 }
 
 // The digits, and behind them the counts of rows, a digit each.
-fn with_counts(digits: u64, items: &[Item]) -> u64 {
+fn with_counts(digits: u64, items: &[SharedItem]) -> u64 {
     let mut digits = digits;
     for item in items {
-        digits = digits.wrapping_mul(10).wrapping_add(item.stamp.count);
+        digits = digits.wrapping_mul(10).wrapping_add(item.stamp().count);
     }
     digits
 }

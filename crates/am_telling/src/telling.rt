@@ -15,14 +15,13 @@ ghost use Rattle.am_telling.specs.Tellings.{body_for, key_for, notice_for, shown
 use am_alert::HeldAlert;
 use am_config::{Config, Receiver, Settings, Webhook};
 use am_group::{Act, Notice as Told, flush};
-use am_item::{EntryDetails, EntryKey, Stamped};
+use am_item::{EntryDetails, EntryKey, SharedMap};
 use am_members::Group;
 use am_outlet::Notice;
 use am_payload::{ToldAlert, WebhookBody, group_key, webhook_json};
 use am_text::{Listed, Moment, Octets, Text};
 use am_url::WebhookUrl;
 use std::alloc::{AllocError, Global};
-use std::collections::BTreeMap;
 
 /// What is done for a webhook at a flush.
 #[derive(Drop)]
@@ -59,13 +58,13 @@ pub fn tell<'a>(
     alloc: Global,
     config: &'a Config,
     group: &'a Group,
-    sent: &BTreeMap<EntryKey, Stamped<EntryDetails>>,
+    sent: &SharedMap<EntryKey, EntryDetails>,
     alerts: &[HeldAlert<'a>],
     moment: Moment,
 ) -> Result<Vec<Telling>, AllocError>
     requires route { group.now.route < length config.now.routes }
     requires rising { AreRising (map held_alert alerts.now) }
-    ensures { IfOk result (λ v. v.items ≡ tellings config.now group.now sent.now.entries (map held_alert alerts.now) moment) }
+    ensures { IfOk result (λ v. v.items ≡ tellings config.now group.now sent.now (map held_alert alerts.now) moment) }
 {
     let flushed = Flushed {
         group,
@@ -104,7 +103,7 @@ pub fn webhook_keys(
 fn tell_webhooks<'a>(
     alloc: Global,
     flushed: &Flushed<'a>,
-    sent: &BTreeMap<EntryKey, Stamped<EntryDetails>>,
+    sent: &SharedMap<EntryKey, EntryDetails>,
     alerts: &[HeldAlert<'a>],
 ) -> Result<Vec<Telling>, AllocError>
     requires rising { AreRising (map held_alert alerts.now) }
@@ -113,7 +112,7 @@ fn tell_webhooks<'a>(
     ensures { IfOk result (λ v. v.items
         ≡ filter_map (telling_of flushed.now.receiver.now flushed.now.group.now flushed.now.settings flushed.now.moment)
         (deeds_from 0 flushed.now.receiver.now.name (key_of_group flushed.now.group.now.route flushed.now.group.now.labels)
-        flushed.now.receiver.now.webhooks sent.now.entries (map held_alert alerts.now) flushed.now.settings.repeat_interval
+        flushed.now.receiver.now.webhooks sent.now (map held_alert alerts.now) flushed.now.settings.repeat_interval
         flushed.now.moment)) }
 {
     let key = group_key(alloc, flushed.group.route, &flushed.group.labels)?;

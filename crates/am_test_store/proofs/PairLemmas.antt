@@ -1,25 +1,18 @@
 -- What becomes of the rows of each tenant where pairs come and go.
-use Rattle.std.proofs.Common.{◌≡◌, inl, inr, ℕ, Bool, true, false, cond, not, ◌&&◌, ◌||◌, List, [], ◌∷◌, ◌++◌, map, filter, Option, Some, None, append_assoc, refl, sym, ap, ◌∙◌, subst, if◌then◌else◌}
+use Rattle.std.proofs.Common.{◌≡◌, inl, inr, ℕ, Bool, true, false, cond, not, ◌&&◌, ◌||◌, List, [], ◌∷◌, ◌++◌, map, filter, Option, Some, None, append_assoc, refl, sym, ap, ◌∙◌, subst}
 use Rattle.std.specs.List.{dedup, dedup_from, list_any}
 use Rattle.std.specs.List.Sorted.{IsStrictlySortedBy}
 use Rattle.std.specs.Ordering.{is_eq}
 use Rattle.std.specs.Str.{bytes_eq}
-use Rattle.std.proofs.lemmas.Bool.{cases_Bool, cond-false, cond-true}
+use Rattle.std.proofs.lemmas.Bool.{and_parts, cases_Bool, cond-false, cond-true}
 use Rattle.std.proofs.lemmas.List.{append-nil, map-append}
 use Rattle.std.proofs.lemmas.List.Elements.{filter-append}
 use Rattle.am_tenant.specs.Names.{same}
 use Rattle.am_tenant.proofs.Same.{eq_from_same, same-refl, same-sym}
 use Rattle.am_item.specs.Best.{all_joined, best, greatest, joined, of_key}
 use Rattle.am_item.specs.Key.{Key, SilenceKey, has_key, key_cmp, key_of}
-use Rattle.am_item.specs.Held.{configuration_items}
-use Rattle.am_item.specs.Kinds.{alerts_of, entries_of, silences_of}
 use Rattle.am_item.specs.declared.item.Item.{Item}
-use Rattle.am_item.specs.declared.item.Thing.{Thing}
-use Rattle.am_item.specs.declared.item.Thing.TheVariants.{Alert, Configuration, SentEntry, Silence}
-use Rattle.am_item.specs.declared.stamp.Stamp.{Stamp}
-use Rattle.am_item.specs.declared.stamp.Stamped.{Stamped}
 use Rattle.am_item.proofs.BestLaws.{at-best, best-append_best_left, greatest_at, greatest_keyed, rising-best}
-use Rattle.am_item.proofs.Greatest.{some_same}
 use Rattle.am_item.proofs.Joining.{all_joined-merged}
 use Rattle.am_item.proofs.Keys.{key_same}
 use Rattle.am_item.proofs.Rising.{rising_same}
@@ -238,86 +231,37 @@ pub no_items : stored_in [] ≡ []
 unfolding stored_in
 no_items = refl
 
--- a copy more
-pub copied_more : (t : List ℕ) (done : Pairs) (x : Item) (xs : List Item)
+-- an item more
+pub stored_more : (t : List ℕ) (done : Pairs) (x : Item) (xs : List Item)
     → (done ++ map (with_name t) (stored_in (x ∷ []))) ++ map (with_name t) (stored_in xs) ≡ done ++ map (with_name t) (stored_in (x ∷ xs))
-copied_more t done x xs =
+stored_more t done x xs =
     append_assoc done (map (with_name t) (stored_in (x ∷ []))) (map (with_name t) (stored_in xs))
     ∙ ap (λ ps. done ++ ps) (sym (ap (map (with_name t)) (stored-append (x ∷ []) xs) ∙ map-append (with_name t) (stored_in (x ∷ [])) (stored_in xs)))
 
--- what a copy tells of its item
-pub some_stored : (x y : Item) → Some y ≡ (if is_stored x then Some x else None) → stored_in (x ∷ []) ≡ y ∷ []
+-- an item by itself, where it is stored and where it isn't
+pub one_stored : (x : Item) → is_stored x ≡ true → stored_in (x ∷ []) ≡ x ∷ []
 unfolding stored_in
-some_stored x y is = elim (cases_Bool (is_stored x)) [
-  | inl kept ↦ cond-true _ _ _ kept ∙ ap (λ z. z ∷ []) (sym (some_same y x (is ∙ cond-true _ _ _ kept)))
-  | inr not ↦ absurd (let clash : Some y ≡ None = is ∙ cond-false _ _ _ not in cc)
-]
+one_stored x kept = cond-true _ _ _ kept
 
-pub none_stored : (x : Item) → None ≡ (if is_stored x then Some x else None) → stored_in (x ∷ []) ≡ []
+pub none_stored : (x : Item) → is_stored x ≡ false → stored_in (x ∷ []) ≡ []
 unfolding stored_in
-none_stored x is = elim (cases_Bool (is_stored x)) [
-  | inl kept ↦ absurd (let clash : None ≡ Some x = is ∙ cond-true _ _ _ kept in cc)
-  | inr not ↦ cond-false _ _ _ not
-]
+none_stored x passed = cond-false _ _ _ passed
 
-pub own_pair : (t : List ℕ) (p : List ℕ × Item) → same t p.0 ≡ true → things_of t (p ∷ []) ≡ p.1 ∷ []
+-- a pair by itself, where it is one of the tenant that is stored and where it isn't
+pub own_pair : (t : List ℕ) (p : List ℕ × Item) → (same t p.0 && is_stored p.1) ≡ true → stored_in (things_of t (p ∷ [])) ≡ p.1 ∷ []
 unfolding things_of
-own_pair t p own = rw own refl
+own_pair t p is =
+    let parts = and_parts (same t p.0) (is_stored p.1) is in
+    rw parts.0 (one_stored p.1 parts.1)
 
-pub not_own : (t : List ℕ) (p : List ℕ × Item) → same t p.0 ≡ false → stored_in (things_of t (p ∷ [])) ≡ []
-unfolding things_of stored_in
-not_own t p other = rw other refl
-
--- what is held, where it is the configuration, the silences and what isn't stored
-silences_stored : (xs : List Item) → filter is_stored (silences_of xs) ≡ silences_of xs
-silences_stored [] = refl
-silences_stored (x ∷ xs) = one x.stamp x.thing (silences_stored xs)
-  where
-    one : (s : Stamp) (t : Thing) → filter is_stored (silences_of xs) ≡ silences_of xs
-        → filter is_stored (silences_of (record { stamp = s; thing = t } ∷ xs)) ≡ silences_of (record { stamp = s; thing = t } ∷ xs)
-    one s (Silence t) rest = ap (λ ys. record { stamp = s; thing = Silence t } ∷ ys) rest
-    one s (Configuration t) rest = rest
-    one s (Alert t) rest = rest
-    one s (SentEntry t) rest = rest
-
-alerts_unstored : (xs : List Item) → filter is_stored (alerts_of xs) ≡ []
-alerts_unstored [] = refl
-alerts_unstored (x ∷ xs) = one x.stamp x.thing (alerts_unstored xs)
-  where
-    one : (s : Stamp) (t : Thing) → filter is_stored (alerts_of xs) ≡ [] → filter is_stored (alerts_of (record { stamp = s; thing = t } ∷ xs)) ≡ []
-    one s (Silence t) rest = rest
-    one s (Configuration t) rest = rest
-    one s (Alert t) rest = rest
-    one s (SentEntry t) rest = rest
-
-entries_unstored : (xs : List Item) → filter is_stored (entries_of xs) ≡ []
-entries_unstored [] = refl
-entries_unstored (x ∷ xs) = one x.stamp x.thing (entries_unstored xs)
-  where
-    one : (s : Stamp) (t : Thing) → filter is_stored (entries_of xs) ≡ [] → filter is_stored (entries_of (record { stamp = s; thing = t } ∷ xs)) ≡ []
-    one s (Silence t) rest = rest
-    one s (Configuration t) rest = rest
-    one s (Alert t) rest = rest
-    one s (SentEntry t) rest = rest
-
-configuration_stored : (o : Option (Stamped (Option (List ℕ)))) → filter is_stored (configuration_items o) ≡ configuration_items o
-configuration_stored None = refl
-configuration_stored (Some held) = refl
-
-pub stored_whole : (held : List Item) (o : Option (Stamped (Option (List ℕ))))
-    → held ≡ configuration_items o ++ (silences_of held ++ (alerts_of held ++ entries_of held)) → configuration_items o ++ silences_of held ≡ stored_in held
-unfolding stored_in
-stored_whole held o whole =
-    let rest = alerts_of held ++ entries_of held in
-    let none : filter is_stored rest ≡ [] =
-    filter-append is_stored (alerts_of held) (entries_of held)
-    ∙ ap (λ xs. xs ++ filter is_stored (entries_of held)) (alerts_unstored held) ∙ entries_unstored held in
-    sym (ap (filter is_stored) whole
-    ∙ filter-append is_stored (configuration_items o) (silences_of held ++ rest)
-    ∙ ap (λ xs. xs ++ filter is_stored (silences_of held ++ rest)) (configuration_stored o)
-    ∙ ap (λ xs. configuration_items o ++ xs)
-    (filter-append is_stored (silences_of held) rest ∙ ap (λ xs. xs ++ filter is_stored rest) (silences_stored held)
-    ∙ ap (λ xs. silences_of held ++ xs) none ∙ append-nil (silences_of held)))
+pub other_pair : (t : List ℕ) (p : List ℕ × Item) → (same t p.0 && is_stored p.1) ≡ false → stored_in (things_of t (p ∷ [])) ≡ []
+unfolding things_of
+other_pair t p isnt = elim (cases_Bool (same t p.0)) [
+  | inl own ↦
+      let passed : is_stored p.1 ≡ false = sym (ap (λ b. b && is_stored p.1) own) ∙ isnt in
+      rw own (none_stored p.1 passed)
+  | inr other ↦ rw other no_items
+]
 
 -- ---- names without those that come again
 

@@ -1,9 +1,9 @@
 //! A store in memory, for tests alone: one of its calls may be made to fail.
 #![tactic(auto)]
 
-mod copying;
 mod naming;
 mod reading;
+mod storing;
 mod test_store;
 
 pub use test_store::TestStore;

@@ -7,7 +7,7 @@ ghost use Rattle.std.specs.List.Sorted.{IsStrictlySortedBy};
 ghost use Rattle.std.specs.Ordering.{nat_cmp};
 ghost use Rattle.am_tenant.specs.Names.{same};
 
-use am_item::Item;
+use am_item::SharedItem;
 use am_tenant::TenantName;
 use std::alloc::{AllocError, Global};
 
@@ -22,7 +22,7 @@ pub(crate) fn is_same(one: &TenantName, other: &TenantName) -> bool
 // Whose the pairs are, each once, in order of name.
 pub(crate) fn names_in(
     alloc: Global,
-    pairs: &[(TenantName, Item)],
+    pairs: &[(TenantName, SharedItem)],
 ) -> Result<Vec<TenantName>, AllocError>
     ensures order { IfOk result (λ names. IsStrictlySortedBy (slice_cmp nat_cmp) names.items) }
     ensures names { IfOk result (λ names. (t : List ℕ) → list_any (same t) names.items ≡ list_any (λ pair. same t pair.0) pairs.now) }

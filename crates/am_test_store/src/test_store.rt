@@ -7,10 +7,10 @@ ghost use Rattle.am_rows.specs.Rows.{is_among};
 ghost use Rattle.am_test_store.specs.Pairs.{medium_of};
 ghost use Rattle.am_tenant.specs.Names.{same};
 
-use crate::copying::copies_of;
 use crate::naming::{is_same, names_in};
 use crate::reading::rows_of;
-use am_item::{Item, SilenceId, Thing};
+use crate::storing::pairs_of;
+use am_item::{Part, SharedItem, SilenceId};
 use am_rows::{Rows, StoreRefusal};
 use am_tenant::TenantName;
 use am_text::Failure;
@@ -21,7 +21,7 @@ use std::alloc::Global;
 #[derive(Drop)]
 pub struct TestStore {
     // What was put, in order, without what was dropped.
-    pairs: Vec<(TenantName, Item)>,
+    pairs: Vec<(TenantName, SharedItem)>,
     is_open: bool,
     // How many calls come before the one that fails, where one does.
     before: Option<u64>,
@@ -87,11 +87,11 @@ impl Rows for TestStore {
         &mut self,
         alloc: Global,
         tenant: &TenantName,
-        items: &[Item],
+        items: &[SharedItem],
     ) -> Result<(), Failure<StoreRefusal>> {
         self.begin()?;
-        let mut copies = copies_of(alloc, tenant, items)?;
-        self.pairs.append(&mut copies)?;
+        let mut pairs = pairs_of(alloc, tenant, items)?;
+        self.pairs.append(&mut pairs)?;
         self.is_open = true;
         Ok(())
     }
@@ -100,7 +100,7 @@ impl Rows for TestStore {
         &mut self,
         alloc: Global,
         tenant: &TenantName,
-    ) -> Result<Vec<Item>, Failure<StoreRefusal>> {
+    ) -> Result<Vec<SharedItem>, Failure<StoreRefusal>> {
         self.begin()?;
         let rows = rows_of(alloc, &self.pairs, tenant)?;
         self.is_open = true;
@@ -141,41 +141,41 @@ impl Rows for TestStore {
 }
 
 // Leaves what is none of these silences.
-fn leave_others(pairs: &mut Vec<(TenantName, Item)>, silences: &[(TenantName, SilenceId)])
+fn leave_others(pairs: &mut Vec<(TenantName, SharedItem)>, silences: &[(TenantName, SilenceId)])
     ensures { pairs.new.items ≡ filter (λ pair. not (is_among pair.0 silences.now pair.1)) pairs.old.items }
 {
     pairs.retain(|pair| is_none_of(pair, silences));
 }
 
 // Leaves what is of other tenants.
-fn leave_others_of(pairs: &mut Vec<(TenantName, Item)>, tenant: &TenantName)
+fn leave_others_of(pairs: &mut Vec<(TenantName, SharedItem)>, tenant: &TenantName)
     ensures { pairs.new.items ≡ filter (λ pair. not (same pair.0 tenant.now)) pairs.old.items }
 {
     pairs.retain(|pair| is_of_other(pair, tenant));
 }
 
 // Whether a pair is of another tenant.
-fn is_of_other(pair: &(TenantName, Item), tenant: &TenantName) -> bool
+fn is_of_other(pair: &(TenantName, SharedItem), tenant: &TenantName) -> bool
     ensures { result ≡ not (same pair.now.0 tenant.now) }
 {
     !is_same(&pair.0, tenant)
 }
 
 // Whether a pair is none of these silences.
-fn is_none_of(pair: &(TenantName, Item), silences: &[(TenantName, SilenceId)]) -> bool
+fn is_none_of(pair: &(TenantName, SharedItem), silences: &[(TenantName, SilenceId)]) -> bool
     ensures { result ≡ not (is_among pair.now.0 silences.now pair.now.1) }
 {
     !is_among(pair, silences)
 }
 
-fn is_among(pair: &(TenantName, Item), silences: &[(TenantName, SilenceId)]) -> bool
+fn is_among(pair: &(TenantName, SharedItem), silences: &[(TenantName, SilenceId)]) -> bool
     ensures { result ≡ is_among pair.now.0 silences.now pair.now.1 }
 {
     silences.iter().any(|silence| is_silence(pair, silence))
 }
 
 // Whether a pair is this silence.
-fn is_silence(pair: &(TenantName, Item), silence: &(TenantName, SilenceId)) -> bool
+fn is_silence(pair: &(TenantName, SharedItem), silence: &(TenantName, SilenceId)) -> bool
     ensures { result ≡ (same pair.now.0 silence.now.0 && has_key (SilenceKey silence.now.1) pair.now.1) }
 {
     is_same(&pair.0, &silence.0) && has_id(&pair.1, &silence.1)
@@ -183,11 +183,11 @@ fn is_silence(pair: &(TenantName, Item), silence: &(TenantName, SilenceId)) -> b
 
 // Whether an item is the silence of an identifier.
 #[tactic(auto, unfolding(am_item::specs::Key::key_cmp))]
-fn has_id(item: &Item, id: &SilenceId) -> bool
+fn has_id(item: &SharedItem, id: &SilenceId) -> bool
     ensures { result ≡ has_key (SilenceKey id.now) item.now }
 {
-    match &item.thing {
-        Thing::Silence(silence) => *id == silence.id,
-        Thing::Configuration(_) | Thing::Alert(_) | Thing::SentEntry(_) => false,
+    match item.part() {
+        Part::Silence(own, _) => *id == *own,
+        Part::Configuration(_) | Part::Alert(_, _) | Part::SentEntry(_, _) => false,
     }
 }

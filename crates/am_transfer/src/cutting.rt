@@ -4,7 +4,7 @@ ghost use Rattle.std.specs.Prelude.{◌≡◌, ◌+◌, ◌-◌, ◌^◌, ◌==�
 ghost use Rattle.am_transfer.specs.Pieces.{cut, most_bytes, most_items};
 
 use crate::piece::Piece;
-use crate::shared_item::SharedItem;
+use am_item::{SharedItem, share_all};
 use am_wire::item_len;
 use std::alloc::{AllocError, Global};
 
@@ -24,7 +24,7 @@ pub fn cut(alloc: Global, items: &[SharedItem]) -> Result<Vec<Piece>, AllocError
     let mut start = 0;
     let mut bytes = 0u64;
     for (place, item) in items.iter().enumerate() {
-        let size = item_len(item.item());
+        let size = item_len(item);
         if has_room(place - start, bytes, size) {
             bytes = bytes.saturating_add(size);
         } else {
@@ -57,15 +57,4 @@ fn piece_of(
 {
     let items = share_all(alloc, items)?;
     Piece::new(alloc, place, is_last, items)
-}
-
-// The same items once more.
-fn share_all(alloc: Global, items: &[SharedItem]) -> Result<Vec<SharedItem>, AllocError>
-    ensures { IfOk result (λ shared. shared.items ≡ items.now) }
-{
-    let mut shared = Vec::with_capacity(alloc, items.len())?;
-    for item in items {
-        shared.push(item.share()?)?;
-    }
-    Ok(shared)
 }

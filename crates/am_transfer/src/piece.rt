@@ -2,7 +2,7 @@
 
 ghost use Rattle.std.specs.Prelude.{◌≡◌, IfOk};
 
-use crate::shared_item::SharedItem;
+use am_item::SharedItem;
 use std::alloc::{AllocError, Global};
 use std::marker::Model;
 use std::rc::Rc;

@@ -5,7 +5,7 @@ ghost use Rattle.am_transfer.specs.Pieces.{first_sent, named_at, pieces_from, pi
 
 use crate::cutting::cut;
 use crate::piece::Piece;
-use crate::shared_item::SharedItem;
+use am_item::SharedItem;
 use std::alloc::{AllocError, Global};
 use std::marker::Model;
 

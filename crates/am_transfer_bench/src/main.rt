@@ -6,10 +6,10 @@
 //! so many tenants whose push runs, where nothing is due.
 #![tactic(auto)]
 
-use am_item::{Item, Stamp, Thing};
+use am_item::{Item, SharedItem, Stamp, Thing};
 use am_tenant::TenantName;
 use am_text::{Moment, Text};
-use am_transfer::{Peer, Settling, SharedItem, Span};
+use am_transfer::{Peer, Settling, Span};
 use anyhow::{Context, Result, bail};
 use std::alloc::Global;
 use std::env;

@@ -1,10 +1,10 @@
 //! How lists are cut, by numbers and by bytes.
 
 use am_expect::equal;
-use am_item::{Item, Stamp, Thing};
+use am_item::{Item, SharedItem, Stamp, Thing};
 use am_tenant::TenantName;
 use am_text::{Moment, Text};
-use am_transfer::{Peer, Piece, Settling, SharedItem};
+use am_transfer::{Peer, Piece, Settling};
 use std::alloc::Global;
 use std::test::Fail;
 

@@ -2,9 +2,10 @@
 
 use crate::pieces::{Told, list_of, told};
 use am_expect::equal;
+use am_item::SharedItem;
 use am_tenant::TenantName;
 use am_text::Moment;
-use am_transfer::{Again, Peer, Piece, Settling, SharedItem, Span};
+use am_transfer::{Again, Peer, Piece, Settling, Span};
 use std::alloc::Global;
 use std::test::Fail;
 

@@ -1,7 +1,9 @@
 -- The lengths of what is spelled, field by field.
-use Rattle.std.proofs.Common.{◌≡◌, ℕ, ◌+◌, Bool, true, false, List, [], ◌∷◌, ◌++◌, length, ap, ◌∙◌, append-nil, length-append, arith}
+use Rattle.std.proofs.Common.{◌≡◌, ℕ, ◌+◌, Bool, true, false, List, [], ◌∷◌, ◌++◌, length, ap, sym, ◌∙◌, append-nil, length-append, arith}
 use Rattle.std.specs.List.{flat_map}
 use Rattle.std.proofs.lemmas.Grind.{flat_map-append}
+use Rattle.am_item.proofs.Sharing.{items_by-append}
+use Rattle.am_item.specs.Held.{items_by}
 use Rattle.am_item.specs.declared.entry.SentEntry.{SentEntry}
 use Rattle.am_item.specs.declared.item.Alert.{Alert}
 use Rattle.am_item.specs.declared.item.Item.{Item}
@@ -110,6 +112,13 @@ counted_more f xs x n m before here =
     let whole : length (flat_map f (xs ++ x ∷ [])) ≡ length (flat_map f xs) + length (f x) =
     ap length (flat_map-append f xs (x ∷ []) ∙ ap (λ (ys : List ℕ). flat_map f xs ++ ys) (append-nil (f x))) ∙ length-append (flat_map f xs) (f x) in
     omega (arith, whole, before, here)
+
+-- one entry more was counted
+pub kept_more : {K V : Type 0} (item : K → V → Item) (xs more : List (K × V)) (x : K × V) (n m : ℕ) → more ≡ xs ++ x ∷ [] → n ≡ capped (length (flat_map item_bytes (items_by item xs)))
+    → m ≡ capped (length (item_bytes (item x.0 x.1))) → capped (n + m) ≡ capped (length (flat_map item_bytes (items_by item more)))
+kept_more item xs more x n m is before here =
+    counted_more item_bytes (items_by item xs) (item x.0 x.1) n m before here
+    ∙ ap (λ ys. capped (length (flat_map item_bytes ys))) (sym (items_by-append item xs (x ∷ [])) ∙ ap (items_by item) (sym is))
 
 -- a sum of capped parts, each added in turn
 pub with_fields : (a b m fixed total one two three four : ℕ) → one ≡ capped (capped a + capped b) → two ≡ capped (one + capped m) → three ≡ capped (two + fixed) →

@@ -8,6 +8,8 @@ pub mod Fields
 pub mod LabelFields
 -- items
 pub mod ItemFields
+-- .. within a message
+pub mod Items
 -- messages
 pub mod Messages
 -- lengths

@@ -16,7 +16,7 @@ use byteorder::{BigEndian, ByteOrder};
 use std::alloc::Global;
 
 #[tactic(auto, unfolding(crate::specs::Messages::body_bytes))]
-fn push_body(out: &mut Vec<u8>, body: &Body) -> Result<(), Failure<EncodeRefusal>>
+fn push_body(alloc: Global, out: &mut Vec<u8>, body: &Body) -> Result<(), Failure<EncodeRefusal>>
     ensures bytes { OnOk result (out.new.items ≡ out.old.items ++ body_bytes body.now) }
     ensures valid { OnOk result (IsBody body.now) }
     ensures refused { IfErr result (IsBadBy (¬ IsBody body.now)) }
@@ -30,11 +30,11 @@ fn push_body(out: &mut Vec<u8>, body: &Body) -> Result<(), Failure<EncodeRefusal
         } => {
             push_u64(out, *operation)?;
             push_u32(out, *incarnation)?;
-            push_items(out, items.as_slice())?;
+            push_items(out, &items.list(alloc)?)?;
         }
         Body::Put { operation, items } => {
             push_u64(out, *operation)?;
-            push_items(out, items.as_slice())?;
+            push_items(out, &items.list(alloc)?)?;
         }
         Body::Ack {
             operation,
@@ -53,7 +53,7 @@ fn push_body(out: &mut Vec<u8>, body: &Body) -> Result<(), Failure<EncodeRefusal
             push_u32(out, *incarnation)?;
             push_u32(out, *place)?;
             out.push(u8::from(*is_last))?;
-            push_items(out, items.as_slice())?;
+            push_items(out, &items.list(alloc)?)?;
         }
         Body::Got { incarnation, place } => {
             push_u32(out, *incarnation)?;
@@ -65,7 +65,11 @@ fn push_body(out: &mut Vec<u8>, body: &Body) -> Result<(), Failure<EncodeRefusal
 
 // A message behind its length.
 #[tactic(auto, unfolding(crate::specs::Messages::inside))]
-fn push_message(out: &mut Vec<u8>, message: &Message) -> Result<(), Failure<EncodeRefusal>>
+fn push_message(
+    alloc: Global,
+    out: &mut Vec<u8>,
+    message: &Message,
+) -> Result<(), Failure<EncodeRefusal>>
     ensures bytes { OnOk result (out.new.items ≡ out.old.items ++ inside message.now) }
     ensures valid { OnOk result (IsMessage message.now) }
     ensures refused { IfErr result (IsBadBy (¬ IsMessage message.now)) }
@@ -80,7 +84,7 @@ fn push_message(out: &mut Vec<u8>, message: &Message) -> Result<(), Failure<Enco
     push_u64(out, message.epoch)?;
     out.push(tenant.len() as u8)?;
     out.extend_from_slice(tenant)?;
-    push_body(out, &message.body)?;
+    push_body(alloc, out, &message.body)?;
     Ok(())
 }
 
@@ -96,7 +100,7 @@ pub fn encode(alloc: Global, message: &Message) -> Result<Octets, Failure<Encode
 {
     let mut bytes = Vec::new(alloc);
     push_u32(&mut bytes, 0)?;
-    push_message(&mut bytes, message)?;
+    push_message(alloc, &mut bytes, message)?;
     let Ok(length) = u32::try_from(bytes.as_slice().len()) else {
         return Err(Failure::Refused(EncodeRefusal::TooLong));
     };

@@ -1,56 +1,103 @@
 //! The items within a message.
 
 ghost use Rattle.std.specs.Prelude.{◌≡◌, IfOk};
+ghost use Rattle.am_item.specs.Best.{best};
+ghost use Rattle.am_wire.specs.Items.{items_in};
 
-use am_item::Item;
+use am_item::{Held, SharedItem, share_all};
 use std::alloc::{AllocError, Global};
 use std::marker::Model;
 use std::rc::Rc;
 
 /// Items in their order, shared by all who hold them: a copy of them is counted, not made.
 pub struct Items {
-    list: Rc<Vec<Item>>,
+    form: Form,
 }
 
 // Written out, so that a crate which owns one need not prove anew how its parts are dropped.
 impl Drop for Items {
     fn drop(self) {
-        let Items { list } = self;
-        drop(list);
+        let Items { form } = self;
+        drop(form);
     }
+}
+
+// Items as a list, or as they are held.
+#[derive(Drop)]
+pub(crate) enum Form {
+    Listed(Rc<Vec<SharedItem>>),
+    Held(Held),
 }
 
 impl Model for Items {
     ghost use Rattle.std.specs.Prelude.{List};
     ghost use Rattle.am_item.specs.declared.item.Item.{Item};
+    ghost use Rattle.am_wire.specs.Items.{items_in};
 
     ghost Value = { List Item };
 
-    ghost view = { λ items. items.list.value.items };
+    ghost view = { λ items. items_in items.form };
 }
 
 impl Items {
-    /// The items of a `Vec`, which are not copied.
-    pub fn from_vec(alloc: Global, items: Vec<Item>) -> Result<Items, AllocError>
+    /// The items of a list, which are not copied.
+    ///
+    /// An error is out of memory.
+    pub fn from_vec(alloc: Global, items: Vec<SharedItem>) -> Result<Items, AllocError>
         ensures { IfOk result (λ shared. shared ≡ items.items) }
     {
-        let list = Rc::new(alloc, items)?;
-        Ok(Items { list })
+        let form = Form::Listed(Rc::new(alloc, items)?);
+        Ok(Items { form })
     }
 
-    /// The items, borrowed.
-    pub fn as_slice(&self) -> &[Item]
-        ensures { result.now ≡ self.now }
+    /// All that is held, in the order of keys.
+    pub fn from_held(held: Held) -> Items
+        ensures { result ≡ held }
     {
-        let list = self.list.as_ref();
-        list.as_slice()
+        Items {
+            form: Form::Held(held),
+        }
+    }
+
+    // The form that they have.
+    pub(crate) fn form(&self) -> &Form
+        ensures { items_in result.now ≡ self.now }
+    {
+        &self.form
     }
 
     /// The same items, held once more. It takes no memory; an error says that they are held as often as can be counted.
     pub fn share(&self) -> Result<Items, AllocError>
         ensures { IfOk result (λ shared. shared ≡ self.now) }
     {
-        let list = self.list.clone()?;
-        Ok(Items { list })
+        let form = match &self.form {
+            Form::Listed(list) => Form::Listed(list.clone()?),
+            Form::Held(held) => Form::Held(held.snapshot()?),
+        };
+        Ok(Items { form })
+    }
+
+    /// The items one by one.
+    ///
+    /// An error is out of memory.
+    pub fn list(&self, alloc: Global) -> Result<Vec<SharedItem>, AllocError>
+        ensures { IfOk result (λ list. list.items ≡ self.now) }
+    {
+        match &self.form {
+            Form::Listed(list) => share_all(alloc, list.as_ref().as_slice()),
+            Form::Held(held) => held.items(alloc),
+        }
+    }
+
+    /// The best of the items. It takes no time where they came from what is held.
+    ///
+    /// An error is out of memory.
+    pub fn held(&self, alloc: Global) -> Result<Held, AllocError>
+        ensures { IfOk result (λ held. held ≡ best self.now) }
+    {
+        match &self.form {
+            Form::Listed(list) => Held::best_of(alloc, list.as_ref().as_slice()),
+            Form::Held(held) => held.snapshot(),
+        }
     }
 }

@@ -1,11 +1,12 @@
 //! The version of messages, and the kinds of things and of messages, by their numbers.
 
 ghost use Rattle.std.specs.Prelude.{◌≡◌};
+ghost use Rattle.am_item.specs.Shared.{thing_in};
 ghost use Rattle.am_wire.specs.ItemFields.{kind_of_thing, thing_number};
 ghost use Rattle.am_wire.specs.Messages.{body_number, kind_of_body};
 
 use crate::message::Body;
-use am_item::Thing;
+use am_item::Part;
 
 /// The version of all messages. It changes with how any of them is spelled.
 pub(crate) const VERSION: u8 = 2;
@@ -19,15 +20,15 @@ pub(crate) enum ThingKind {
     SentEntry,
 }
 
-/// The number of a thing's kind, 1 to 4.
-pub(crate) fn thing_number(thing: &Thing) -> u8
-    ensures { result ≡ thing_number (kind_of_thing thing.now) }
+/// The number of the kind that an item is of, 1 to 4.
+pub(crate) fn thing_number(part: &Part<'_>) -> u8
+    ensures { result ≡ thing_number (kind_of_thing (thing_in part.now)) }
 {
-    match thing {
-        Thing::Configuration(_) => 1,
-        Thing::Silence(_) => 2,
-        Thing::Alert(_) => 3,
-        Thing::SentEntry(_) => 4,
+    match part {
+        Part::Configuration(_) => 1,
+        Part::Silence(..) => 2,
+        Part::Alert(..) => 3,
+        Part::SentEntry(..) => 4,
     }
 }
 

@@ -13,7 +13,7 @@ use crate::items::Items;
 use crate::kinds::ThingKind;
 use crate::reader::Reader;
 use crate::refusal::WireRefusal;
-use am_item::{Alert, Item, Matchers, SentEntry, Silence, SilenceId, Stamp, Thing};
+use am_item::{Alert, Item, Matchers, SentEntry, SharedItem, Silence, SilenceId, Stamp, Thing};
 use am_labels::is_label_name;
 use am_match::{Matcher, Operator};
 use am_text::{Failure, Text};
@@ -230,7 +230,7 @@ impl<'a> Reader<'a> {
     }
 
     #[tactic(auto, unfolding(crate::specs::ItemFields::item_at, crate::specs::ItemFields::item_bytes))]
-    fn item(&mut self, alloc: Global) -> Result<Item, Failure<WireRefusal>>
+    fn item(&mut self, alloc: Global) -> Result<SharedItem, Failure<WireRefusal>>
         ensures read { Gives (λ item. (item, self.new)) result (item_at self.old) }
         ensures found { IfOk result (λ item. self.old ≡ item_bytes item ++ self.new) }
         ensures valid { IfOk result (λ item. IsItem item) }
@@ -238,14 +238,14 @@ impl<'a> Reader<'a> {
         let kind = self.thing_kind()?;
         let stamp = self.stamp()?;
         let thing = self.thing(alloc, kind)?;
-        Ok(Item { stamp, thing })
+        Ok(SharedItem::new(alloc, Item { stamp, thing })?)
     }
 
     fn several_items(
         &mut self,
         alloc: Global,
         count: u32,
-    ) -> Result<Vec<Item>, Failure<WireRefusal>>
+    ) -> Result<Vec<SharedItem>, Failure<WireRefusal>>
         ensures read { Gives (λ items. (items.items, self.new)) result (several (λ before. item_at) count None self.old) }
         ensures found { IfOk result (λ items. self.old ≡ flat_map item_bytes items.items ++ self.new) }
         ensures valid { IfOk result (λ items. All IsItem items.items) }
@@ -261,7 +261,7 @@ impl<'a> Reader<'a> {
 
     // Items.
     #[tactic(auto, unfolding(crate::specs::ItemFields::items_at, crate::specs::ItemFields::items_bytes))]
-    fn items(&mut self, alloc: Global) -> Result<Vec<Item>, Failure<WireRefusal>>
+    fn items(&mut self, alloc: Global) -> Result<Vec<SharedItem>, Failure<WireRefusal>>
         ensures read { Gives (λ items. (items.items, self.new)) result (items_at self.old) }
         ensures found { IfOk result (λ items. self.old ≡ items_bytes items.items ++ self.new) }
         ensures valid { IfOk result (λ items. All IsItem items.items) }

@@ -2,6 +2,8 @@
 
 ghost use Rattle.std.specs.Prelude.{◌≡◌, ◌++◌, All, IfErr, IfSome, IsUtf8, OnOk, map};
 ghost use Rattle.std.specs.List.{flat_map};
+ghost use Rattle.am_item.specs.Held.{alert_of, entry_of, silence_of};
+ghost use Rattle.am_item.specs.Shared.{thing_in};
 ghost use Rattle.am_match.specs.Matchers.{IsMatcher};
 ghost use Rattle.am_match.specs.Spelling.{operator_number};
 ghost use Rattle.am_wire.specs.ItemFields.{AreMatchers, IsAlert, IsEntry, IsItem, IsSilence, IsStamp, IsThing, alert_bytes, configuration_bytes, entry_bytes, item_bytes, items_bytes, matcher_bytes, matchers_bytes, silence_bytes, stamp_bytes, thing_bytes};
@@ -11,7 +13,10 @@ use crate::kinds::thing_number;
 use crate::refusal::EncodeRefusal;
 use crate::write_fields::{push_few, push_length, push_moment, push_str, push_u32, push_u64};
 use crate::write_labels::{push_annotations, push_label_set, push_label_sets};
-use am_item::{Alert, Item, SentEntry, Silence, Stamp, Thing};
+use am_item::{
+    AlertDetails, EntryDetails, EntryKey, Part, SharedItem, SilenceDetails, SilenceId, Stamp,
+};
+use am_labels::LabelSet;
 use am_match::{Matcher, Operator};
 use am_ring::Instance;
 use am_text::{Failure, Text};
@@ -86,12 +91,16 @@ fn push_configuration(out: &mut Vec<u8>, text: &Option<Text>) -> Result<(), Allo
 }
 
 #[tactic(auto, unfolding(crate::specs::ItemFields::silence_bytes))]
-fn push_silence(out: &mut Vec<u8>, silence: &Silence) -> Result<(), Failure<EncodeRefusal>>
-    ensures bytes { OnOk result (out.new.items ≡ out.old.items ++ silence_bytes silence.now) }
-    ensures valid { OnOk result (IsSilence silence.now) }
-    ensures refused { IfErr result (IsBadBy (¬ IsSilence silence.now)) }
+fn push_silence(
+    out: &mut Vec<u8>,
+    id: &SilenceId,
+    silence: &SilenceDetails,
+) -> Result<(), Failure<EncodeRefusal>>
+    ensures bytes { OnOk result (out.new.items ≡ out.old.items ++ silence_bytes (silence_of id.now silence.now)) }
+    ensures valid { OnOk result (IsSilence (silence_of id.now silence.now)) }
+    ensures refused { IfErr result (IsBadBy (¬ IsSilence (silence_of id.now silence.now))) }
 {
-    out.extend_from_slice(silence.id.as_bytes())?;
+    out.extend_from_slice(id.as_bytes())?;
     push_moment(out, silence.starts_at)?;
     push_moment(out, silence.ends_at)?;
     push_moment(out, silence.kept_until)?;
@@ -102,12 +111,16 @@ fn push_silence(out: &mut Vec<u8>, silence: &Silence) -> Result<(), Failure<Enco
 }
 
 #[tactic(auto, unfolding(crate::specs::ItemFields::alert_bytes))]
-fn push_alert(out: &mut Vec<u8>, alert: &Alert) -> Result<(), Failure<EncodeRefusal>>
-    ensures bytes { OnOk result (out.new.items ≡ out.old.items ++ alert_bytes alert.now) }
-    ensures valid { OnOk result (IsAlert alert.now) }
-    ensures refused { IfErr result (IsBadBy (¬ IsAlert alert.now)) }
+fn push_alert(
+    out: &mut Vec<u8>,
+    labels: &LabelSet,
+    alert: &AlertDetails,
+) -> Result<(), Failure<EncodeRefusal>>
+    ensures bytes { OnOk result (out.new.items ≡ out.old.items ++ alert_bytes (alert_of labels.now alert.now)) }
+    ensures valid { OnOk result (IsAlert (alert_of labels.now alert.now)) }
+    ensures refused { IfErr result (IsBadBy (¬ IsAlert (alert_of labels.now alert.now))) }
 {
-    push_label_set(out, &alert.labels)?;
+    push_label_set(out, labels)?;
     push_annotations(out, &alert.annotations)?;
     push_moment(out, alert.starts_at)?;
     push_moment(out, alert.ends_at)?;
@@ -116,47 +129,53 @@ fn push_alert(out: &mut Vec<u8>, alert: &Alert) -> Result<(), Failure<EncodeRefu
 }
 
 #[tactic(auto, unfolding(crate::specs::ItemFields::entry_bytes))]
-fn push_entry(out: &mut Vec<u8>, entry: &SentEntry) -> Result<(), Failure<EncodeRefusal>>
-    ensures bytes { OnOk result (out.new.items ≡ out.old.items ++ entry_bytes entry.now) }
-    ensures valid { OnOk result (IsEntry entry.now) }
-    ensures refused { IfErr result (IsBadBy (¬ IsEntry entry.now)) }
+fn push_entry(
+    out: &mut Vec<u8>,
+    key: &EntryKey,
+    entry: &EntryDetails,
+) -> Result<(), Failure<EncodeRefusal>>
+    ensures bytes { OnOk result (out.new.items ≡ out.old.items ++ entry_bytes (entry_of key.now entry.now)) }
+    ensures valid { OnOk result (IsEntry (entry_of key.now entry.now)) }
+    ensures refused { IfErr result (IsBadBy (¬ IsEntry (entry_of key.now entry.now))) }
 {
-    push_str(out, entry.receiver.as_str())?;
-    push_str(out, entry.group.as_str())?;
-    out.push(entry.webhook)?;
+    push_str(out, key.receiver.as_str())?;
+    push_str(out, key.group.as_str())?;
+    out.push(key.webhook)?;
     push_moment(out, entry.ends_at)?;
     push_label_sets(out, &entry.firing)?;
     push_label_sets(out, &entry.resolved)?;
     Ok(())
 }
 
-fn push_thing(out: &mut Vec<u8>, thing: &Thing) -> Result<(), Failure<EncodeRefusal>>
-    ensures bytes { OnOk result (out.new.items ≡ out.old.items ++ thing_bytes thing.now) }
-    ensures valid { OnOk result (IsThing thing.now) }
-    ensures refused { IfErr result (IsBadBy (¬ IsThing thing.now)) }
+#[tactic(auto, unfolding(am_item::specs::Shared::thing_in))]
+fn push_part(out: &mut Vec<u8>, part: &Part<'_>) -> Result<(), Failure<EncodeRefusal>>
+    ensures bytes { OnOk result (out.new.items ≡ out.old.items ++ thing_bytes (thing_in part.now)) }
+    ensures valid { OnOk result (IsThing (thing_in part.now)) }
+    ensures refused { IfErr result (IsBadBy (¬ IsThing (thing_in part.now))) }
 {
-    match thing {
-        Thing::Configuration(text) => push_configuration(out, text)?,
-        Thing::Silence(silence) => push_silence(out, silence)?,
-        Thing::Alert(alert) => push_alert(out, alert)?,
-        Thing::SentEntry(entry) => push_entry(out, entry)?,
+    match part {
+        Part::Configuration(text) => push_configuration(out, text)?,
+        Part::Silence(id, silence) => push_silence(out, id, silence)?,
+        Part::Alert(labels, alert) => push_alert(out, labels, alert)?,
+        Part::SentEntry(key, entry) => push_entry(out, key, entry)?,
     }
     Ok(())
 }
 
 #[tactic(auto, unfolding(crate::specs::ItemFields::item_bytes))]
-fn push_item(out: &mut Vec<u8>, item: &Item) -> Result<(), Failure<EncodeRefusal>>
+fn push_item(out: &mut Vec<u8>, item: &SharedItem) -> Result<(), Failure<EncodeRefusal>>
     ensures bytes { OnOk result (out.new.items ≡ out.old.items ++ item_bytes item.now) }
     ensures valid { OnOk result (IsItem item.now) }
     ensures refused { IfErr result (IsBadBy (¬ IsItem item.now)) }
 {
-    out.push(thing_number(&item.thing))?;
-    push_stamp(out, &item.stamp)?;
-    push_thing(out, &item.thing)?;
+    let part = item.part();
+    out.push(thing_number(&part))?;
+    push_stamp(out, item.stamp())?;
+    push_part(out, &part)?;
     Ok(())
 }
 
-fn push_all(out: &mut Vec<u8>, items: &[Item]) -> Result<(), Failure<EncodeRefusal>>
+fn push_all(out: &mut Vec<u8>, items: &[SharedItem]) -> Result<(), Failure<EncodeRefusal>>
     ensures bytes { OnOk result (out.new.items ≡ out.old.items ++ flat_map item_bytes items.now) }
     ensures valid { OnOk result (All IsItem items.now) }
     ensures refused { IfErr result (IsBadBy (¬ All IsItem items.now)) }
@@ -169,7 +188,7 @@ fn push_all(out: &mut Vec<u8>, items: &[Item]) -> Result<(), Failure<EncodeRefus
 
 /// Items.
 #[tactic(auto, unfolding(crate::specs::ItemFields::items_bytes))]
-pub fn push_items(out: &mut Vec<u8>, items: &[Item]) -> Result<(), Failure<EncodeRefusal>>
+pub fn push_items(out: &mut Vec<u8>, items: &[SharedItem]) -> Result<(), Failure<EncodeRefusal>>
     ensures bytes { OnOk result (out.new.items ≡ out.old.items ++ items_bytes items.now) }
     ensures valid { OnOk result (All IsItem items.now) }
     ensures refused { IfErr result (IsBadBy (¬ All IsItem items.now)) }

@@ -1,6 +1,6 @@
 -- Draws of identifiers, one after the other.
-use Rattle.std.proofs.Common.{◌≡◌, ℕ, ◌+◌, ◌-◌, ◌*◌, ◌%◌, ◌^◌, ◌<◌, suc, true, false, not, cond, List, ◌++◌, Some, None, Option, refl, sym, ap, ◌∙◌, arith, find, subst}
-use Rattle.std.specs.Option.{option_map, is_some}
+use Rattle.std.proofs.Common.{◌≡◌, ℕ, ◌+◌, ◌-◌, ◌*◌, ◌%◌, ◌^◌, ◌<◌, suc, true, false, not, cond, List, ◌++◌, Some, None, Option, Bor, refl, sym, ap, ◌∙◌, arith, find, subst}
+use Rattle.std.specs.Option.{is_some, option_copied, option_map}
 use Rattle.rand_core.specs.Steps.{fill_via_u32, word_bytes}
 use Rattle.rand_chacha.specs.ChaCha.{ChaCha, next_word, word_at}
 use Rattle.am_item.specs.Best.{item_at}
@@ -105,3 +105,8 @@ pub is_held-by : {S : Type 0} (items : List Item) (id : List ℕ) (item : S → 
     → is_held items id ≡ is_some held
 is_held-by items id item None e = ap is_some (sym e)
 is_held-by items id item (Some s) e = ap is_some (sym e)
+
+-- a borrowed value is there where a copy of it is
+pub some_copied : {T : Type 0} (o : Option (Bor T)) → is_some o ≡ is_some (option_copied o)
+some_copied None = refl
+some_copied (Some b) = refl

@@ -122,11 +122,18 @@ fn draw_unheld(words: &mut ChaCha20Rng, held: &Held) -> Result<SilenceId, WordsR
 {
     for _draw in 0..MOST_DRAWS {
         let id = draw(words);
-        if !held.silences().contains_key(&id) {
+        if !is_held(held, &id) {
             return Ok(id);
         }
     }
     Err(WordsRefusal::NoIdentifier)
+}
+
+// Whether a silence of this identifier is held.
+fn is_held(held: &Held, id: &SilenceId) -> bool
+    ensures { result ≡ is_held held.now id.now }
+{
+    held.silences().get(id).is_some()
 }
 
 // Draws an identifier.

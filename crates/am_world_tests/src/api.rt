@@ -6,6 +6,7 @@ use am_current::Holdings;
 use am_expect::{equal, holds};
 use am_http::Method::{self, Delete, Get, Post};
 use am_http::{Endpoint, Request};
+use am_item::to_shared;
 use am_limit::Limits;
 use am_pattern::PatternCache;
 use am_tenant::TenantName;
@@ -227,7 +228,7 @@ fn reply(
     let request = request(alloc, tenant, line)?;
     let decided = decision(alloc, &request, holdings, cache, *place)?;
     *place = decided.drawn.unwrap_or(*place);
-    holdings.put_all(alloc, &tenant, decided.items)?;
+    holdings.put_all(alloc, &tenant, to_shared(alloc, decided.items)?)?;
     Ok((decided.status, decided.body))
 }
 

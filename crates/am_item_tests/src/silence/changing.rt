@@ -49,8 +49,13 @@ fn silence(alloc: Global, from: u8) -> Result<Silence, Fail> {
 
 // Where that silence is held, written at minute 0.
 fn held(alloc: Global, from: u8) -> Result<Held, Fail> {
-    let mut held = Held::new(alloc);
-    hold(&mut held, Thing::Silence(silence(alloc, from)?), POSTED_AT);
+    let mut held = Held::new(alloc)?;
+    hold(
+        alloc,
+        &mut held,
+        Thing::Silence(silence(alloc, from)?),
+        POSTED_AT,
+    )?;
     Ok(held)
 }
 

@@ -6,4 +6,4 @@ use Rattle.am_group.proofs.notice.flush.Given as goal
 
 abbrev pub invariant-loop-place : goal.invariant-loop-place
 invariant-loop-place l =
-    map deed l.acts.items ≡ deeds_from 0 l.receiver.name l.key (take l.place l.webhook-items) l.sent.entries (map held_alert l.alerts) l.repeat_interval l.moment
+    map deed l.acts.items ≡ deeds_from 0 l.receiver.name l.key (take l.place l.webhook-items) l.sent (map held_alert l.alerts) l.repeat_interval l.moment

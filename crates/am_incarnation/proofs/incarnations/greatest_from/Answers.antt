@@ -9,7 +9,7 @@ loop-row-init c = none_from c.args.least
 
 pub loop-row-preserved : goal.loop-row-preserved
 loop-row-preserved c =
-    rw (c.max-greatest.ensures)
+    rw (c.max-greatest.ensures, c.stamp.ensures)
     (one_from c.args.least c.loop-row.greatest c.args.rows.now c.loop-row.row-index c.row-item.result c.loop-row-test.true c.row-item.is c.loop-row.invariant)
 
 pub returns : goal.returns

@@ -5,4 +5,4 @@ use Rattle.am_muting.proofs.muting.has_active.Goals as goal
 pub returns : goal.returns
 returns c =
     c.is_active_in.ensures
-    ∙ ap (λ active. not (length active == 0)) (active_held c.args.moment c.silences.result.now.entries c.args.held.now c.silences.ensures.items)
+    ∙ ap (λ active. not (length active == 0)) (active_held c.args.moment c.silences.result.now c.args.held.now c.silences.ensures.items)

@@ -1,6 +1,6 @@
-use Rattle.std.proofs.Common.{◌≡◌}
+use Rattle.std.proofs.Common.{◌≡◌, drop}
 use Rattle.am_muting.specs.Asked.{active_in}
 use Rattle.am_muting.proofs.muting.is_active_in.Given as goal
 
-abbrev pub invariant-loop-silence : goal.invariant-loop-silence
-invariant-loop-silence l = active_in l.moment l.silence-iterator ≡ active_in l.moment l.silences.entries
+abbrev pub invariant-loop-kept : goal.invariant-loop-kept
+invariant-loop-kept l = active_in l.moment (drop l.kept-index l.silences) ≡ active_in l.moment l.silences

@@ -1,4 +1,4 @@
-use Rattle.std.proofs.Common.{◌≡◌, ◌∙◌, ◌+◌, List, ℕ, Bor, ap, length, map, drop, sym, arith}
+use Rattle.std.proofs.Common.{◌≡◌, ◌∙◌, ◌+◌, List, Bor, ap, length, map, drop, sym, arith}
 use Rattle.am_labels.specs.declared.Label.{Label}
 use Rattle.am_silence.specs.Held.{silencing}
 use Rattle.am_inhibit.specs.Inhibits.{inhibitor_places}

@@ -5,7 +5,7 @@ use Rattle.sqlite.specs.Held.{state}
 use Rattle.sqlite.specs.State.{HasCleanDisk}
 use Rattle.am_store.specs.Failing.{is_reached}
 use Rattle.am_store.specs.Rows.{IsStore}
-use Rattle.am_store.specs.Stored.{SilenceWords, silence_text, stamped}
+use Rattle.am_store.specs.Stored.{SilenceWords, stamped, words_of}
 use Rattle.am_store.proofs.Calls.{clean_before}
 use Rattle.am_store.proofs.Failing.{excused_after}
 use Rattle.am_store.proofs.Gone.{silence_gone}
@@ -18,23 +18,23 @@ use Rattle.am_store.proofs.silence.put.Goals.{After-put_in, Then-branch}
 
 -- where the stamp is reached, nothing changes
 silence_stays : (g : Over) (c : goal.Then-branch g) → HasCleanDisk (state g.S.Store c.stamps.new.tx.conn.now) → IsStore (state g.S.Store c.args.tx.now.conn.now).now
-    → (is_reached c.args.tenant.now (stamped c.args.stamp.now (SilenceWords (silence_text c.args.silence.now))) (state g.S.Store c.args.tx.now.conn.now).now ≡ true) × ((state g.S.Store c.stamps.new.tx.conn.now).now ≡ (state g.S.Store c.args.tx.now.conn.now).now)
+    → (is_reached c.args.tenant.now (stamped c.args.stamp.now (SilenceWords (words_of c.args.id.now c.args.silence.now))) (state g.S.Store c.args.tx.now.conn.now).now ≡ true) × ((state g.S.Store c.stamps.new.tx.conn.now).now ≡ (state g.S.Store c.args.tx.now.conn.now).now)
 silence_stays g c clean store =
     let got = c.in_ok-rows.ensures.ok clean store in
-    (silence_reached _ store _ _ c.in_ok-rows.rows.items _ _ c.deref.ensures.value c.in_ok-is_reached.ensures.reached _ c.text_of-id.ensures.back (rw c.text_of-id.ensures.text at got.1) ∙ c.if-branch.true, got.0.0.now_is)
+    (silence_reached _ store _ _ c.in_ok-rows.rows.items _ _ c.deref.ensures.value c.in_ok-is_reached.ensures.reached _ c.text_of-text.ensures.back (rw c.text_of-text.ensures.text at got.1) ∙ c.if-branch.true, got.0.0.now_is)
 
 -- otherwise what is under the key is taken out
 silence_cleared : (g : Over) (c : goal.After-put_in g) → HasCleanDisk (state g.S.Store c.put_in.new.tx.conn.now) → IsStore (state g.S.Store c.args.tx.now.conn.now).now
-    → Clears c.args.tenant.now (stamped c.args.stamp.now (SilenceWords (silence_text c.args.silence.now))) (state g.S.Store c.args.tx.now.conn.now) (state g.S.Store c.take_out.new.tx.conn.now)
+    → Clears c.args.tenant.now (stamped c.args.stamp.now (SilenceWords (words_of c.args.id.now c.args.silence.now))) (state g.S.Store c.args.tx.now.conn.now) (state g.S.Store c.take_out.new.tx.conn.now)
 silence_cleared g c clean store =
     let old = state g.S.Store c.args.tx.now.conn.now in
     let read = state g.S.Store c.stamps.new.tx.conn.now in
     let mid = state g.S.Store c.take_out.new.tx.conn.now in
     let clean_mid = clean_before mid _ _ c.put_in.ensures.survives clean in
     let got = c.in_ok-rows.ensures.ok (clean_before read mid _ c.take_out.ensures.survives clean_mid) store in
-    let unreached = silence_reached _ store _ _ c.in_ok-rows.rows.items _ _ c.deref.ensures.value c.in_ok-is_reached.ensures.reached _ c.text_of-id.ensures.back (rw c.text_of-id.ensures.text at got.1) ∙ c.if-branch.false in
+    let unreached = silence_reached _ store _ _ c.in_ok-rows.rows.items _ _ c.deref.ensures.value c.in_ok-is_reached.ensures.reached _ c.text_of-text.ensures.back (rw c.text_of-text.ensures.text at got.1) ∙ c.if-branch.false in
     clears clean_mid c.stamps.ensures.survives c.take_out.ensures.survives store got.0 unreached
-    (rw c.text_of-id.ensures.text at (c.in_ok-take_out.ensures.ok clean_mid)) (λ out. (silence_gone old.now mid.now c.args.tenant.now _ c.text_of-id.ensures.back store out).store)
+    (rw c.text_of-text.ensures.text at (c.in_ok-take_out.ensures.ok clean_mid)) (λ out. (silence_gone old.now mid.now c.args.tenant.now _ c.text_of-text.ensures.back store out).store)
     (c.in_ok-take_out.ensures.inside clean_mid) (c.in_ok-take_out.ensures.sound clean_mid)
 
 pub returns-then-branch-clause-ok : goal.returns-then-branch-clause-ok

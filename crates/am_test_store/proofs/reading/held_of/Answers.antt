@@ -7,7 +7,7 @@ use Rattle.am_test_store.proofs.PairLemmas.{none_more, one_more, rows_joined}
 use Rattle.am_test_store.proofs.reading.held_of.Goals as goal
 
 pub loop-pair-init : goal.loop-pair-init
-loop-pair-init c = rw c.new-held.ensures (rows_joined c.args.tenant.now c.args.pairs.now)
+loop-pair-init c = rw c.in_ok-held.ensures (rows_joined c.args.tenant.now c.args.pairs.now)
 
 pub loop-pair-preserved : goal.loop-pair-preserved
 loop-pair-preserved c =

@@ -11,7 +11,7 @@ loop-place-preserved c =
     let i = c.loop-place.place in
     let x = c.index-items-place.result in
     let so_far = c.loop-place.invariant in
-    let is : c.item_len-size.result ≡ min (size_of x) (2 ^ 64 - 1) = c.item_len-size.ensures ∙ ap (λ (y : Item). min (size_of y) (2 ^ 64 - 1)) c.item.ensures in
+    let is : c.item_len-size.result ≡ min (size_of x) (2 ^ 64 - 1) = c.item_len-size.ensures in
     let room = room_is xs i c.loop-place.pieces.items c.loop-place.start c.loop-place.bytes c.item_len-size.result x (omega arith) so_far is in
     elim c.if-has_room.branch [
       | then-has_room w ↦ rw (w.pieces-is, w.start-is, w.bytes-is, w.saturating_add-bytes.ensures)

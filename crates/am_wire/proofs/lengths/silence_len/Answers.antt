@@ -1,4 +1,5 @@
 use Rattle.std.proofs.Common.{◌≡◌, ℕ, ◌+◌, List, length, arith, ap, ◌∙◌}
+use Rattle.am_item.specs.Held.{silence_of}
 use Rattle.am_match.specs.Matchers.{MatcherText}
 use Rattle.am_wire.specs.Fields.{text_bytes}
 use Rattle.am_wire.specs.ItemFields.{matchers_bytes, silence_bytes}
@@ -8,7 +9,7 @@ use Rattle.am_wire.proofs.lengths.silence_len.Goals as goal
 
 pub returns : goal.returns
 returns c =
-    let s = c.args.silence.now in
+    let s = silence_of c.args.id.now c.args.silence.now in
     let of_text = λ (xs : List ℕ). capped (length (text_bytes xs)) in
     let author : c.text_len.result ≡ capped (length (text_bytes s.created_by)) = c.text_len.ensures ∙ ap of_text c.as_str.ensures in
     let comment : c.text_len-2.result ≡ capped (length (text_bytes s.comment)) = c.text_len-2.ensures ∙ ap of_text c.as_str-2.ensures in

@@ -1,31 +1,29 @@
 use Rattle.std.proofs.Common.{◌≡◌, ◌+◌, ◌<◌, ℕ, List, Option, None, Some, suc, ap, sym, subst, ◌∙◌, arith}
 use Rattle.std.specs.Option.{option_map, option_map_or}
 use Rattle.rand_chacha.specs.ChaCha.{ChaCha}
-use Rattle.am_item.specs.Held.{silence_item}
 use Rattle.am_words.specs.Draws.{first_unheld, id_from, is_held, new_id, place_drawn}
 use Rattle.am_words.specs.Words.{place_after, words_in}
-use Rattle.am_words.proofs.DrawLemmas.{Drawn, all_held, is_held-by, moved, one_drawn, unheld_drawn}
-use Rattle.am_words.proofs.words.draw_unheld.Goals.{Then-not-contains_key, After-loop-draw}
+use Rattle.am_words.proofs.DrawLemmas.{Drawn, all_held, moved, one_drawn, unheld_drawn}
+use Rattle.am_words.proofs.words.draw_unheld.Goals.{Then-not-is_held, After-loop-draw}
 use Rattle.am_words.proofs.words.draw_unheld.Goals as goal
 
 -- the draw that is returned is the first that isn't held
-first : (c : Then-not-contains_key) → first_unheld (words_in c.args.words.now) c.args.words.now.word_pos c.args.held.now
+first : (c : Then-not-is_held) → first_unheld (words_in c.args.words.now) c.args.words.now.word_pos c.args.held.now
     ≡ Some (id_from (words_in c.loop-draw.words) c.loop-draw.words.word_pos, place_after c.loop-draw.words.word_pos 4)
 first c =
     let less : c.loop-draw._draw < 8 = omega arith in
     unheld_drawn c.args.held.now c.args.words.now c.loop-draw.words c.loop-draw._draw less c.loop-draw.invariant
     (ap (is_held c.args.held.now) (sym c.draw-id.ensures.id)
-    ∙ is_held-by c.args.held.now c.draw-id.result (silence_item c.draw-id.result) _ (c.silences.ensures.at c.draw-id.result)
-    ∙ sym c.contains_key.ensures ∙ c.if-not-contains_key.true)
+    ∙ sym c.is_held.ensures ∙ c.if-not-is_held.true)
 
-pub returns-then-not-contains_key-clause-id : goal.returns-then-not-contains_key-clause-id
+pub returns-then-not-is_held-clause-id : goal.returns-then-not-is_held-clause-id
 unfolding new_id
-returns-then-not-contains_key-clause-id c =
+returns-then-not-is_held-clause-id c =
     ap (option_map (λ (draw : List ℕ × ℕ). draw.0)) (first c) ∙ ap Some (sym c.draw-id.ensures.id)
 
-pub returns-then-not-contains_key-clause-place : goal.returns-then-not-contains_key-clause-place
+pub returns-then-not-is_held-clause-place : goal.returns-then-not-is_held-clause-place
 unfolding place_drawn
-returns-then-not-contains_key-clause-place c =
+returns-then-not-is_held-clause-place c =
     let words = c.draw-id.ensures.words in
     moved c.args.words.now c.draw-id.new.words _ (ap (λ (g : ChaCha). g.key) words ∙ c.loop-draw.invariant.key)
     (ap (λ (g : ChaCha). g.stream) words ∙ c.loop-draw.invariant.stream)
@@ -40,8 +38,7 @@ loop-draw-preserved c =
     (one_drawn c.args.held.now c.args.words.now c.loop-draw.words c.draw-id.new.words c.loop-draw._draw less
     c.loop-draw.invariant c.draw-id.ensures.words
     (ap (is_held c.args.held.now) (sym c.draw-id.ensures.id)
-    ∙ is_held-by c.args.held.now c.draw-id.result (silence_item c.draw-id.result) _ (c.silences.ensures.at c.draw-id.result)
-    ∙ sym c.contains_key.ensures ∙ c.if-not-contains_key.false))
+    ∙ sym c.is_held.ensures ∙ c.if-not-is_held.false))
 
 -- all draws were made, and each is held
 all : (c : After-loop-draw) → (first_unheld (words_in c.args.words.now) c.args.words.now.word_pos c.args.held.now ≡ None)

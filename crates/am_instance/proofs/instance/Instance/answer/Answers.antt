@@ -14,7 +14,7 @@ use Rattle.am_instance.proofs.instance.Instance.answer.Goals as goal
 pub accept-requires : goal.accept-requires
 unfolding local_in
 accept-requires g c = record {
-  fits = λ some. rw (c.decide.ensures.local c.args.request.now.tenant) (c.in_ok-decided.ensures.decided.room some);
+  fits = λ some. rw (c.in_ok-items.ensures, c.decide.ensures.local c.args.request.now.tenant) (c.in_ok-decided.ensures.decided.room (rw c.in_ok-items.ensures at some));
   «open» = c.requires.backed.opens c.requires.up;
 }
 
@@ -23,7 +23,7 @@ unfolding local_in
 returns-in_err-accept-clause-cause g c =
     let p = err_from_is_err_and c.from_residual-in_err-accept.result c.from_residual-in_err-accept.ensures.1 in
     rw (p.1, p.2) (stops_accepting _ _ _ c.args.request.now _ _ _ _ _ (decision_of c.in_ok-decided.decided) c.in_ok-decided.ensures.decided.decision c.in_ok-decided.ensures.decided.built
-    (c.decide.ensures.local c.args.request.now.tenant) c.in_err-accept.ensures.fault)
+    (c.decide.ensures.local c.args.request.now.tenant) (rw c.in_ok-items.ensures at c.in_err-accept.ensures.fault))
 
 pub returns-clause-brings : goal.returns-clause-brings
 unfolding local_in
@@ -35,7 +35,7 @@ returns-clause-brings g c = record {
   outputs = c.in_ok-push.ensures.items ∙ ap (λ bytes. c.args.outputs.now.items ++ Reply c.args.connection bytes ∷ [])
       (rw c.as_slice.ensures at c.in_ok-bytes.ensures);
   fits = c.in_ok-decided.ensures.decided.fits;
-  local = λ t. rw (c.decide.ensures.local t) at (c.in_ok-accept.ensures.does t);
+  local = λ t. rw (c.in_ok-items.ensures, c.decide.ensures.local t) at (c.in_ok-accept.ensures.does t);
   built = λ r is. let same : c.args.request.now ≡ r = cc in rw (← same) c.in_ok-decided.ensures.decided.built;
   adds = rw c.in_ok-accept.ensures.asked.refused c.decide.ensures.adds;
 }
@@ -63,6 +63,13 @@ returns-in_err-bytes-clause-left g c clean =
     rw (p.1, p.2) (left_alone (λ t. local_in t c.args.self.now) _ _ _ (g.R.Rows.medium c.args.store.now) (g.R.Rows.pairs c.args.store.now)
     (c.requires.backed.stores c.requires.up clean) memory_unrefused)
 
+pub returns-in_err-items-clause-left : goal.returns-in_err-items-clause-left
+unfolding local_in
+returns-in_err-items-clause-left g c clean =
+    let p = err_from_is_err_and c.from_residual-in_err-items.result c.from_residual-in_err-items.ensures.1 in
+    rw (p.1, p.2) (left_alone (λ t. local_in t c.args.self.now) _ _ _ (g.R.Rows.medium c.args.store.now) (g.R.Rows.pairs c.args.store.now)
+    (c.requires.backed.stores c.requires.up clean) memory_unrefused)
+
 pub returns-in_err-accept-clause-left : goal.returns-in_err-accept-clause-left
 unfolding local_in
 returns-in_err-accept-clause-left g c clean =
@@ -73,8 +80,8 @@ returns-in_err-accept-clause-left g c clean =
     (λ t. local_in t c.args.self.now) (λ t. local_in t c.decide.new.self)
     (situation c.args.self.now c.args.occasion.now c.args.request.now) (decision_of c.in_ok-decided.decided) _
     (g.R.Rows.medium c.args.store.now) (g.R.Rows.medium c.accept.new.store) (g.R.Rows.pairs c.accept.new.store) refl c.decide.ensures.local c.in_ok-decided.ensures.decided.decision
-    (stores_some _ c.accept.new.cache.refused c.in_ok-decided.decided.items.items (local_in c.args.request.now.tenant c.decide.new.self) c.in_err-accept.ensures.fault) (c.in_err-accept.ensures.left clean
-    (λ t. c.requires.backed.stores c.requires.up (c.accept.ensures.clean clean) t ∙ sym (ap (λ (l : Local). stored_in l.held) (c.decide.ensures.local t)))))
+    (stores_some _ c.accept.new.cache.refused c.in_ok-decided.decided.items.items (local_in c.args.request.now.tenant c.decide.new.self) (rw c.in_ok-items.ensures at c.in_err-accept.ensures.fault)) (rw c.in_ok-items.ensures at (c.in_err-accept.ensures.left clean
+    (λ t. c.requires.backed.stores c.requires.up (c.accept.ensures.clean clean) t ∙ sym (ap (λ (l : Local). stored_in l.held) (c.decide.ensures.local t))))))
 
 pub returns-in_err-push-clause-left : goal.returns-in_err-push-clause-left
 unfolding local_in
@@ -86,8 +93,8 @@ returns-in_err-push-clause-left g c clean =
     (λ t. local_in t c.args.self.now) (λ t. local_in t c.decide.new.self)
     (situation c.args.self.now c.args.occasion.now c.args.request.now) (decision_of c.in_ok-decided.decided) None
     (g.R.Rows.medium c.args.store.now) (g.R.Rows.medium c.accept.new.store) (g.R.Rows.pairs c.accept.new.store) refl c.decide.ensures.local c.in_ok-decided.ensures.decided.decision
-    (λ told. absurd (none_refused told)) (c.in_ok-accept.ensures.left clean
-    (λ t. c.requires.backed.stores c.requires.up (c.accept.ensures.clean clean) t ∙ sym (ap (λ (l : Local). stored_in l.held) (c.decide.ensures.local t))))) _ memory_unrefused)
+    (λ told. absurd (none_refused told)) (rw c.in_ok-items.ensures at (c.in_ok-accept.ensures.left clean
+    (λ t. c.requires.backed.stores c.requires.up (c.accept.ensures.clean clean) t ∙ sym (ap (λ (l : Local). stored_in l.held) (c.decide.ensures.local t)))))) _ memory_unrefused)
 
 pub returns-clause-left : goal.returns-clause-left
 unfolding local_in
@@ -97,5 +104,5 @@ returns-clause-left g c clean =
     (λ t. local_in t c.args.self.now) (λ t. local_in t c.decide.new.self)
     (situation c.args.self.now c.args.occasion.now c.args.request.now) (decision_of c.in_ok-decided.decided) None
     (g.R.Rows.medium c.args.store.now) (g.R.Rows.medium c.accept.new.store) (g.R.Rows.pairs c.accept.new.store) refl c.decide.ensures.local c.in_ok-decided.ensures.decided.decision
-    (λ told. absurd (none_refused told)) (c.in_ok-accept.ensures.left clean
-    (λ t. c.requires.backed.stores c.requires.up (c.accept.ensures.clean clean) t ∙ sym (ap (λ (l : Local). stored_in l.held) (c.decide.ensures.local t))))
+    (λ told. absurd (none_refused told)) (rw c.in_ok-items.ensures at (c.in_ok-accept.ensures.left clean
+    (λ t. c.requires.backed.stores c.requires.up (c.accept.ensures.clean clean) t ∙ sym (ap (λ (l : Local). stored_in l.held) (c.decide.ensures.local t)))))

@@ -1,4 +1,4 @@
-use Rattle.std.proofs.Common.{◌==◌, ◌+◌, ◌∙◌, [], List, ap, get_or, not, sym, arith}
+use Rattle.std.proofs.Common.{◌==◌, ◌+◌, ◌∙◌, [], ap, get_or, not, sym, arith}
 use Rattle.std.proofs.lemmas.List.{length-map}
 use Rattle.am_muting.specs.Muting.{is_inhibited}
 use Rattle.am_muting.proofs.Places.{muting_here, within_inhibited}

@@ -21,7 +21,7 @@ returns c =
     let muted = c.args.basis.now.muted.now in
     let config = c.args.basis.now.config.now in
     let held = c.args.basis.now.held.now in
-    let sent = c.sent_entries-sent.result.now.entries in
+    let sent = c.sent_entries-sent.result.now in
     let told = map held_alert c.deref.result.now in
     let alerts = ap (map held_alert) c.deref.ensures.value ∙ c.in_ok-alerts.ensures.alerts ∙ ap (alerts_but muted held) c.in-Some.ensures in
     c.in_ok-tellings.ensures

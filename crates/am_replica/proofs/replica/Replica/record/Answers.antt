@@ -32,7 +32,7 @@ returns-clause-holds c =
     let moment = c.stamp_moment-moment.ensures ∙ ap (stamp_moment c.args.context.now.moment) c.seen.ensures in
     let made : c.entry-entry.result ≡ item =
     c.entry-entry.ensures ∙ ap (λ m. stamp m (c.used-used.result + 1)) moment ∙ ap (λ n. stamp (stamp_moment c.args.context.now.moment (seen receipt.key held)) (n + 1)) c.used-used.ensures in
-    let items : c.in_ok-items.items.items ≡ item ∷ [] = c.in_ok-items.ensures.items ∙ ap (λ i. i ∷ []) made in
+    let items : c.in_ok-items.items.items ≡ item ∷ [] = c.in_ok-items.ensures.items ∙ ap (λ i. i ∷ []) (c.in_ok-entry.ensures ∙ made) in
     one_changes s (recorded c.args.context.now receipt) (λ t. holds_of t r) _
     (both (items_of s c.put_all.new.self) (all_joined held (item ∷ [])) (count_of s c.set.new.self) (count_of s r.counts + 1)
     (own s (all_joined held c.in_ok-items.items.items) held _ (c.in_ok-put_all.ensures.joined s) ∙ ap (all_joined held) items)

@@ -11,8 +11,8 @@ use Rattle.am_replica.specs.Holds.{holds_of}
 use Rattle.am_replica.specs.Retiring.{StopsRetiring, retired}
 use Rattle.am_replica.proofs.replica.Replica.retire.Given as goal
 
-abbrev pub invariant-loop-tenant : goal.invariant-loop-tenant
-invariant-loop-tenant g l = record {
+abbrev pub invariant-loop-silences : goal.invariant-loop-silences
+invariant-loop-silences g l = record {
   left : (t : List ℕ) → retired l.moment (holds_of t l.self) ≡ retired l.moment (holds_of t l.fn.self);
   gone : (t : List ℕ) (key : Key) → (is_gone t key l.gone.items || is_key_retired l.moment (items_of t l.self.holdings) key) ≡ is_key_retired l.moment (items_of t l.fn.self.holdings) key;
   within : (test : Item → Bool) (t : List ℕ) → list_any test (items_of t l.self.holdings) ≡ true → list_any test (items_of t l.fn.self.holdings) ≡ true;
@@ -20,5 +20,5 @@ invariant-loop-tenant g l = record {
   some : 0 < length l.silences.items → StopsRetiring l.moment (λ t. items_of t l.fn.self.holdings) StoreRefused;
 }
 
-abbrev pub decreases-loop-tenant : goal.decreases-loop-tenant
-decreases-loop-tenant g l = length l.self.holdings
+abbrev pub decreases-loop-silences : goal.decreases-loop-silences
+decreases-loop-silences g l = length l.self.holdings

@@ -10,6 +10,6 @@ unfolding having
 returns c =
     IfOk-weaker c.having.result _ _
     (λ v is. is ∙ ap (filter (λ (s : SilenceValue). has_matchers s.details.matchers c.args.wanted.now))
-    (sym (among_held c.silences.result.now.entries) ∙ ap silences_among c.silences.ensures.items
+    (sym (among_held c.silences.result.now) ∙ ap silences_among c.silences.ensures.items
     ∙ sym (among_silences c.self.inside.held.now) ∙ ap silences_among c.self.view_is))
     c.having.ensures

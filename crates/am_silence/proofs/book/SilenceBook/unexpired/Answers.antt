@@ -6,7 +6,7 @@ use Rattle.am_silence.proofs.book.SilenceBook.unexpired.Goals as goal
 pub returns : goal.returns
 unfolding unexpired
 returns c =
-    let held : all_held c.silences.result.now.entries ≡ silences_among c.args.self.now =
-    sym (among_held c.silences.result.now.entries) ∙ ap silences_among c.silences.ensures.items
+    let held : all_held c.silences.result.now ≡ silences_among c.args.self.now =
+    sym (among_held c.silences.result.now) ∙ ap silences_among c.silences.ensures.items
     ∙ sym (among_silences c.self.inside.held.now) ∙ ap silences_among c.self.view_is in
     rw (← held) c.unexpired_of.ensures
