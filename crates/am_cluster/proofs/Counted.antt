@@ -1,5 +1,6 @@
 -- Each message that an instance sends has the next count there, and is of its number and incarnation.
 use Rattle.std.proofs.Common.{◌≡◌, ℕ, ◌+◌, Bool, true, false, ◌&&◌, not, List, [], ◌∷◌, ◌++◌, length, map, Option, Some, None, is_none, if◌then◌else◌, refl, sym, ap, subst}
+use Rattle.std.specs.List.{filter_map}
 use Rattle.am_http.specs.declared.request.Request.{Request}
 use Rattle.am_api.specs.Replied.{Decision}
 use Rattle.am_http.specs.Replies.{reply}
@@ -16,7 +17,7 @@ use Rattle.std.specs.Prelude.{codes, ◌==◌}
 use Rattle.am_outlet.specs.declared.outcome.Outcome.{Outcome}
 use Rattle.am_outlet.specs.declared.outcome.Outcome.TheVariants.{NotOpen, Delivered, Again, GivenUp}
 use Rattle.am_node.specs.Delivery as replica
-use Rattle.am_node.specs.Local.{Local as ReplicaLocal, Reaction as ReplicaReaction, Said as ReplicaSaid, Replies as ReplicaReplies, Tells as ReplicaTells}
+use Rattle.am_node.specs.Local.{Local as ReplicaLocal, Reaction as ReplicaReaction, Said as ReplicaSaid, Records as ReplicaRecords, Replies as ReplicaReplies, Tells as ReplicaTells}
 use Rattle.am_context.specs.declared.context.Context.{Context as NodeContext}
 use Rattle.am_ring.specs.Instances.{is_among}
 use Rattle.am_telling.specs.declared.telling.Telling.{Telling}
@@ -114,9 +115,10 @@ send_all_counted epoch here to body = each_counted here (λ i. send_in epoch her
 
 -- ---- notices
 
-pub none_said : (said : List ReplicaSaid) → messages_in (map said_by said) ≡ []
+pub none_said : (said : List ReplicaSaid) → messages_in (filter_map said_by said) ≡ []
 none_said [] = refl
 none_said (ReplicaReplies c b ∷ said) = none_said said
+none_said (ReplicaRecords item ∷ said) = none_said said
 none_said (ReplicaTells s ∷ said) = none_said said
 
 by_replica_counted : (f : NodeContext → ReplicaLocal → ReplicaReaction) (here : Here) → AreCounted here (by_replica f here)

@@ -1,13 +1,13 @@
 -- What an instance has planned of a tenant. Nothing of it is stored: it is computed from what is held, by the
 -- configuration that is in use and by the position of the instance, whenever something is asked of it.
-use Rattle.std.specs.Prelude.{ℕ, List, [], map, Option, Some, None, if◌then◌else◌}
+use Rattle.std.specs.Prelude.{ℕ, List, [], Option, Some, None, if◌then◌else◌}
+use Rattle.std.specs.List.{filter_map}
 use Rattle.am_agenda.specs.Plan.{Plan}
-use Rattle.am_config.specs.Configuration.{Configuration}
 use Rattle.am_current.specs.Current.{configuration_in}
 use Rattle.am_members.specs.Grouped.{Grouped}
-use Rattle.am_planning.specs.declared.pace.Pace.{Pace}
-use Rattle.am_planning.specs.Planning.{paces_of, planned_alerts}
-use Rattle.am_node.specs.Local.{Local as ReplicaLocal, Reaction as ReplicaReaction, Said as ReplicaSaid, Replies as ReplicaReplies, Tells as ReplicaTells}
+use Rattle.am_planning.specs.Planning.{planned_alerts}
+use Rattle.am_notifier.specs.Following.{paces_at}
+use Rattle.am_node.specs.Local.{Local as ReplicaLocal, Reaction as ReplicaReaction, Said as ReplicaSaid, Records as ReplicaRecords, Replies as ReplicaReplies, Tells as ReplicaTells}
 use Rattle.am_context.specs.declared.context.Context.{Context as NodeContext}
 use Rattle.am_cluster.specs.Here.{Here, position_here, replica_here}
 use Rattle.am_cluster.specs.Local.{Local, is_settled}
@@ -16,11 +16,6 @@ use Rattle.am_cluster.specs.Reactions.{Reaction, Replies, Said, Tells}
 -- the position by which groups wait: that of a settled replica. No other instance flushes
 abbrev pub position_of : Here → Local → Option ℕ
 position_of here local = if is_settled here local then position_here here else None
-
--- how the groups of each route wait at a position; without one no route has a pace, so no group is ever due
-abbrev pub paces_at : Configuration → (position : Option ℕ) → List Pace
-paces_at c None = []
-paces_at c (Some position) = paces_of c position
 
 -- the alerts in their groups, with the last flushes of these
 unfoldable pub grouped_of : Local → Grouped
@@ -43,6 +38,7 @@ replica_local here local = record {
   held = local.held;
   plan = plan_of here local;
   noticed = local.noticed;
+  position = position_of here local;
   ledger = record { stamps = local.ledger.stamps; drawn = local.ledger.drawn };
 }
 
@@ -56,12 +52,14 @@ with_replica r local = record local {
   ledger = record (local.ledger) { stamps = r.ledger.stamps; drawn = r.ledger.drawn };
 }
 
-abbrev pub said_by : ReplicaSaid → Said
-said_by (ReplicaReplies connection bytes) = Replies connection bytes
-said_by (ReplicaTells sending) = Tells sending
+-- what it says by itself; what it records goes out in the messages that put it to the others
+abbrev pub said_by : ReplicaSaid → Option Said
+said_by (ReplicaReplies connection bytes) = Some (Replies connection bytes)
+said_by (ReplicaTells sending) = Some (Tells sending)
+said_by (ReplicaRecords item) = None
 
 -- the instance does what it would do by itself
 abbrev pub by_replica : (NodeContext → ReplicaLocal → ReplicaReaction) → Here → Local → Reaction
 by_replica react here local =
     let r : ReplicaReaction = react (replica_here here) (replica_local here local) in
-    record { local = with_replica r.local local; said = map said_by r.said; fits = r.fits }
+    record { local = with_replica r.local local; said = filter_map said_by r.said; fits = r.fits }

@@ -1,5 +1,6 @@
 -- what is left in a store: where nothing was put to it, and where items were
-use Rattle.std.proofs.Common.{◌≡◌, ◌∙◌, inl, inr, ℕ, true, false, List, [], Option, Some, None, refl, sym, ap, subst}
+use Rattle.std.proofs.Common.{◌≡◌, ◌∙◌, inl, inr, ℕ, true, false, length, List, [], Option, Some, None, refl, sym, ap, subst}
+use Rattle.std.proofs.Common.{if◌then◌else◌}
 use Rattle.std.proofs.lemmas.Bool.{cases_Bool, false≢true}
 use Rattle.am_api.specs.Replied.{Decision}
 use Rattle.am_http.specs.declared.request.Fed.TheVariants as fed
@@ -10,13 +11,17 @@ use Rattle.am_item.specs.declared.item.Item.{Item}
 use Rattle.am_limit.specs.declared.limits.Limits.{Limits}
 use Rattle.am_rows.specs.Refusing.{Medium}
 use Rattle.am_rows.specs.Rows.{has_stored, stored_in}
-use Rattle.am_node.specs.Accepting.{StopsCommitting, accepted, kept, kept_for}
+use Rattle.am_node.specs.Accepting.{StopsCommitting, accepted, accepted_for, counted}
 use Rattle.am_node.specs.Held.{StopsFor as StopsReacting}
 use Rattle.am_node.specs.Local.{Local, Reaction}
 use Rattle.am_node.specs.Storing.{AreRowsOf, LeavesStore}
 use Rattle.am_tenant.specs.Names.{same}
+use Rattle.am_instance.specs.Keeping.{kept, kept_for}
+use Rattle.am_instance.specs.Instance.{local_in}
 use Rattle.am_instance.specs.Leaving.{BringsRejected, decided_on, taken_in}
 use Rattle.am_instance.specs.Reaction.{Here, MayDecide, decision_at}
+use Rattle.am_instance.specs.Shelves.{IsBacked, Shelf}
+use Rattle.am_instance.specs.declared.instance.Instance.{Instance}
 use Rattle.am_instance.proofs.Deciding.{no_items}
 
 abbrev pub Locals : Type 0
@@ -27,16 +32,34 @@ pub left_alone : (before after : Locals) (Rejected : Type 0) (fault : Option Fau
     → (fault ≡ Some StoreRefused → ⊥) → LeavesStore before after Rejected fault m m pairs
 left_alone before after Rejected fault m pairs rows unrefused = record { rows = λ still. inl rows; cause = λ is. absurd (unrefused is) }
 
--- of what is held alike
-pub left_as : (a b c d : Locals) (P Q : Type 0) (fault : Option Fault) (old new : Medium) (pairs : List (List ℕ × Item))
-    → ((t : List ℕ) → a t ≡ b t) → ((t : List ℕ) → c t ≡ d t) → (P → Q) → LeavesStore a c P fault old new pairs → LeavesStore b d Q fault old new pairs
-left_as a b c d P Q fault old new pairs one other reject left = record {
+-- an instance that has as much of each tenant is backed as before
+pub backed_still : (x x' : Instance) (shelf : Shelf) → x.up ≡ true → IsBacked x shelf → ((t : List ℕ) → local_in t x' ≡ local_in t x) → IsBacked x' shelf
+backed_still x x' shelf up backed same = record {
+  opens = λ _. backed.opens up;
+  stores = λ _ clean t. backed.stores up clean t ∙ sym (ap (λ (l : Local). stored_in l.held) (same t));
+}
+
+-- of what is stored alike
+abbrev IsStoredAlike : (a b : Locals) → Type 0
+IsStoredAlike a b = (t : List ℕ) → stored_in (a t).held ≡ stored_in (b t).held
+
+alike : (a b : Locals) → ((t : List ℕ) → a t ≡ b t) → IsStoredAlike a b
+alike a b is t = ap (λ (l : Local). stored_in l.held) (is t)
+
+left_alike : (a b c d : Locals) (P Q : Type 0) (fault : Option Fault) (old new : Medium) (pairs : List (List ℕ × Item))
+    → IsStoredAlike a b → IsStoredAlike c d → (P → Q) → LeavesStore a c P fault old new pairs → LeavesStore b d Q fault old new pairs
+left_alike a b c d P Q fault old new pairs one other reject left = record {
   rows = λ still. elim (left.rows still) [
-    | inl rows ↦ inl (λ t. rows t ∙ ap (λ (l : Local). stored_in l.held) (one t))
-    | inr rows ↦ inr (λ t. rows t ∙ ap (λ (l : Local). stored_in l.held) (other t))
+    | inl rows ↦ inl (λ t. rows t ∙ one t)
+    | inr rows ↦ inr (λ t. rows t ∙ other t)
   ];
   cause = λ is. elim (left.cause is) [ inl may ↦ inl may | inr rejected ↦ inr (reject rejected) ];
 }
+
+-- .. of what is held alike
+pub left_as : (a b c d : Locals) (P Q : Type 0) (fault : Option Fault) (old new : Medium) (pairs : List (List ℕ × Item))
+    → ((t : List ℕ) → a t ≡ b t) → ((t : List ℕ) → c t ≡ d t) → (P → Q) → LeavesStore a c P fault old new pairs → LeavesStore b d Q fault old new pairs
+left_as a b c d P Q fault old new pairs one other reject left = left_alike a b c d P Q fault old new pairs (alike a b one) (alike c d other) reject left
 
 -- .. and where it ended in another fault, which no store is refused for
 pub left_ending : (a c : Locals) (P : Type 0) (fault : Option Fault) (old new : Medium) (pairs : List (List ℕ × Item)) → LeavesStore a c P fault old new pairs
@@ -48,6 +71,45 @@ none_refused is = let clash = is in cc
 
 pub memory_unrefused : Some OutOfMemory ≡ Some StoreRefused → ⊥
 memory_unrefused is = let clash = is in cc
+
+-- ---- what an instance made, counted first and then accepted
+
+-- what it has of each tenant then
+pub kept_steps : (tenant : List ℕ) (moment more : ℕ) (items : List Item) (drawn : Option ℕ) (t : List ℕ) (before mid after : Local) → more ≡ length items
+    → mid ≡ (if same t tenant then counted more drawn before else before) → after ≡ (if same t tenant then accepted moment items mid else mid)
+    → after ≡ kept_for tenant moment items drawn t before
+unfolding kept
+kept_steps tenant moment more items drawn t before mid after size counts accepts = elim (cases_Bool (same t tenant)) [
+  | inl own ↦ accepts ∙ rw (own, counts, own, size) refl
+  | inr other ↦ accepts ∙ rw (other, counts, other) refl
+]
+
+-- counting stores nothing
+pub counted_alike : (tenant : List ℕ) (more : ℕ) (drawn : Option ℕ) (t : List ℕ) (before mid : Local) → mid ≡ (if same t tenant then counted more drawn before else before)
+    → stored_in mid.held ≡ stored_in before.held
+counted_alike tenant more drawn t before mid counts = elim (cases_Bool (same t tenant)) [
+  | inl own ↦ rw (counts, own) refl
+  | inr other ↦ rw (counts, other) refl
+]
+
+pub left_kept : (tenant : List ℕ) (moment more : ℕ) (items : List Item) (drawn : Option ℕ) (before mid : Locals) (P : Type 0) (fault : Option Fault) (was now : Medium) (pairs : List (List ℕ × Item))
+    → more ≡ length items → ((t : List ℕ) → mid t ≡ (if same t tenant then counted more drawn (before t) else before t))
+    → LeavesStore mid (λ t. accepted_for tenant moment items t (mid t)) P fault was now pairs
+    → LeavesStore before (λ t. kept_for tenant moment items drawn t (before t)) P fault was now pairs
+left_kept tenant moment more items drawn before mid P fault was now pairs size counts left =
+    left_alike mid before (λ t. accepted_for tenant moment items t (mid t)) (λ t. kept_for tenant moment items drawn t (before t)) P P fault was now pairs
+    (λ t. counted_alike tenant more drawn t (before t) (mid t) (counts t))
+    (alike _ _ (λ t. kept_steps tenant moment more items drawn t (before t) (mid t) (accepted_for tenant moment items t (mid t)) size (counts t) refl)) (λ rejected. rejected) left
+
+-- .. and stops nothing that accepting does not
+pub stops_kept : (refused : List (List ℕ)) (more : ℕ) (items : List Item) (drawn : Option ℕ) (before mid : Local) (fault : Fault) → mid ≡ counted more drawn before
+    → StopsCommitting refused items mid fault → StopsCommitting refused items before fault
+stops_kept refused more items drawn before mid OutOfMemory counts stops = tt
+stops_kept refused more items drawn before mid CountsExhausted counts stops = absurd stops
+stops_kept refused more items drawn before mid PatternNotBuilt counts stops = rw counts at stops
+stops_kept refused more items drawn before mid StoreRefused counts stops = stops
+
+-- ---- what was decided
 
 kept_none : (tenant : List ℕ) (moment : ℕ) (items : List Item) (drawn : Option ℕ) (t : List ℕ) (local : Local) → items ≡ []
     → stored_in (kept_for tenant moment items drawn t local).held ≡ stored_in local.held

@@ -1,4 +1,5 @@
 pub mod Instance
+pub mod Keeping
 pub mod Leaving
 pub mod Reaction
 pub mod Shelves

@@ -1,5 +1,6 @@
 -- what an instance does when something happens to a tenant
-use Rattle.std.specs.Prelude.{◌≡◌, ◌⊎◌, ℕ, Bool, true, false, ◌<◌, List, [], ◌∷◌, ◌++◌, All, length, if◌then◌else◌}
+use Rattle.std.specs.Prelude.{◌≡◌, ◌⊎◌, ℕ, Bool, true, false, ◌<◌, List, [], ◌∷◌, ◌++◌, All, length, Option, Some}
+use Rattle.std.specs.Prelude.{None, if◌then◌else◌}
 use Rattle.am_alert.specs.Made.{counts_fit}
 use Rattle.am_alert.specs.declared.maker.Maker.{Maker}
 use Rattle.am_http.specs.Codes.{code_of, status_of}
@@ -14,6 +15,7 @@ use Rattle.am_pattern.specs.Cache.{Cache}
 use Rattle.am_pattern.specs.Kept.{HasRegex}
 use Rattle.am_outlet.specs.declared.attempt.Sending.{Sending}
 use Rattle.am_tenant.specs.Names.{same}
+use Rattle.am_instance.specs.Keeping.{kept}
 use Rattle.am_instance.specs.declared.output.Output.{Output}
 use Rattle.am_instance.specs.declared.output.Output.TheVariants.{Reply, Notice}
 use Rattle.am_limit.specs.Books.{limits_of}
@@ -30,8 +32,8 @@ use Rattle.am_api.specs.Patterns.{patterns_of_request}
 use Rattle.am_api.specs.Refusing.{Refuses, stored_asked}
 use Rattle.am_rows.specs.Rows.{has_stored}
 use Rattle.am_context.specs.declared.context.Context.{Context as NodeContext}
-use Rattle.am_node.specs.Accepting.{StopsAccepting, kept}
-use Rattle.am_node.specs.Local.{Ledger, Local, Reaction, Said, Replies, Tells, stays}
+use Rattle.am_node.specs.Accepting.{StopsAccepting}
+use Rattle.am_node.specs.Local.{Ledger, Local, Reaction, Said, Records, Replies, Tells, stays}
 use Rattle.am_node.specs.Ticking.{ticked}
 use Rattle.rand_chacha.specs.ChaCha.{ChaCha}
 
@@ -116,7 +118,7 @@ abbrev pub tick_if : Bool → List ℕ → NodeContext → Local → Reaction
 tick_if true tenant here local = ticked tenant here local
 tick_if false tenant here local = stays local
 
--- ---- what is said of a tenant, as an output
+-- ---- what is said of a tenant, as outputs
 
 -- a try of an attempt of the tenant at an instance
 abbrev pub notice : List ℕ → (instance incarnation : ℕ) → Sending → Output
@@ -126,9 +128,11 @@ notice tenant instance incarnation sending = Notice
     sending.url
     sending.bytes
 
-abbrev pub output_of : List ℕ → (instance incarnation : ℕ) → Said → Output
-output_of tenant instance incarnation (Replies connection bytes) = Reply connection bytes
-output_of tenant instance incarnation (Tells sending) = notice tenant instance incarnation sending
+-- what it says, where that goes out: what it records is for itself alone
+abbrev pub output_of : List ℕ → (instance incarnation : ℕ) → Said → Option Output
+output_of tenant instance incarnation (Replies connection bytes) = Some (Reply connection bytes)
+output_of tenant instance incarnation (Tells sending) = Some (notice tenant instance incarnation sending)
+output_of tenant instance incarnation (Records item) = None
 
 -- ---- what the bytes of a connection bring
 

@@ -1,28 +1,30 @@
 -- a tick of an instance, of all tenants
-use Rattle.std.specs.Prelude.{ℕ, ◌≡◌, Bool, true, false, List, ◌++◌, map, Some}
+use Rattle.std.specs.Prelude.{ℕ, ◌≡◌, Bool, true, false, List, ◌++◌, Option, Some}
+use Rattle.std.specs.List.{filter_map}
 use Rattle.am_item.specs.declared.fault.Fault.{Fault}
 use Rattle.am_limit.specs.declared.limits.Limits.{Limits}
+use Rattle.am_node.specs.Local.{said_in}
 use Rattle.am_node.specs.declared.dispatch.Dispatch.{Dispatch}
 use Rattle.am_node.specs.Ticks.{IsDone, StopsTicking, TicksAll, context_for, said_of}
 use Rattle.am_instance.specs.declared.instance.Instance.{Instance}
 use Rattle.am_instance.specs.declared.output.Output.{Output}
 use Rattle.am_instance.specs.Instance.{IsDown, ReadsAlike, local_in, refused_in}
-use Rattle.am_instance.specs.Reaction.{notice, tick_if}
+use Rattle.am_instance.specs.Reaction.{output_of, tick_if}
 
 -- the first of two facts where a test passes, else the second
 abbrev pub Either : Bool → Type 0 → Type 0 → Type 0
 Either true P Q = P
 Either false P Q = Q
 
--- a try that goes out of an instance in its incarnation, as an output
-abbrev pub notice_from : (instance incarnation : ℕ) → Dispatch → Output
-notice_from instance incarnation d = notice d.tenant instance incarnation d.sending
+-- what there is to say at an instance in its incarnation, as an output, where it goes out
+abbrev pub output_from : (instance incarnation : ℕ) → Dispatch → Option Output
+output_from instance incarnation d = output_of d.tenant instance incarnation (said_in d.report)
 
 -- the instance, which is up, did what is due at a moment, and put out what is said of all tenants
 pub record TellsAll (moment : ℕ) (limits : List (List ℕ × Limits)) (x x' : Instance) (before after : List Output) :
     Type 0 where
   pub all : List Dispatch
-  pub outputs : after ≡ before ++ map (notice_from x.number x.incarnation) all
+  pub outputs : after ≡ before ++ filter_map (output_from x.number x.incarnation) all
   pub ticks : TicksAll (context_for x.number x.incarnation moment limits) (λ t. local_in t x) (λ t. local_in t x') all
   pub refused : refused_in x' ≡ refused_in x
 
@@ -31,7 +33,7 @@ pub record TellsAll (moment : ℕ) (limits : List (List ℕ × Limits)) (x x' : 
 pub record Ticks (moment : ℕ) (limits : List (List ℕ × Limits)) (x x' : Instance) (before after : List Output) :
     Type 0 where
   pub all : List Dispatch
-  pub outputs : after ≡ before ++ map (notice_from x.number x.incarnation) all
+  pub outputs : after ≡ before ++ filter_map (output_from x.number x.incarnation) all
   pub does : (t : List ℕ) → IsDone
       (tick_if x.up t (context_for x.number x.incarnation moment limits t) (local_in t x))
       (local_in t x') (said_of t all)

@@ -1,28 +1,29 @@
 //! One instance: what it reads, and what it has of all tenants.
 
-ghost use Rattle.std.specs.Prelude.{◌≡◌, ◌==◌, ◌&&◌, ◌<◌, map, ◌++◌, ℕ, List, [], None, Some};
+ghost use Rattle.std.specs.Prelude.{◌≡◌, ◌==◌, ◌&&◌, ◌+◌, ◌<◌, ◌≤◌, ◌++◌, ℕ, List, [], None, Some, length};
 ghost use Rattle.std.specs.Prelude.{true, IfOk, IfErr, OnOk, OnErr, IsSome, is_some, if◌then◌else◌};
 ghost use Rattle.am_http.specs.Connections.{left_open};
 ghost use Rattle.am_http.specs.Verdict.{verdict};
 ghost use Rattle.am_http.specs.declared.request.Fed.{Fed};
+ghost use Rattle.am_item.specs.Counts.{greatest_count};
 ghost use Rattle.am_tenant.specs.Names.{same};
 ghost use Rattle.am_instance.specs.Reaction.{refusal_reply};
-ghost use Rattle.am_instance.specs.Ticks.{notice_from};
 
 use crate::given::{Occasion, Piece};
-use crate::output::{AttemptName, Output};
+use crate::output::{AttemptName, Output, outputs_of};
 use am_alert::Maker;
 use am_api::{Decided, decide};
 use am_context::{Context, Start};
 use am_http::{
     ConnectionId, Fed, Front, FrontRefusal, Request, ready_reply, refusal_body, reply_bytes,
 };
-use am_item::{Fault, to_shared};
-use am_node::{Dispatch, Made, Node};
+use am_item::{Fault, SharedItem, to_shared};
+use am_node::Node;
 use am_pattern::PatternCache;
 use am_rows::{Rows, StoreRefusal};
+use am_tenant::TenantName;
 use am_text::{Failure, Moment, Octets};
-use am_words::Words;
+use am_words::{Place, Words};
 use std::alloc::{AllocError, Global};
 
 /// An instance. One that is down reads nothing and has nothing but its patterns; where a fault stopped it, `cause` is
@@ -61,7 +62,7 @@ impl Drop for Instance {
 impl Instance {
     ghost use Rattle.am_muting.specs.Failing.{AddsAmong};
     ghost use Rattle.am_api.specs.Deciding.{decision_of};
-    ghost use Rattle.am_node.specs.Accepting.{accepted};
+    ghost use Rattle.am_node.specs.Accepting.{StopsCommitting, accepted};
     ghost use Rattle.am_node.specs.Delivery.{is_awaited};
     ghost use Rattle.am_node.specs.Held.{StopsFor as StopsReacting};
     ghost use Rattle.am_node.specs.Local.{blank};
@@ -72,6 +73,7 @@ impl Instance {
     ghost use Rattle.am_rows.specs.Rows.{rows_of, stored_in};
     ghost use Rattle.am_instance.specs.Instance.{GoesOn, IsDown, IsSameNode, ReadsAlike, bytes_in, local_in};
     ghost use Rattle.am_instance.specs.Instance.{refused_in, situation, terms_in};
+    ghost use Rattle.am_instance.specs.Keeping.{kept_for};
     ghost use Rattle.am_instance.specs.Leaving.{BringsRejected, LeavesShelf, stop_for, taken_in};
     ghost use Rattle.am_instance.specs.Reaction.{IsCause, StopsFor, asked_for};
     ghost use Rattle.am_instance.specs.Shelves.{IsBacked, shelf_of};
@@ -263,8 +265,8 @@ impl Instance {
         };
         let (moment, limits, cache) = (occasion.moment, occasion.limits, &mut self.cache);
         let all = self.node.tick(alloc, start, moment, limits, cache, store)?;
-        let mut notices = notices(alloc, number, incarnation, all)?;
-        outputs.append(&mut notices)?;
+        let mut told = outputs_of(alloc, number, incarnation, all)?;
+        outputs.append(&mut told)?;
         Ok(())
     }
 
@@ -402,15 +404,46 @@ impl Instance {
         let decided = self.decide(alloc, request, occasion)?;
         let bytes = reply_bytes(alloc, decided.status, decided.body.as_slice())?;
         let items = to_shared(alloc, decided.items)?;
-        let made = Made {
-            items,
-            drawn: decided.drawn,
-        };
-        let cache = &mut self.cache;
-        let moment = occasion.moment;
-        self.node
-            .accept(alloc, &request.tenant, moment, made, cache, store)?;
+        let (tenant, moment) = (&request.tenant, occasion.moment);
+        self.keep(alloc, tenant, moment, items, decided.drawn, store)?;
         outputs.push(Output::Reply { connection, bytes })?;
+        Ok(())
+    }
+
+    /// Keeps items that the instance made for a tenant at a moment: counts them, commits them to the store, and accepts
+    /// them.
+    fn keep<R: Rows>(
+        &mut self,
+        alloc: Global,
+        tenant: &TenantName,
+        moment: Moment,
+        items: Vec<SharedItem>,
+        drawn: Option<Place>,
+        store: &mut R,
+    ) -> Result<(), Fault>
+        requires up { self.old.up ≡ true }
+        requires backed { IsBacked self.old (shelf_of R.Rows store.old) }
+        requires fits { 0 < length items.items →
+            (local_in tenant.now self.old).ledger.stamps + length items.items ≤ greatest_count }
+        ensures local { OnOk result ((t : List ℕ) →
+            local_in t self.new ≡ kept_for tenant.now moment items.items drawn t (local_in t self.old)) }
+        ensures refused { OnOk result (refused_in self.new ≡ refused_in self.old) }
+        ensures cause { IfErr result
+            (StopsCommitting (refused_in self.new) items.items (local_in tenant.now self.old)) }
+        ensures front { ReadsAlike self.old self.new }
+        ensures stays { GoesOn self.old self.new }
+        ensures clean { R.is_clean store.new ≡ true → R.is_clean store.old ≡ true }
+        ensures backed { OnOk result (IsBacked self.new (shelf_of R.Rows store.new)) }
+        ensures left { LeavesShelf (λ t. local_in t self.old)
+            (λ t. kept_for tenant.now moment items.items drawn t (local_in t self.old))
+            (R.rejects tenant.now items.items)
+            (fault_in result) (shelf_of R.Rows store.old) (shelf_of R.Rows store.new) }
+    {
+        let more = items.len() as u64;
+        self.node.count(alloc, tenant, more, drawn)?;
+        let cache = &mut self.cache;
+        self.node
+            .accept(alloc, tenant, moment, items, cache, store)?;
         Ok(())
     }
 
@@ -452,39 +485,6 @@ impl Instance {
         decide(
             alloc, request, held, config, limits, moment, maker, words, cache,
         )
-    }
-}
-
-/// The notices of an instance in its incarnation, in order.
-fn notices(
-    alloc: Global,
-    instance: u8,
-    incarnation: u32,
-    all: Vec<Dispatch>,
-) -> Result<Vec<Output>, AllocError>
-    ensures { IfOk result (λ outputs. outputs.items ≡ map (notice_from instance incarnation) all.items) }
-{
-    let mut outputs = Vec::with_capacity(alloc, all.len())?;
-    for dispatch in all {
-        outputs.push(notice(instance, incarnation, dispatch))?;
-    }
-    Ok(outputs)
-}
-
-fn notice(instance: u8, incarnation: u32, dispatch: Dispatch) -> Output
-    ensures { result ≡ notice_from instance incarnation dispatch }
-{
-    let sending = dispatch.sending;
-    Output::Notice {
-        attempt: AttemptName {
-            tenant: dispatch.tenant,
-            instance,
-            incarnation,
-            number: sending.number,
-        },
-        tries: sending.tries,
-        url: sending.url,
-        bytes: sending.bytes,
     }
 }
 

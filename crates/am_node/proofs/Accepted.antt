@@ -1,5 +1,5 @@
 -- What is planned goes by what is held, also once items are accepted.
-use Rattle.std.proofs.Common.{◌≡◌, ◌⊎◌, inl, inr, ℕ, ◌+◌, ◌<◌, ◌≤◌, length, Bool, List, [], ◌∷◌, Option, true, false}
+use Rattle.std.proofs.Common.{◌≡◌, ◌⊎◌, inl, inr, ℕ, ◌<◌, length, Bool, List, [], ◌∷◌, Option, true, false}
 use Rattle.std.proofs.Common.{not, refl, sym, ap, ◌∙◌, subst, unwrap_or, arith}
 use Rattle.std.proofs.lemmas.Bool.{cases_Bool}
 use Rattle.std.specs.List.{list_any}
@@ -18,21 +18,21 @@ use Rattle.am_labels.specs.Labels.{labels_cmp}
 use Rattle.am_match.specs.Matchers.{patterns_of}
 use Rattle.am_muting.specs.Failing.{HasUnanswered}
 use Rattle.am_muting.specs.Muting.{alert_sets}
-use Rattle.am_planning.specs.Planning.{paces_of, planned_alerts}
+use Rattle.am_planning.specs.Planning.{planned_alerts}
 use Rattle.am_members.specs.declared.known.Known.{Known}
 use Rattle.am_route.specs.Asked.{route_matchers}
-use Rattle.am_notifier.specs.Following.{IsPlannedBy, all_came, is_known, unknown_of, sinces_in, follows}
-use Rattle.am_node.specs.Accepting.{StopsAccepting, accepted, brings_alert, brings_configuration, kept}
-use Rattle.am_node.specs.Local.{Ledger, Local}
+use Rattle.am_notifier.specs.Following.{IsPlannedBy, all_came, follows, is_known, paces_at, positioned as positioned_there, sinces_in}
+use Rattle.am_notifier.specs.Following.{unknown_of}
+use Rattle.am_node.specs.Accepting.{StopsAccepting, accepted, brings_alert, brings_configuration, counted, positioned}
+use Rattle.am_node.specs.Local.{Local}
 use Rattle.am_node.specs.Plans.{IsPlanned}
 use Rattle.am_node.proofs.AlertSets.{all_rise, keys_came, sets_rise}
 use Rattle.am_notifier.proofs.ByRoutes.{keys_planned, sinces_planned}
 use Rattle.am_notifier.proofs.Coming.{keys_since}
 use Rattle.am_node.proofs.Locals.{rooms}
 use Rattle.am_node.specs.Held.{from_rooms, holds_in, notifies_in}
-use Rattle.am_item.specs.Counts.{greatest_count}
 use Rattle.am_notifier.specs.Notifies.{Notifies}
-use Rattle.am_replica.specs.Holds.{Holds, accepted as held_then, counted}
+use Rattle.am_replica.specs.Holds.{Holds, accepted as held_then, counted as counted_there}
 
 -- ---- the laws
 
@@ -49,12 +49,21 @@ planned_accepted moment items local planned =
       alerts = keys_planned c came ∙ keys_came moment local.held items (sinces_in local.plan) planned.rising (keys_since local.plan.grouped.alerts ∙ planned.alerts);
     }
 
--- .. and once those that the instance made are
-pub planned_kept : (moment : ℕ) (items : List Item) (drawn : Option ℕ) (local : Local) → IsPlanned local → IsPlanned (kept moment items drawn local)
-unfolding kept
-planned_kept moment items drawn local planned =
-    let after = planned_accepted moment items local planned in
-    record { rising = after.rising; paces = after.paces; groups = after.groups; alerts = after.alerts }
+-- .. and once it has another position
+pub planned_positioned : (position : Option ℕ) (local : Local) → IsPlanned local → IsPlanned (positioned position local)
+planned_positioned position local planned =
+    let c = configuration_in local.held in
+    let sinces = sinces_in local.plan in
+    record {
+      rising = planned.rising;
+      paces = refl;
+      groups = ap (planned_alerts c) (sym (sinces_planned c sinces));
+      alerts = keys_planned c sinces ∙ keys_since local.plan.grouped.alerts ∙ planned.alerts;
+    }
+
+-- .. and where something is counted
+pub planned_counted : (more : ℕ) (drawn : Option ℕ) (local : Local) → IsPlanned local → IsPlanned (counted more drawn local)
+planned_counted more drawn local planned = record { rising = planned.rising; paces = planned.paces; groups = planned.groups; alerts = planned.alerts }
 
 -- ---- how it is done
 
@@ -64,11 +73,11 @@ plan_rises local planned = subst (IsStrictlySortedBy labels_cmp) (sym planned.al
 
 -- where no newer configuration comes, it goes by the one that is in use then
 pub still_by : (items : List Item) (local : Local) → IsPlanned local → list_any (replaces (item_at ConfigurationKey local.held)) items ≡ false
-    → IsPlannedBy (configuration_in (all_joined local.held items)) local.plan
+    → IsPlannedBy (configuration_in (all_joined local.held items)) local.position local.plan
 still_by items local planned none =
     let stays : configuration_in local.held ≡ configuration_in (all_joined local.held items) = sym (configuration_stays local.held items planned.rising none) in
     record {
-      paces = planned.paces ∙ ap (λ c. paces_of c 0) stays;
+      paces = planned.paces ∙ ap (λ c. paces_at c local.position) stays;
       groups = planned.groups ∙ ap (λ c. planned_alerts c (sinces_in local.plan)) stays;
     }
 
@@ -82,36 +91,19 @@ parts_accepted moment items h sets c n local held by are planned =
     rooms h (held_then items (holds_in local)) n (follows (configuration_in (all_joined local.held items)) moment (alert_sets items) (notifies_in local)) local.ledger.drawn held
     (planned ∙ ap (λ k. follows k moment sets (notifies_in local)) used ∙ ap (λ ss. follows (configuration_in (all_joined local.held items)) moment ss (notifies_in local)) are)
 
--- accepting counts nothing
-pub still_counted : (moment : ℕ) (items : List Item) (local : Local) → (accepted moment items local).ledger ≡ local.ledger
-unfolding accepted
-still_counted moment items local = refl
+-- what the tenant has once it has another position
+pub parts_positioned : (position : Option ℕ) (c : Configuration) (h : Holds) (n : Notifies) (local : Local) → h ≡ holds_in local → c ≡ configuration_in local.held
+    → n ≡ positioned_there c position (notifies_in local) → from_rooms h n local.ledger.drawn ≡ positioned position local
+parts_positioned position c h n local held used planned = rw (held, planned, used) refl
 
--- .. so that there is room for more stamps, where there was
-pub still_fits : (moment : ℕ) (items : List Item) (local after : Local) (more : ℕ) → after ≡ accepted moment items local → more ≡ length items
-    → (0 < length items → local.ledger.stamps + length items ≤ greatest_count) → 0 < more → after.ledger.stamps + more ≤ greatest_count
-still_fits moment items local after more is size fits some =
-    let same_ledger : after.ledger ≡ local.ledger = ap (λ (l : Local). l.ledger) is ∙ still_counted moment items local in
-    subst (λ n. n + more ≤ greatest_count) (sym (ap (λ (l : Ledger). l.stamps) same_ledger))
-    (subst (λ n. local.ledger.stamps + n ≤ greatest_count) (sym size) (fits (subst (λ n. 0 < n) size some)))
-
--- .. and once those that the instance made were counted
-pub parts_kept : (moment : ℕ) (items : List Item) (drawn : Option ℕ) (local after : Local) (h : Holds) (more d : ℕ) → after ≡ accepted moment items local → more ≡ length items
-    → h ≡ counted more (holds_in after) → d ≡ unwrap_or drawn after.ledger.drawn → from_rooms h (notifies_in after) d ≡ kept moment items drawn local
-unfolding kept
-parts_kept moment items drawn local after h more d is size counts placed =
-    let same_ledger : after.ledger ≡ local.ledger = ap (λ (l : Local). l.ledger) is ∙ still_counted moment items local in
-    let place : d ≡ unwrap_or drawn local.ledger.drawn = placed ∙ ap (λ (l : Ledger). unwrap_or drawn l.drawn) same_ledger in
-    let stamps : after.ledger.stamps + more ≡ local.ledger.stamps + length items = ap (λ (l : Ledger). l.stamps + more) same_ledger ∙ ap (λ n. local.ledger.stamps + n) size in
-    ap (λ x. from_rooms x (notifies_in after) d) counts
-    ∙ ap (λ n. from_rooms (record { held = after.held; stamps = n }) (notifies_in after) d) stamps
-    ∙ ap (λ n. from_rooms (record { held = after.held; stamps = local.ledger.stamps + length items }) (notifies_in after) n) place
-    ∙ ap (λ (l : Local). from_rooms (record { held = l.held; stamps = local.ledger.stamps + length items }) (notifies_in l) (unwrap_or drawn local.ledger.drawn)) is
+-- what the tenant has once something was counted
+pub parts_counted : (more : ℕ) (drawn : Option ℕ) (local : Local) (h : Holds) (d : ℕ) → h ≡ counted_there more (holds_in local) → d ≡ unwrap_or drawn local.ledger.drawn
+    → from_rooms h (notifies_in local) d ≡ counted more drawn local
+parts_counted more drawn local h d counts positioned = rw (counts, positioned) refl
 
 -- and of another tenant nothing changed
-pub parts_stay : (local after : Local) (h : Holds) (d : ℕ) → after ≡ local → h ≡ holds_in after → d ≡ after.ledger.drawn → from_rooms h (notifies_in after) d ≡ local
-parts_stay local after h d is counts placed =
-    ap (λ x. from_rooms x (notifies_in after) d) counts ∙ ap (λ n. from_rooms (holds_in after) (notifies_in after) n) placed ∙ is
+pub parts_stay : (local : Local) (h : Holds) (d : ℕ) → h ≡ holds_in local → d ≡ local.ledger.drawn → from_rooms h (notifies_in local) d ≡ local
+parts_stay local h d counts positioned = rw (counts, positioned) refl
 
 -- what stops it
 

@@ -36,7 +36,7 @@ use Rattle.am_outlet.specs.Attempts.{Desk, added, after_outcome, after_tick, is_
 use Rattle.am_outlet.specs.declared.attempt.Notice.{Notice}
 use Rattle.am_outlet.specs.declared.outcome.Outcome.{Outcome}
 use Rattle.am_outlet.specs.declared.outcome.Outcome.TheVariants.{NotOpen, Delivered, Again, GivenUp}
-use Rattle.am_planning.specs.Planning.{default_paces, paces_of, planned, planned_alerts}
+use Rattle.am_planning.specs.Planning.{default_paces, planned, planned_alerts}
 use Rattle.am_telling.specs.Tellings.{tellings, webhook_keys}
 use Rattle.am_telling.specs.declared.telling.Telling.{Telling}
 use Rattle.am_telling.specs.declared.telling.Telling.TheVariants.{Notify, Keep}
@@ -48,7 +48,7 @@ use Rattle.am_node.specs.Flushing.{begun, flushed, members_but}
 use Rattle.am_notifier.specs.Flushing.{sent_among, without_keys}
 use Rattle.am_node.specs.Local.{Ledger, Local, Reaction, blank, each}
 use Rattle.am_node.specs.Plans.{IsPlanned}
-use Rattle.am_notifier.specs.Following.{sinces_in}
+use Rattle.am_notifier.specs.Following.{paces_at, sinces_in}
 use Rattle.am_node.specs.Retiring.{alerts_left, retired}
 use Rattle.am_replica.specs.Retiring.{items_left}
 use Rattle.am_node.specs.Ticking.{due_keys, flushed_if, handled, muted_of, ticked}
@@ -161,7 +161,7 @@ retired_keeps moment l is =
     let used : configuration_in l.held ≡ configuration_in (items_left moment l.held) = sym (used_left moment l.held) in
     record {
       rising = rising-filter (λ x. not (is_key_retired moment l.held (key_of x))) l.held is.rising;
-      paces = is.paces ∙ ap (λ c. paces_of c 0) used;
+      paces = is.paces ∙ ap (λ c. paces_at c l.position) used;
       groups = grouped_left (configuration_in l.held) (λ a. stays a.0) alerts is.groups
           ∙ ap (λ c. planned_alerts c (map since_of (alerts_left moment l.held alerts))) used;
       alerts = keys_left stays alerts ∙ ap (filter stays) is.alerts
@@ -203,7 +203,7 @@ recorded_keeps context key firing resolved span l is =
     let used : configuration_in l.held ≡ configuration_in (joined l.held entry) = sym (used_joined key l.held entry is.rising refl) in
     record {
       rising = rising-joined l.held entry;
-      paces = is.paces ∙ ap (λ c. paces_of c 0) used;
+      paces = is.paces ∙ ap (λ c. paces_at c l.position) used;
       groups = is.groups ∙ ap (λ c. planned_alerts c (sinces_in l.plan)) used;
       alerts = is.alerts ∙ sym (sets_joined key l.held entry is.rising refl);
     }
@@ -217,7 +217,7 @@ each_keeps P react keeps (x ∷ xs) l is = each_keeps P react keeps xs (react x 
 
 -- attempts, flushes and what is counted have no part in it
 others_keep : (l : Local) (desk : Desk) (flushes : List (Name × ℕ)) (noticed : Count) (ledger : Ledger) → IsPlanned l
-    → IsPlanned (record { held = l.held; plan = record { paces = l.plan.paces; grouped = record { alerts = l.plan.grouped.alerts; flushes = flushes }; desk = desk }; noticed = noticed; ledger = ledger })
+    → IsPlanned (record { held = l.held; plan = record { paces = l.plan.paces; grouped = record { alerts = l.plan.grouped.alerts; flushes = flushes }; desk = desk }; noticed = noticed; position = l.position; ledger = ledger })
 others_keep l desk flushes noticed ledger is = record { rising = is.rising; paces = is.paces; groups = is.groups; alerts = is.alerts }
 
 started_keeps : (b : Bool) (notice : Notice) (l : Local) → IsPlanned l → IsPlanned (started_if b notice l).local

@@ -8,9 +8,9 @@ mod Kept
 mod Leaving
 mod Locals
 mod Muteds
+mod Obeying
 mod Outcomes
 mod Planned
-mod Recordings
 mod Sequence
 mod StoredRows
 mod StoredTicks

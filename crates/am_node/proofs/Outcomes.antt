@@ -1,13 +1,12 @@
 -- What the outcome of a try comes to.
 use Rattle.std.proofs.Common.{◌≡◌, ℕ, Option, sym, ap, ◌∙◌}
-use Rattle.am_outlet.specs.Attempts.{after_outcome, attempt_at, outcome_of}
+use Rattle.am_outlet.specs.Attempts.{after_outcome, outcome_of}
 use Rattle.am_outlet.specs.declared.attempt.Notice.{Notice}
 use Rattle.am_outlet.specs.declared.outcome.Outcome.{Outcome}
 use Rattle.am_outlet.specs.declared.outcome.Outcome.TheVariants.{Delivered}
 use Rattle.am_context.specs.declared.context.Context.{Context}
-use Rattle.am_node.specs.Delivery.{at_desk, is_awaited, outcome, recorded, settled}
+use Rattle.am_node.specs.Delivery.{at_desk, outcome, recorded, settled}
 use Rattle.am_node.specs.Local.{Local, stays}
-use Rattle.am_notifier.proofs.Fates.{is_taken, taken_if_awaited}
 
 module _ (context : Context) (number tries : ℕ) (status : Option ℕ) (before after : Local) (o : Outcome)
     (is : o ≡ outcome_of number tries context.moment status before.plan.desk.open_ones)
@@ -16,11 +15,6 @@ module _ (context : Context) (number tries : ℕ) (status : Option ℕ) (before 
   pub unsettled : ((l : Local) → settled context o l ≡ stays l) → stays after ≡ outcome context number tries status before
   unfolding outcome
   unsettled none = ap stays moved ∙ sym (none _) ∙ ap (λ x. settled context x (at_desk (after_outcome number tries context.moment status before.plan.desk) before)) is
-
-  -- it was taken where it was awaited
-  pub awaited : is_taken o ≡ is_awaited number tries before
-  unfolding is_awaited
-  awaited = ap is_taken is ∙ taken_if_awaited (attempt_at number before.plan.desk.open_ones) tries context.moment status
 
 module _ (context : Context) (number tries : ℕ) (status : Option ℕ) (before after : Local) (notice : Notice)
     (is : Delivered notice ≡ outcome_of number tries context.moment status before.plan.desk.open_ones)

@@ -8,7 +8,7 @@ use Rattle.am_item.specs.declared.fault.Fault.TheVariants.{OutOfMemory, CountsEx
 use Rattle.am_item.specs.declared.item.Item.{Item}
 use Rattle.am_rows.specs.Rows.{Keeps, Makes as MakesRows, has_stored, put_rows, rows_of, stored_in}
 use Rattle.am_rows.proofs.Following.{put_follows, rows_rise, rows_stored}
-use Rattle.am_node.specs.Accepting.{StopsAccepting, StopsCommitting, accepted, kept, kept_for}
+use Rattle.am_node.specs.Accepting.{StopsAccepting, StopsCommitting, accepted, accepted_for}
 use Rattle.am_node.specs.declared.parts.Parts.{Parts}
 use Rattle.am_context.specs.declared.context.Context.{Context}
 use Rattle.am_node.specs.Delivery.{outcome}
@@ -26,28 +26,28 @@ use Rattle.am_node.specs.Ticks.{StopsDoing}
 abbrev Pairs : Type 0
 Pairs = List (List ℕ × Item)
 
-held_kept : (moment : ℕ) (items : List Item) (drawn : Option ℕ) (local : Local) → (kept moment items drawn local).held ≡ all_joined local.held items
-unfolding kept accepted
-held_kept moment items drawn local = refl
+held_accepted : (moment : ℕ) (items : List Item) (local : Local) → (accepted moment items local).held ≡ all_joined local.held items
+unfolding accepted
+held_accepted moment items local = refl
 
 -- what is accepted is committed
-pub rows_kept : (tenant : List ℕ) (moment : ℕ) (items : List Item) (drawn : Option ℕ) (old : Parts) (before after : Pairs)
+pub rows_kept : (tenant : List ℕ) (moment : ℕ) (items : List Item) (old : Parts) (before after : Pairs)
     → ((t : List ℕ) → IsPlanned (local_of t old)) → AreStored old before → MakesRows tenant (put_rows items) before after
-    → AreRowsOf (λ t. kept_for tenant moment items drawn t (local_of t old)) after
-rows_kept tenant moment items drawn old before after planned stored put t = by (same t tenant) (put t)
+    → AreRowsOf (λ t. accepted_for tenant moment items t (local_of t old)) after
+rows_kept tenant moment items old before after planned stored put t = by (same t tenant) (put t)
   where
     by : (b : Bool) → rows_of t after ≡ (if b then put_rows items (rows_of t before) else rows_of t before)
-        → rows_of t after ≡ stored_in (if b then kept moment items drawn (local_of t old) else local_of t old).held
+        → rows_of t after ≡ stored_in (if b then accepted moment items (local_of t old) else local_of t old).held
     by true rows =
         rows ∙ ap (put_rows items) (stored t) ∙ put_follows (local_of t old).held items (planned t).rising
-        ∙ sym (ap stored_in (held_kept moment items drawn (local_of t old)))
+        ∙ sym (ap stored_in (held_accepted moment items (local_of t old)))
     by false rows = rows ∙ stored t
 
-pub stores_kept : (tenant : List ℕ) (moment : ℕ) (items : List Item) (drawn : Option ℕ) (old new : Parts) (before after : Pairs)
+pub stores_kept : (tenant : List ℕ) (moment : ℕ) (items : List Item) (old new : Parts) (before after : Pairs)
     → ((t : List ℕ) → IsPlanned (local_of t old)) → AreStored old before → MakesRows tenant (put_rows items) before after
-    → Makes tenant (kept moment items drawn) old new → AreStored new after
-stores_kept tenant moment items drawn old new before after planned stored put makes t =
-    rows_kept tenant moment items drawn old before after planned stored put t ∙ sym (ap (λ (l : Local). stored_in l.held) (makes t))
+    → Makes tenant (accepted moment items) old new → AreStored new after
+stores_kept tenant moment items old new before after planned stored put makes t =
+    rows_kept tenant moment items old before after planned stored put t ∙ sym (ap (λ (l : Local). stored_in l.held) (makes t))
 
 -- rows that stay are still those of what is held
 pub still_rows : (locals : List ℕ → Local) (before after : Pairs) → AreRowsOf locals before → Keeps before after → AreRowsOf locals after
@@ -82,10 +82,6 @@ nothing_rises = tt
 rows_whole : (t : List ℕ) (pairs : Pairs) → stored_in (all_joined [] (rows_of t pairs)) ≡ rows_of t pairs
 rows_whole t pairs =
     ap stored_in (all_joined-merged [] (rows_of t pairs) nothing_rises ∙ best-rising (rows_of t pairs) (rows_rise t pairs)) ∙ rows_stored t pairs
-
-held_accepted : (moment : ℕ) (items : List Item) (local : Local) → (accepted moment items local).held ≡ all_joined local.held items
-unfolding accepted
-held_accepted moment items local = refl
 
 -- what is held of what was stored is what is stored
 pub stores_held : (moment : ℕ) (new : Parts) (before after : Pairs) → Keeps before after → ((t : List ℕ) → local_of t new ≡ accepted moment (rows_of t before) blank) → AreStored new after

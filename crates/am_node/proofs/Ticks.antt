@@ -7,12 +7,12 @@ use Rattle.std.proofs.lemmas.List.Elements.{filter-append}
 use Rattle.am_labels.specs.declared.Label.{Label}
 use Rattle.am_tenant.specs.Names.{same}
 use Rattle.am_tenant.proofs.Same.{same_tells, same-refl}
-use Rattle.am_outlet.specs.declared.attempt.Sending.{Sending}
 use Rattle.am_timer.specs.Timer.{Key, Timer}
 use Rattle.am_timer.specs.declared.key.TimerKey.TheVariants.{Operation, Group, Retry, Push}
 use Rattle.am_node.specs.declared.dispatch.Dispatch.{Dispatch}
+use Rattle.am_node.specs.declared.report.Report.{Report}
 use Rattle.am_context.specs.declared.context.Context.{Context}
-use Rattle.am_node.specs.Local.{Local, Reaction, Said, Tells, each, in_turn}
+use Rattle.am_node.specs.Local.{Local, Reaction, Said, each, in_turn, said_in}
 use Rattle.am_book.specs.Retired.{is_key_retired}
 use Rattle.am_current.specs.Current.{configuration_in}
 use Rattle.am_item.specs.Key.{SilenceKey}
@@ -128,30 +128,30 @@ pub said_none : (t : List ℕ) → said_of t [] ≡ []
 unfolding said_of
 said_none t = refl
 
-pub said_one : (t : List ℕ) (d : Dispatch) → said_of t (d ∷ []) ≡ (if same t d.tenant then Tells d.sending ∷ [] else [])
+pub said_one : (t : List ℕ) (d : Dispatch) → said_of t (d ∷ []) ≡ (if same t d.tenant then said_in d.report ∷ [] else [])
 unfolding said_of
 said_one t d = by (same t d.tenant) refl
   where
-    by : (b : Bool) → same t d.tenant ≡ b → map (λ (e : Dispatch). Tells e.sending) (filter (λ (e : Dispatch). same t e.tenant) (d ∷ [])) ≡ (if same t d.tenant then Tells d.sending ∷ [] else [])
+    by : (b : Bool) → same t d.tenant ≡ b → map (λ (e : Dispatch). said_in e.report) (filter (λ (e : Dispatch). same t e.tenant) (d ∷ [])) ≡ (if same t d.tenant then said_in d.report ∷ [] else [])
     by true is = rw is refl
     by false is = rw is refl
 
-pub said_more : (t s : List ℕ) (items : List Dispatch) (sent : List Sending) (x : Sending) (base : List Said) →
-    said_of t items ≡ base ++ (if same t s then map (λ y. Tells y) sent else []) →
-    said_of t (items ++ record { tenant = s; sending = x } ∷ []) ≡ base ++ (if same t s then map (λ y. Tells y) (sent ++ x ∷ []) else [])
-said_more t s items sent x base is = by (same t s) refl
+pub said_more : (t s : List ℕ) (items : List Dispatch) (reports : List Report) (x : Report) (base : List Said) →
+    said_of t items ≡ base ++ (if same t s then map said_in reports else []) →
+    said_of t (items ++ record { tenant = s; report = x } ∷ []) ≡ base ++ (if same t s then map said_in (reports ++ x ∷ []) else [])
+said_more t s items reports x base is = by (same t s) refl
   where
-    told : List Sending → List Said
-    told ys = map (λ y. Tells y) ys
+    told : List Report → List Said
+    told ys = map said_in ys
 
     one : List Said
-    one = Tells x ∷ []
+    one = said_in x ∷ []
 
-    added : (b : Bool) → same t s ≡ b → said_of t (items ++ record { tenant = s; sending = x } ∷ []) ≡ (base ++ (if b then told sent else [])) ++ (if b then one else [])
-    added b b_is = said_append t items (record { tenant = s; sending = x } ∷ []) ∙ rw (said_one t (record { tenant = s; sending = x }), is, b_is) refl
+    added : (b : Bool) → same t s ≡ b → said_of t (items ++ record { tenant = s; report = x } ∷ []) ≡ (base ++ (if b then told reports else [])) ++ (if b then one else [])
+    added b b_is = said_append t items (record { tenant = s; report = x } ∷ []) ∙ rw (said_one t (record { tenant = s; report = x }), is, b_is) refl
 
-    by : (b : Bool) → same t s ≡ b → said_of t (items ++ record { tenant = s; sending = x } ∷ []) ≡ base ++ (if b then told (sent ++ x ∷ []) else [])
-    by true b_is = added true b_is ∙ append_assoc base (told sent) one ∙ ap (λ ys. base ++ ys) (sym (map-append (λ y. Tells y) sent (x ∷ [])))
+    by : (b : Bool) → same t s ≡ b → said_of t (items ++ record { tenant = s; report = x } ∷ []) ≡ base ++ (if b then told (reports ++ x ∷ []) else [])
+    by true b_is = added true b_is ∙ append_assoc base (told reports) one ∙ ap (λ ys. base ++ ys) (sym (map-append said_in reports (x ∷ [])))
     by false b_is = added false b_is ∙ append-nil (base ++ [])
 
 -- ---- what is muted

@@ -21,21 +21,37 @@ use Rattle.am_notifier.specs.Following.{planned_by, sinces_in, all_came, is_know
 unfoldable pub accepted : ℕ → List Item → Local → Local
 accepted moment items local = record local {
   held = all_joined local.held items;
-  plan = planned_by (configuration_in (all_joined local.held items))
+  plan = planned_by (configuration_in (all_joined local.held items)) local.position
       (all_came moment (alert_sets items) (sinces_in local.plan)) local.plan;
 }
 
--- items that the instance made are accepted: they are counted, and where words were drawn for them, the place of the
--- next
--- one is kept
-unfoldable pub kept : ℕ → List Item → (drawn : Option ℕ) → Local → Local
-kept moment items drawn local = record (accepted moment items local) {
-  ledger = record { stamps = local.ledger.stamps + length items; drawn = unwrap_or drawn local.ledger.drawn };
+-- .. of one tenant, as each tenant sees it
+abbrev pub accepted_for : List ℕ → ℕ → List Item → List ℕ → Local → Local
+accepted_for tenant moment items t local = if same t tenant then accepted moment items local else local
+
+-- so many more items were made and stamped, and where words were drawn for them, the place of the next one is kept
+abbrev pub counted : (more : ℕ) → (drawn : Option ℕ) → Local → Local
+counted more drawn local = record local {
+  ledger = record { stamps = local.ledger.stamps + more; drawn = unwrap_or drawn local.ledger.drawn };
 }
 
--- .. of one tenant, as each tenant sees it
-abbrev pub kept_for : List ℕ → ℕ → List Item → (drawn : Option ℕ) → List ℕ → Local → Local
-kept_for tenant moment items drawn t local = if same t tenant then kept moment items drawn local else local
+-- ---- the position
+
+-- the groups wait by this position from then on
+abbrev pub positioned : (position : Option ℕ) → Local → Local
+positioned position local = record local {
+  plan = planned_by (configuration_in local.held) position (sinces_in local.plan) local.plan;
+  position = position;
+}
+
+-- why it stops: there are alerts, and a pattern of the routes that are in use gave no answer; or memory ran out
+abbrev pub StopsPositioning : (refused : List (List ℕ)) → Local → Fault → Type 0
+StopsPositioning refused local OutOfMemory = Unit {0}
+StopsPositioning refused local CountsExhausted = ⊥
+StopsPositioning refused local PatternNotBuilt =
+    (0 < length local.plan.grouped.alerts)
+    × HasUnanswered refused (patterns_of (route_matchers (configuration_in local.held).routes))
+StopsPositioning refused local StoreRefused = ⊥
 
 -- ---- how it is done
 

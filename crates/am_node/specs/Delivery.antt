@@ -19,8 +19,10 @@ use Rattle.am_telling.specs.declared.telling.Telling.{Telling}
 use Rattle.am_telling.specs.declared.telling.Telling.TheVariants.{Notify, Keep}
 use Rattle.am_context.specs.declared.context.Context.{Context}
 use Rattle.am_context.specs.declared.receipt.Receipt.{Receipt}
+use Rattle.am_notifier.specs.declared.next.Next.{Next}
+use Rattle.am_notifier.specs.declared.next.Next.TheVariants.{Try, Record}
 use Rattle.am_replica.specs.Recording.{entry_stamped, seen}
-use Rattle.am_node.specs.Local.{Local, Reaction, Said, Tells, stays}
+use Rattle.am_node.specs.Local.{Local, Reaction, Said, Records, Tells, stays}
 
 -- with these attempts
 abbrev pub at_desk : Desk → Local → Local
@@ -40,7 +42,7 @@ recorded context key firing resolved span local = record {
     held = all_joined local.held (entry_of context key firing resolved span local ∷ []);
     ledger = record (local.ledger) { stamps = local.ledger.stamps + 1 };
   };
-  said = [];
+  said = Records (entry_of context key firing resolved span local) ∷ [];
   fits = nat_le (local.ledger.stamps + 1) greatest_count;
 }
 
@@ -69,6 +71,11 @@ abbrev pub told : Context → Telling → Local → Reaction
 told context (Notify notice) local = notified context notice local
 told context (Keep key span) local = recorded context key [] [] span local
 
+-- what comes next of it is done, as it stands
+abbrev pub obeyed : Context → Next → Local → Reaction
+obeyed context (Try sending) local = record { local = local; said = Tells sending ∷ []; fits = true }
+obeyed context (Record receipt) local = received context receipt local
+
 -- ---- outcomes and further tries
 
 -- a notice that was delivered is recorded; else nothing is done but that the attempt goes on or is closed
@@ -84,10 +91,15 @@ outcome context number tries status local =
     settled context (outcome_of number tries context.moment status local.plan.desk.open_ones)
     (at_desk (after_outcome number tries context.moment status local.plan.desk) local)
 
--- what goes out, where something does
+-- a try goes out, where there is one
 abbrev pub tells : Option Sending → List Said
 tells None = []
 tells (Some sending) = Tells sending ∷ []
+
+-- an item records that a webhook was told, where there is one
+abbrev pub records : Option Item → List Said
+records None = []
+records (Some item) = Records item ∷ []
 
 -- the next try of an attempt, where it is due
 unfoldable pub retried : Context → (number : ℕ) → Local → Reaction

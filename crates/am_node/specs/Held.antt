@@ -15,6 +15,7 @@ from_rooms holds notifies drawn = record {
   held = holds.held;
   plan = notifies.plan;
   noticed = notifies.noticed;
+  position = notifies.position;
   ledger = record { stamps = holds.stamps; drawn = drawn };
 }
 
@@ -26,7 +27,7 @@ abbrev pub holds_in : Local → Holds
 holds_in local = record { held = local.held; stamps = local.ledger.stamps }
 
 abbrev pub notifies_in : Local → Notifies
-notifies_in local = record { plan = local.plan; noticed = local.noticed }
+notifies_in local = record { plan = local.plan; noticed = local.noticed; position = local.position }
 
 -- one tenant has what this makes of it, and every other has what it had
 abbrev pub Makes : List ℕ → (Local → Local) → Parts → Parts → Type 0

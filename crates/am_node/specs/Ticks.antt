@@ -19,7 +19,7 @@ use Rattle.am_timer.specs.Timer.{Key, Timer}
 use Rattle.am_timer.specs.declared.key.TimerKey.TheVariants.{Operation, Group, Retry, Push}
 use Rattle.am_node.specs.declared.dispatch.Dispatch.{Dispatch}
 use Rattle.am_context.specs.declared.context.Context.{Context}
-use Rattle.am_node.specs.Local.{Local, Reaction, Said, Tells, each}
+use Rattle.am_node.specs.Local.{Local, Reaction, Said, each, said_in}
 use Rattle.am_node.specs.Retiring.{retired}
 use Rattle.am_node.specs.Ticking.{done_by, due_keys, handled, ticked}
 
@@ -30,7 +30,7 @@ context_for instance incarnation moment limits t =
 
 -- what is said of a tenant, in order
 unfoldable pub said_of : List ℕ → List Dispatch → List Said
-said_of t all = map (λ d. Tells d.sending) (filter (λ d. same t d.tenant) all)
+said_of t all = map (λ d. said_in d.report) (filter (λ d. same t d.tenant) all)
 
 -- ---- the tick
 

@@ -1,26 +1,27 @@
 //! Notices on their way.
 
-ghost use Rattle.std.specs.Prelude.{◌≡◌, true, IfErr, IfOk, OnOk, map};
+ghost use Rattle.std.specs.Prelude.{◌≡◌, ◌∷◌, [], true, IfErr, IfOk, OnOk, map};
 ghost use Rattle.am_timer.specs.declared.key.TimerKey.TheVariants.{Group as GroupTimer};
-ghost use Rattle.am_node.specs.Delivery.{is_awaited, outcome, received, retried, tells};
+ghost use Rattle.am_node.specs.Delivery.{obeyed, outcome, received, records, retried, tells};
 ghost use Rattle.am_node.specs.Held.{Does, StopsFor, local_of};
-ghost use Rattle.am_node.specs.Local.{Tells, each};
+ghost use Rattle.am_node.specs.Local.{Records, each, said_in};
 ghost use Rattle.am_node.specs.Plans.{IsPlanned};
 ghost use Rattle.am_node.specs.Ticking.{handled};
 ghost use Rattle.am_node.specs.Ticks.{muted_for};
 
 use crate::muted::Muted;
 use crate::parts::Parts;
+use crate::report::Report;
 use am_context::{Context, Receipt};
-use am_item::Fault;
-use am_notifier::{Basis, Flush};
+use am_item::{Fault, SharedItem};
+use am_notifier::{Basis, Next};
 use am_outlet::{Notice, Outcome, Sending};
 use am_tenant::TenantName;
 use am_timer::FlushKey;
 use std::alloc::{AllocError, Global};
 
 impl Parts {
-    /// Flushes a group of a tenant, where its flush is due, and gives the tries that go out, in order.
+    /// Flushes a group of a tenant, where its flush is due, and gives what there is to say of it, in order.
     ///
     /// # Errors
     /// `CountsExhausted` where a count would pass 2^62, or out of memory.
@@ -31,11 +32,11 @@ impl Parts {
         context: &Context,
         key: &FlushKey,
         muted: &Muted,
-    ) -> Result<Vec<Sending>, Fault>
+    ) -> Result<Vec<Report>, Fault>
         requires planned { IsPlanned (local_of tenant.now self.old) }
         ensures does { OnOk result (Does tenant.now
             (handled context.now (muted_for tenant.now muted.now) (GroupTimer key.now)) self.old self.new) }
-        ensures said { IfOk result (λ v. map (λ s. Tells s) v.items
+        ensures said { IfOk result (λ v. map said_in v.items
             ≡ (handled context.now (muted_for tenant.now muted.now) (GroupTimer key.now) (local_of tenant.now self.old)).said) }
         ensures fits { IfOk result (λ _.
             (handled context.now (muted_for tenant.now muted.now) (GroupTimer key.now) (local_of tenant.now self.old)).fits ≡ true) }
@@ -49,39 +50,64 @@ impl Parts {
             muted: muted.find(tenant),
         };
         let notifier = &mut self.notifier;
-        let flush = notifier.flush_due(alloc, tenant, context, key, &basis)?;
-        let Flush { sendings, receipts } = flush;
-        self.record_all(alloc, tenant, context, receipts)?;
-        Ok(sendings)
+        let next = notifier.flush_due(alloc, tenant, context, key, &basis)?;
+        self.obey_all(alloc, tenant, context, next)
     }
 
-    // Records that webhooks were told, one after the other.
-    fn record_all(
+    // Does what comes next of a flush, one after the other, and gives what there is to say of it.
+    fn obey_all(
         &mut self,
         alloc: Global,
         tenant: &TenantName,
         context: &Context,
-        receipts: Vec<Receipt>,
-    ) -> Result<(), Fault>
-        ensures does { OnOk result (Does tenant.now (each (received context.now) receipts.items) self.old self.new) }
-        ensures fits { OnOk result ((each (received context.now) receipts.items (local_of tenant.now self.old)).fits ≡ true) }
-        ensures fault { IfErr result (StopsFor (each (received context.now) receipts.items (local_of tenant.now self.old))) }
+        next: Vec<Next>,
+    ) -> Result<Vec<Report>, Fault>
+        ensures does { OnOk result (Does tenant.now (each (obeyed context.now) next.items) self.old self.new) }
+        ensures said { IfOk result (λ v. map said_in v.items
+            ≡ (each (obeyed context.now) next.items (local_of tenant.now self.old)).said) }
+        ensures fits { OnOk result ((each (obeyed context.now) next.items (local_of tenant.now self.old)).fits ≡ true) }
+        ensures fault { IfErr result (StopsFor (each (obeyed context.now) next.items (local_of tenant.now self.old))) }
     {
-        for receipt in receipts {
-            self.record(alloc, tenant, context, receipt)?;
+        let mut reports = Vec::new(alloc);
+        for one in next {
+            let report = self.obey(alloc, tenant, context, one)?;
+            reports.push(report)?;
         }
-        Ok(())
+        Ok(reports)
     }
 
-    // Records that a webhook was told.
+    // Does what comes next of a flush, and gives what there is to say of it.
+    fn obey(
+        &mut self,
+        alloc: Global,
+        tenant: &TenantName,
+        context: &Context,
+        next: Next,
+    ) -> Result<Report, Fault>
+        ensures does { OnOk result (Does tenant.now (obeyed context.now next) self.old self.new) }
+        ensures said { IfOk result (λ report. said_in report ∷ [] ≡ (obeyed context.now next (local_of tenant.now self.old)).said) }
+        ensures fits { OnOk result ((obeyed context.now next (local_of tenant.now self.old)).fits ≡ true) }
+        ensures fault { IfErr result (StopsFor (obeyed context.now next (local_of tenant.now self.old))) }
+    {
+        match next {
+            Next::Try(sending) => Ok(Report::Try(sending)),
+            Next::Record(receipt) => {
+                let entry = self.record(alloc, tenant, context, receipt)?;
+                Ok(Report::Record(entry))
+            }
+        }
+    }
+
+    // Records that a webhook was told, and gives the item that does.
     fn record(
         &mut self,
         alloc: Global,
         tenant: &TenantName,
         context: &Context,
         receipt: Receipt,
-    ) -> Result<(), Fault>
+    ) -> Result<SharedItem, Fault>
         ensures does { OnOk result (Does tenant.now (received context.now receipt) self.old self.new) }
+        ensures said { IfOk result (λ entry. Records entry ∷ [] ≡ (received context.now receipt (local_of tenant.now self.old)).said) }
         ensures fits { IfOk result (λ _. (received context.now receipt (local_of tenant.now self.old)).fits ≡ true) }
         ensures fault { IfErr result (StopsFor (received context.now receipt (local_of tenant.now self.old))) }
     {
@@ -89,8 +115,8 @@ impl Parts {
     }
 
     /// Takes the outcome of a try of a tenant's attempt: the status of the webhook's answer, or `None` where there was
-    /// none.
-    /// `false`, and nothing changes, where no outcome of that try is awaited.
+    /// none. Gives the item that records a notice which was delivered. Nothing changes where no outcome of that try is
+    /// awaited.
     ///
     /// # Errors
     /// `CountsExhausted` where the stamp of what is recorded would pass 2^62, or out of memory.
@@ -102,9 +128,10 @@ impl Parts {
         number: u64,
         tries: u8,
         status: Option<u16>,
-    ) -> Result<bool, Fault>
+    ) -> Result<Option<SharedItem>, Fault>
         ensures does { OnOk result (Does tenant.now (outcome context.now number tries status) self.old self.new) }
-        ensures awaited { IfOk result (λ awaited. awaited ≡ is_awaited number tries (local_of tenant.now self.old)) }
+        ensures said { IfOk result (λ entry. records entry
+            ≡ (outcome context.now number tries status (local_of tenant.now self.old)).said) }
         ensures fits { IfOk result (λ _. (outcome context.now number tries status (local_of tenant.now self.old)).fits ≡ true) }
         ensures fault { IfErr result (StopsFor (outcome context.now number tries status (local_of tenant.now self.old))) }
     {
@@ -112,12 +139,12 @@ impl Parts {
             .notifier
             .outcome(alloc, tenant, context.moment, number, tries, status)?;
         match outcome {
-            Outcome::NotOpen => Ok(false),
-            Outcome::Again(_) => Ok(true),
-            Outcome::GivenUp => Ok(true),
+            Outcome::NotOpen => Ok(None),
+            Outcome::Again(_) => Ok(None),
+            Outcome::GivenUp => Ok(None),
             Outcome::Delivered(notice) => {
                 match self.record(alloc, tenant, context, receipt_of(notice)) {
-                    Ok(()) => Ok(true),
+                    Ok(entry) => Ok(Some(entry)),
                     Err(fault) => Err(fault),
                 }
             }

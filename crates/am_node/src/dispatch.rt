@@ -1,11 +1,11 @@
-use am_outlet::Sending;
+use crate::report::Report;
 use am_tenant::TenantName;
 
-/// A try that goes out.
+/// What there is to say, and of whom.
 #[derive(Drop)]
 pub struct Dispatch {
-    /// Whose it is.
+    /// Of whom.
     pub tenant: TenantName,
-    /// The try.
-    pub sending: Sending,
+    /// What there is to say.
+    pub report: Report,
 }

@@ -5,13 +5,13 @@ mod accepting;
 mod delivery;
 mod dispatch;
 mod holding;
-mod made;
 mod muted;
 mod node;
 mod parts;
+mod report;
 mod retiring;
 mod ticking;
 
 pub use dispatch::Dispatch;
-pub use made::Made;
 pub use node::Node;
+pub use report::Report;

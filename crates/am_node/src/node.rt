@@ -1,12 +1,13 @@
 //! What an instance has of all tenants.
 
 ghost use Rattle.std.specs.Prelude.{false, ◌≡◌, ◌+◌, ◌<◌, ◌≤◌, ℕ, List, true, IfErr, IfOk, OnErr, OnOk, length};
-ghost use Rattle.std.specs.Prelude.{if◌then◌else◌};
+ghost use Rattle.std.specs.Prelude.{option_map, if◌then◌else◌};
 ghost use Rattle.std.specs.Borrow.{sem};
 ghost use Rattle.std.specs.Io.BufRead.{Rests};
 ghost use Rattle.am_alert.specs.Made.{greatest_count};
 ghost use Rattle.am_current.specs.Current.{configuration_in};
 ghost use Rattle.am_item.specs.Best.{IsRising};
+ghost use Rattle.am_notifier.specs.Positions.{number_of};
 ghost use Rattle.am_pattern.specs.Asking.{Asked};
 ghost use Rattle.am_rows.specs.Refusing.{IsJudged, MayRefuse};
 ghost use Rattle.am_rows.specs.Rows.{Keeps, has_stored, rows_of, stored_in};
@@ -14,19 +15,19 @@ ghost use Rattle.am_node.specs.Retiring.{retired};
 ghost use Rattle.am_node.specs.Storing.{AreStored, LeavesStore};
 ghost use Rattle.am_replica.specs.Storing.{fault_in};
 ghost use Rattle.am_tenant.specs.Names.{same};
-ghost use Rattle.am_node.specs.Accepting.{StopsCommitting, accepted, kept, kept_for};
-ghost use Rattle.am_node.specs.Delivery.{is_awaited, outcome};
+ghost use Rattle.am_node.specs.Accepting.{StopsCommitting, StopsPositioning, accepted, accepted_for, counted, positioned};
+ghost use Rattle.am_node.specs.Delivery.{is_awaited, outcome, records};
 ghost use Rattle.am_node.specs.Held.{Does, Makes, StopsFor, local_of};
 ghost use Rattle.am_node.specs.Local.{blank};
 ghost use Rattle.am_node.specs.Ticks.{StopsTicking, TicksAll, context_for};
 
 use crate::dispatch::Dispatch;
-use crate::made::Made;
 use crate::parts::Parts;
 use am_config::Config;
 use am_context::{Context, Start};
-use am_item::{Fault, Held};
+use am_item::{Fault, Held, SharedItem};
 use am_limit::LimitBook;
+use am_notifier::Position;
 use am_pattern::PatternCache;
 use am_rows::{Rows, StoreRefusal};
 use am_tenant::TenantName;
@@ -152,39 +153,86 @@ impl Node {
         }
     }
 
-    /// Accepts items of a tenant that the instance made at a moment, and counts their stamps: the best are held, and
-    /// what is
-    /// planned goes by these. `drawn` is the place of the next word where words were drawn for them. No count may pass
-    /// 2^62.
+    /// Has the groups of a tenant wait by the position of the instance among the tenant's replicas from now on; without
+    /// one, the instance flushes none of them.
+    ///
+    /// # Errors
+    /// `PatternNotBuilt` where there are alerts, and a pattern of the routes that are in use gives no answer; or out of
+    /// memory.
+    pub fn set_position(
+        &mut self,
+        alloc: Global,
+        tenant: &TenantName,
+        position: Option<Position>,
+        cache: &mut PatternCache,
+    ) -> Result<(), Fault>
+        ensures does { OnOk result (Makes tenant.now (positioned (option_map number_of position)) self.old self.new) }
+        ensures asked { Asked result cache.old cache.new }
+        ensures fault { IfErr result (StopsPositioning cache.new.refused (local_of tenant.now self.old)) }
+    {
+        let parts = &mut self.parts;
+        match parts.set_position(alloc, tenant, position, cache) {
+            Ok(()) => Ok(()),
+            Err(fault) => {
+                self.parts.clear(alloc);
+                Err(fault)
+            }
+        }
+    }
+
+    /// Counts the stamps of so many more items of a tenant that the instance made; where words were drawn for them, the
+    /// place of the next one is kept. The count may not pass 2^62.
+    ///
+    /// An error is out of memory.
+    pub fn count(
+        &mut self,
+        alloc: Global,
+        tenant: &TenantName,
+        more: u64,
+        drawn: Option<Place>,
+    ) -> Result<(), AllocError>
+        requires { 0 < more → (local_of tenant.now self.old).ledger.stamps + more ≤ greatest_count }
+        ensures { OnOk result (Makes tenant.now (counted more drawn) self.old self.new) }
+    {
+        let parts = &mut self.parts;
+        match parts.count(alloc, tenant, more, drawn) {
+            Ok(()) => Ok(()),
+            Err(error) => {
+                self.parts.clear(alloc);
+                Err(error)
+            }
+        }
+    }
+
+    /// Commits items of a tenant at a moment, and accepts them: the best are held, and what is planned goes by these.
     ///
     /// # Errors
     /// `PatternNotBuilt` where there are alerts to plan, and a pattern of the routes that are in use then gave no
-    /// answer;
-    /// `StoreRefused` where one of the items is stored; or out of memory. The rows are as before, or as committed.
+    /// answer; `StoreRefused` where one of the items is stored; or out of memory. The rows are as before, or as
+    /// committed.
     pub fn accept<R: Rows>(
         &mut self,
         alloc: Global,
         tenant: &TenantName,
         moment: Moment,
-        made: Made,
+        items: Vec<SharedItem>,
         cache: &mut PatternCache,
         store: &mut R,
     ) -> Result<(), Fault>
-        requires fits { 0 < length made.items.items → (local_of tenant.now self.old).ledger.stamps + length made.items.items ≤ greatest_count }
-        requires open { R.is_open store.old ≡ true }
-        ensures does { OnOk result (Makes tenant.now (kept moment made.items.items made.drawn) self.old self.new) }
+        requires { R.is_open store.old ≡ true }
+        ensures does { OnOk result (Makes tenant.now (accepted moment items.items) self.old self.new) }
         ensures asked { Asked result cache.old cache.new }
-        ensures fault { IfErr result (StopsCommitting cache.new.refused made.items.items (local_of tenant.now self.old)) }
+        ensures fault { IfErr result (StopsCommitting cache.new.refused items.items (local_of tenant.now self.old)) }
         ensures clean { R.is_clean store.new ≡ true → R.is_clean store.old ≡ true }
         ensures open { OnOk result (R.is_open store.new ≡ true) }
         ensures stores { R.is_clean store.new ≡ true → AreStored self.old (R.pairs store.old) → OnOk result (AreStored self.new (R.pairs store.new)) }
         ensures left { R.is_clean store.new ≡ true → AreStored self.old (R.pairs store.old) → LeavesStore
-            (λ t. local_of t self.old) (λ t. kept_for tenant.now moment made.items.items made.drawn t (local_of t self.old))
-            (R.rejects tenant.now made.items.items) (fault_in result) (R.medium store.old) (R.medium store.new) (R.pairs store.new) }
-        ensures untouched { has_stored made.items.items ≡ false → store.new ≡ store.old }
+            (λ t. local_of t self.old) (λ t. accepted_for tenant.now moment items.items t (local_of t self.old))
+            (R.rejects tenant.now items.items) (fault_in result) (R.medium store.old) (R.medium store.new) (R.pairs store.new) }
+        ensures untouched { has_stored items.items ≡ false → store.new ≡ store.old }
     {
         let parts = &mut self.parts;
-        match parts.commit(alloc, tenant, moment, made, cache, store) {
+        match parts.commit(alloc, tenant, moment, items, cache, store) {
             Ok(()) => Ok(()),
             Err(fault) => {
                 self.parts.clear(alloc);
@@ -194,15 +242,12 @@ impl Node {
     }
 
     /// A tick, of all tenants: what is retired at the moment goes, and then what is due is done once, in order: by when
-    /// it is
-    /// due, by tenant, groups before attempts. Gives the tries that go out. A tick costs what is due and what goes.
+    /// it is due, by tenant, groups before attempts. Gives what there is to say. It costs what is due and what goes.
     ///
     /// # Errors
     /// `CountsExhausted` where a count of a tenant would pass 2^62, `PatternNotBuilt` where a pattern that may mute
-    /// alerts of a
-    /// group gave no answer, `StoreRefused` where silences retire, or out of memory. The rows are as before, or without
-    /// the
-    /// silences that retire.
+    /// alerts of a group gave no answer, `StoreRefused` where silences retire, or out of memory. The rows are as before,
+    /// or without the silences that retire.
     pub fn tick<R: Rows>(
         &mut self,
         alloc: Global,
@@ -242,8 +287,8 @@ impl Node {
     }
 
     /// Takes the outcome of a try of a tenant's attempt: the status of the webhook's answer, or `None` where there was
-    /// none.
-    /// `false`, and nothing changes, where no outcome of that try is awaited.
+    /// none. Gives the item that records a notice which was delivered. Nothing changes where no outcome of that try is
+    /// awaited.
     ///
     /// # Errors
     /// `CountsExhausted` where the stamp of what is recorded would pass 2^62, or out of memory.
@@ -255,16 +300,17 @@ impl Node {
         number: u64,
         tries: u8,
         status: Option<u16>,
-    ) -> Result<bool, Fault>
+    ) -> Result<Option<SharedItem>, Fault>
         ensures does { OnOk result (Does tenant.now (outcome context.now number tries status) self.old self.new) }
-        ensures awaited { IfOk result (λ awaited. awaited ≡ is_awaited number tries (local_of tenant.now self.old)) }
+        ensures said { IfOk result (λ entry. records entry
+            ≡ (outcome context.now number tries status (local_of tenant.now self.old)).said) }
         ensures fits { IfOk result (λ _. (outcome context.now number tries status (local_of tenant.now self.old)).fits ≡ true) }
         ensures stored { OnOk result ((t : List ℕ) → stored_in (local_of t self.new).held ≡ stored_in (local_of t self.old).held) }
         ensures fault { IfErr result (StopsFor (outcome context.now number tries status (local_of tenant.now self.old))) }
     {
         let parts = &mut self.parts;
         match parts.outcome(alloc, tenant, context, number, tries, status) {
-            Ok(awaited) => Ok(awaited),
+            Ok(entry) => Ok(entry),
             Err(fault) => {
                 self.parts.clear(alloc);
                 Err(fault)

@@ -8,7 +8,7 @@ ghost use Rattle.am_pattern.specs.Asking.{Asked};
 ghost use Rattle.am_timer.specs.declared.key.TimerKey.TheVariants.{Group as GroupTimer};
 ghost use Rattle.am_node.specs.Delivery.{tells};
 ghost use Rattle.am_node.specs.Held.{Does, StopsFor, local_of};
-ghost use Rattle.am_node.specs.Local.{Tells};
+ghost use Rattle.am_node.specs.Local.{said_in};
 ghost use Rattle.am_node.specs.Plans.{IsPlanned};
 ghost use Rattle.am_node.specs.Retiring.{retired};
 ghost use Rattle.am_node.specs.Storing.{AreStored, LeavesStore};
@@ -21,6 +21,7 @@ ghost use Rattle.am_node.specs.Ticks.{some_flush};
 use crate::dispatch::Dispatch;
 use crate::muted::Muted;
 use crate::parts::Parts;
+use crate::report::Report;
 use am_context::{Context, Start};
 use am_item::Fault;
 use am_limit::LimitBook;
@@ -35,13 +36,11 @@ use std::alloc::{AllocError, Global};
 
 impl Parts {
     /// A tick, of all tenants: what is retired at the moment goes, and then what is due is done once, in order: by when
-    /// it is
-    /// due, by tenant, groups before attempts. Gives the tries that go out. A tick costs what is due and what goes.
+    /// it is due, by tenant, groups before attempts. Gives what there is to say. It costs what is due and what goes.
     ///
     /// # Errors
     /// `CountsExhausted` where a count of a tenant would pass 2^62, `PatternNotBuilt` where a pattern that may mute
-    /// alerts of a
-    /// group gave no answer, `StoreRefused` where silences retire, or out of memory.
+    /// alerts of a group gave no answer, `StoreRefused` where silences retire, or out of memory.
     pub(crate) fn tick<R: Rows>(
         &mut self,
         alloc: Global,
@@ -127,8 +126,8 @@ impl Parts {
                 moment,
                 limits: limits.of(tenant),
             };
-            let sendings = self.handle(alloc, tenant, &context, &timer.name.key, muted)?;
-            add_all(&mut all, tenant, sendings)?;
+            let reports = self.handle(alloc, tenant, &context, &timer.name.key, muted)?;
+            add_all(&mut all, tenant, reports)?;
         }
         Ok(all)
     }
@@ -141,10 +140,10 @@ impl Parts {
         context: &Context,
         key: &TimerKey,
         muted: &Muted,
-    ) -> Result<Vec<Sending>, Fault>
+    ) -> Result<Vec<Report>, Fault>
         requires planned { IsPlanned (local_of tenant.now self.old) }
         ensures does { OnOk result (Does tenant.now (handled context.now (muted_for tenant.now muted.now) key.now) self.old self.new) }
-        ensures said { IfOk result (λ v. map (λ s. Tells s) v.items ≡ (handled context.now (muted_for tenant.now muted.now) key.now (local_of tenant.now self.old)).said) }
+        ensures said { IfOk result (λ v. map said_in v.items ≡ (handled context.now (muted_for tenant.now muted.now) key.now (local_of tenant.now self.old)).said) }
         ensures fits { IfOk result (λ _. (handled context.now (muted_for tenant.now muted.now) key.now (local_of tenant.now self.old)).fits ≡ true) }
         ensures fault { IfErr result (StopsFor (handled context.now (muted_for tenant.now muted.now) key.now (local_of tenant.now self.old))) }
     {
@@ -152,8 +151,8 @@ impl Parts {
             TimerKey::Group(group) => self.flush_due(alloc, tenant, context, group, muted),
             TimerKey::Retry(number) => {
                 let sending = self.retry(alloc, tenant, context, *number)?;
-                let sendings = one_of(alloc, sending)?;
-                Ok(sendings)
+                let reports = one_of(alloc, sending)?;
+                Ok(reports)
             }
             TimerKey::Operation(_) => Ok(Vec::new(alloc)),
             TimerKey::Push(_) => Ok(Vec::new(alloc)),
@@ -161,30 +160,30 @@ impl Parts {
     }
 }
 
-// What goes out, where something does.
-fn one_of(alloc: Global, sending: Option<Sending>) -> Result<Vec<Sending>, AllocError>
-    ensures { IfOk result (λ v. map (λ s. Tells s) v.items ≡ tells sending) }
+// A try goes out, where there is one.
+fn one_of(alloc: Global, sending: Option<Sending>) -> Result<Vec<Report>, AllocError>
+    ensures { IfOk result (λ v. map said_in v.items ≡ tells sending) }
 {
-    let mut sendings = Vec::new(alloc);
+    let mut reports = Vec::new(alloc);
     if let Some(sending) = sending {
-        sendings.push(sending)?;
+        reports.push(Report::Try(sending))?;
     }
-    Ok(sendings)
+    Ok(reports)
 }
 
-// Adds what goes out of a tenant.
+// Adds what there is to say of a tenant.
 fn add_all(
     all: &mut Vec<Dispatch>,
     tenant: &TenantName,
-    sendings: Vec<Sending>,
+    reports: Vec<Report>,
 ) -> Result<(), AllocError>
     ensures { OnOk result ((t : List ℕ) → said_of t all.new.items
-        ≡ said_of t all.old.items ++ (if same t tenant.now then map (λ s. Tells s) sendings.items else [])) }
+        ≡ said_of t all.old.items ++ (if same t tenant.now then map said_in reports.items else [])) }
 {
-    for sending in sendings {
+    for report in reports {
         all.push(Dispatch {
             tenant: *tenant,
-            sending,
+            report,
         })?;
     }
     Ok(())

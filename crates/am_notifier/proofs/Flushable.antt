@@ -10,6 +10,7 @@ use Rattle.am_config.specs.Configuration.{Configuration}
 use Rattle.am_config.specs.declared.parts.Route.{Route}
 use Rattle.am_labels.specs.declared.Label.{Label}
 use Rattle.am_members.specs.Grouped.{Grouped, members}
+use Rattle.am_notifier.specs.Following.{paces_at}
 use Rattle.am_members.specs.Members.{is_bare, least_of}
 use Rattle.am_planning.specs.Planning.{pace_of, paces_of}
 use Rattle.am_planning.specs.declared.pace.Pace.{Pace}
@@ -38,11 +39,16 @@ unfolding paces_of
 in_paces c position key pace is =
     subst (λ n. key.route < n) (length-map c.routes _) (slice_get_within (map (λ (node : Node Route). pace_of c position node.item.settings) c.routes) key.route pace is)
 
-pub has_route : (c : Configuration) (position : ℕ) (paces : List Pace) (grouped : Grouped) (key : FlushKey) (d : ℕ) → paces ≡ paces_of c position →
+-- .. at any position
+at_place : (c : Configuration) (position : Option ℕ) (key : FlushKey) (pace : Pace) → slice_get (paces_at c position) key.route ≡ Some pace → key.route < length c.routes
+at_place c None key pace is = cc
+at_place c (Some position) key pace is = in_paces c position key pace is
+
+pub has_route : (c : Configuration) (position : Option ℕ) (paces : List Pace) (grouped : Grouped) (key : FlushKey) (d : ℕ) → paces ≡ paces_at c position →
     flush_due paces grouped key ≡ Some d → key.route < length c.routes
 unfolding flush_due
 has_route c position paces grouped key d by_c due = by_pace (slice_get paces key.route) refl due
   where
     by_pace : (found : Option Pace) → slice_get paces key.route ≡ found → due_for key grouped found ≡ Some d → key.route < length c.routes
     by_pace None is there = cc
-    by_pace (Some pace) is there = in_paces c position key pace (ap (λ ps. slice_get ps key.route) (sym by_c) ∙ is)
+    by_pace (Some pace) is there = at_place c position key pace (ap (λ ps. slice_get ps key.route) (sym by_c) ∙ is)

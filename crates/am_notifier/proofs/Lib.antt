@@ -1,7 +1,6 @@
 pub mod ByRoutes
 pub mod Coming
 pub mod Counting
-pub mod Fates
 pub mod Flagged
 pub mod Flushable
 pub mod Flushes
@@ -9,6 +8,7 @@ pub mod Followed
 pub mod Leaving
 pub mod Meeting
 pub mod Parts
+pub mod PositionLemmas
 pub mod Puts
 pub mod Reasons
 pub mod Turns

@@ -10,7 +10,7 @@ use Rattle.am_notifier.specs.Delivery.{told}
 use Rattle.am_notifier.specs.Flushing.{MayTellAll, Says}
 use Rattle.am_notifier.specs.Notifies.{Notifies, notifies_of}
 use Rattle.am_notifier.specs.Steps.{Does, Step, each}
-use Rattle.am_notifier.specs.declared.flushing.Flush.{Flush}
+use Rattle.am_notifier.specs.declared.next.Next.{Next}
 use Rattle.am_notifier.specs.declared.notifier.Notifier.{Notifier}
 use Rattle.am_telling.specs.declared.telling.Telling.{Telling}
 use Rattle.am_tenant.specs.Names.{same}
@@ -21,21 +21,19 @@ all_told context tellings notifies = each (told context) tellings notifies
 
 -- from one state on some were told, which gave these; with those that are left it comes to what telling all of them
 -- makes
-pub record IsOnWay (context : Context) (tenant : List ℕ) (start : Notifier) (all : List Telling) (now : Notifier) (left : List Telling) (flush : Flush) : Type 0 where
+pub record IsOnWay (context : Context) (tenant : List ℕ) (start : Notifier) (all : List Telling) (now : Notifier) (left : List Telling) (those : List Next) : Type 0 where
   pub notifies : (all_told context left (notifies_of tenant now)).notifies ≡ (all_told context all (notifies_of tenant start)).notifies
-  pub sendings : flush.sendings.items ++ (all_told context left (notifies_of tenant now)).sendings ≡ (all_told context all (notifies_of tenant start)).sendings
-  pub receipts : flush.receipts.items ++ (all_told context left (notifies_of tenant now)).receipts ≡ (all_told context all (notifies_of tenant start)).receipts
+  pub next : those ++ (all_told context left (notifies_of tenant now)).next ≡ (all_told context all (notifies_of tenant start)).next
   pub fits : (all_told context left (notifies_of tenant now)).fits ≡ (all_told context all (notifies_of tenant start)).fits
   pub others : (t : List ℕ) → same t tenant ≡ false → notifies_of t now ≡ notifies_of t start
   pub may : MayTellAll context left (notifies_of tenant now)
 
 -- nothing was told
-pub begins : (context : Context) (tenant : List ℕ) (start : Notifier) (all : List Telling) (flush : Flush) → MayTellAll context all (notifies_of tenant start)
-    → flush.sendings.items ≡ [] → flush.receipts.items ≡ [] → IsOnWay context tenant start all start all flush
-begins context tenant start all flush may none nothing = record {
+pub begins : (context : Context) (tenant : List ℕ) (start : Notifier) (all : List Telling) (those : List Next) → MayTellAll context all (notifies_of tenant start)
+    → those ≡ [] → IsOnWay context tenant start all start all those
+begins context tenant start all those may none = record {
   notifies = refl;
-  sendings = ap (λ xs. xs ++ (all_told context all (notifies_of tenant start)).sendings) none;
-  receipts = ap (λ xs. xs ++ (all_told context all (notifies_of tenant start)).receipts) nothing;
+  next = ap (λ xs. xs ++ (all_told context all (notifies_of tenant start)).next) none;
   fits = refl;
   others = λ t apart. refl;
   may = may;
@@ -47,47 +45,43 @@ grown before more after rest all is on = ap (λ xs. xs ++ rest) is ∙ append_as
 
 module _ (context : Context) (tenant : List ℕ) (start : Notifier) (all : List Telling) (now : Notifier) where
   -- one more is told
-  pub goes_on : (telling : Telling) (before left : List Telling) (flush longer : Flush) (after : Notifier) → before ≡ telling ∷ left → IsOnWay context tenant start all now before flush
+  pub goes_on : (telling : Telling) (before left : List Telling) (those more : List Next) (after : Notifier) → before ≡ telling ∷ left → IsOnWay context tenant start all now before those
       → Does tenant (told context telling) now after → (told context telling (notifies_of tenant now)).fits ≡ true
-      → longer.sendings.items ≡ flush.sendings.items ++ (told context telling (notifies_of tenant now)).sendings
-      → longer.receipts.items ≡ flush.receipts.items ++ (told context telling (notifies_of tenant now)).receipts
-      → IsOnWay context tenant start all after left longer
-  goes_on telling before left flush longer after first is_on does fits sends receives =
-      let on : IsOnWay context tenant start all now (telling ∷ left) flush = subst (λ ts. IsOnWay context tenant start all now ts flush) first is_on in
+      → more ≡ those ++ (told context telling (notifies_of tenant now)).next
+      → IsOnWay context tenant start all after left more
+  goes_on telling before left those more after first is_on does fits adds =
+      let on : IsOnWay context tenant start all now (telling ∷ left) those = subst (λ ts. IsOnWay context tenant start all now ts those) first is_on in
       let one = told context telling (notifies_of tenant now) in
       let moved : notifies_of tenant after ≡ one.notifies = own tenant (one.notifies) (notifies_of tenant now) (notifies_of tenant after) (does tenant) in
       record {
         notifies = ap (λ n. (all_told context left n).notifies) moved ∙ on.notifies;
-        sendings = ap (λ n. longer.sendings.items ++ (all_told context left n).sendings) moved
-            ∙ grown flush.sendings.items one.sendings longer.sendings.items (all_told context left (one.notifies)).sendings _ sends on.sendings;
-        receipts = ap (λ n. longer.receipts.items ++ (all_told context left n).receipts) moved
-            ∙ grown flush.receipts.items one.receipts longer.receipts.items (all_told context left (one.notifies)).receipts _ receives on.receipts;
+        next = ap (λ n. more ++ (all_told context left n).next) moved
+            ∙ grown those one.next more (all_told context left (one.notifies)).next _ adds on.next;
         fits = ap (λ n. (all_told context left n).fits) moved ∙ ap (λ b. b && (all_told context left (one.notifies)).fits) (sym fits) ∙ on.fits;
         others = λ t apart. other t tenant _ _ _ apart (does t) ∙ on.others t apart;
         may = subst (λ n. MayTellAll context left n) (sym moved) (on.may.1);
       }
 
   -- none is left
-  pub ends : (left : List Telling) (flush : Flush) → left ≡ [] → IsOnWay context tenant start all now left flush → Does tenant (each (told context) all) start now
-  ends left flush over is_on =
-      let on : IsOnWay context tenant start all now [] flush = subst (λ ts. IsOnWay context tenant start all now ts flush) over is_on in
+  pub ends : (left : List Telling) (those : List Next) → left ≡ [] → IsOnWay context tenant start all now left those → Does tenant (each (told context) all) start now
+  ends left those over is_on =
+      let on : IsOnWay context tenant start all now [] those = subst (λ ts. IsOnWay context tenant start all now ts those) over is_on in
       one_changes tenant (λ n. (each (told context) all n).notifies) (λ t. notifies_of t start) (λ t. notifies_of t now) on.notifies on.others
 
-  pub says : (left : List Telling) (flush : Flush) → left ≡ [] → IsOnWay context tenant start all now left flush → Says flush (each (told context) all (notifies_of tenant start))
-  says left flush over is_on =
-      let on : IsOnWay context tenant start all now [] flush = subst (λ ts. IsOnWay context tenant start all now ts flush) over is_on in
+  pub says : (left : List Telling) (those : List Next) → left ≡ [] → IsOnWay context tenant start all now left those → Says those (each (told context) all (notifies_of tenant start))
+  says left those over is_on =
+      let on : IsOnWay context tenant start all now [] those = subst (λ ts. IsOnWay context tenant start all now ts those) over is_on in
       record {
-        sendings = sym (append-nil flush.sendings.items) ∙ on.sendings;
-        receipts = sym (append-nil flush.receipts.items) ∙ on.receipts;
+        next = sym (append-nil those) ∙ on.next;
         fits = sym on.fits;
       }
 
   -- what stops the next one stops all
-  pub stops : (telling : Telling) (before left : List Telling) (flush : Flush) (fault : Fault) → before ≡ telling ∷ left → IsOnWay context tenant start all now before flush
+  pub stops : (telling : Telling) (before left : List Telling) (those : List Next) (fault : Fault) → before ≡ telling ∷ left → IsOnWay context tenant start all now before those
       → StopsPast (told context telling (notifies_of tenant now)).fits fault → StopsPast (each (told context) all (notifies_of tenant start)).fits fault
-  stops telling before left flush OutOfMemory first on stop = tt
-  stops telling before left flush CountsExhausted first is_on stop =
-      let on : IsOnWay context tenant start all now (telling ∷ left) flush = subst (λ ts. IsOnWay context tenant start all now ts flush) first is_on in
+  stops telling before left those OutOfMemory first on stop = tt
+  stops telling before left those CountsExhausted first is_on stop =
+      let on : IsOnWay context tenant start all now (telling ∷ left) those = subst (λ ts. IsOnWay context tenant start all now ts those) first is_on in
       sym on.fits ∙ ap (λ b. b && (all_told context left ((told context telling (notifies_of tenant now)).notifies)).fits) stop
-  stops telling before left flush PatternNotBuilt first on stop = stop
-  stops telling before left flush StoreRefused first on stop = stop
+  stops telling before left those PatternNotBuilt first on stop = stop
+  stops telling before left those StoreRefused first on stop = stop

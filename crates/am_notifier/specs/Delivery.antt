@@ -8,6 +8,8 @@ use Rattle.am_limit.specs.Allowances.{asked}
 use Rattle.am_limit.specs.Limits.{has_room, with_limit}
 use Rattle.am_notifier.specs.Notifies.{Notifies, with_plan}
 use Rattle.am_notifier.specs.Steps.{Step, stays}
+use Rattle.am_notifier.specs.declared.next.Next.{Next}
+use Rattle.am_notifier.specs.declared.next.Next.TheVariants.{Try, Record}
 use Rattle.am_outlet.specs.Attempts.{Desk, added, after_outcome, after_tick, sending_of, without_key}
 use Rattle.am_outlet.specs.declared.attempt.Notice.{Notice}
 use Rattle.am_outlet.specs.declared.attempt.Sending.{Sending}
@@ -18,17 +20,16 @@ use Rattle.am_telling.specs.declared.telling.Telling.TheVariants.{Notify, Keep}
 abbrev pub at_desk : Desk → Notifies → Notifies
 at_desk desk notifies = with_plan (with_desk desk notifies.plan) notifies
 
--- what goes out, where something does
-abbrev pub sent : Option Sending → List Sending
-sent None = []
-sent (Some sending) = sending ∷ []
+-- a try goes out next, where there is one
+abbrev pub tried : Option Sending → List Next
+tried None = []
+tried (Some sending) = Try sending ∷ []
 
 -- the minute has a notice left: it is counted, and the first try of a new attempt goes out; else nothing does
 abbrev pub started_if : Bool → Notice → Notifies → Step
 started_if true notice notifies = record {
   notifies = at_desk (added notice notifies.plan.desk) notifies;
-  sendings = sending_of (notifies.plan.desk.used + 1) 1 notice ∷ [];
-  receipts = [];
+  next = Try (sending_of (notifies.plan.desk.used + 1) 1 notice) ∷ [];
   fits = nat_le (notifies.plan.desk.used + 1) greatest_count;
 }
 started_if false notice notifies = stays notifies
@@ -43,8 +44,7 @@ abbrev pub told : Context → Telling → Notifies → Step
 told context (Notify notice) notifies = notified context notice notifies
 told context (Keep key span) notifies = record {
   notifies = notifies;
-  sendings = [];
-  receipts = record { key = key; firing = []; resolved = []; span = span } ∷ [];
+  next = Record (record { key = key; firing = []; resolved = []; span = span }) ∷ [];
   fits = true;
 }
 

@@ -27,7 +27,7 @@ use Rattle.am_telling.specs.declared.telling.Telling.{Telling}
 use Rattle.am_context.specs.declared.context.Context.{Context}
 use Rattle.am_config.specs.Configuration.{Configuration}
 use Rattle.am_timer.specs.declared.key.FlushKey.{FlushKey}
-use Rattle.am_notifier.specs.declared.flushing.Flush.{Flush}
+use Rattle.am_notifier.specs.declared.next.Next.{Next}
 use Rattle.am_notifier.specs.Delivery.{MayTell, told}
 use Rattle.am_notifier.specs.Notifies.{Notifies, with_plan}
 use Rattle.am_notifier.specs.Steps.{Step, each, stays}
@@ -84,10 +84,9 @@ flushed_due context c held muted key notifies =
     flushed_if (is_due context.moment (flush_due notifies.plan.paces notifies.plan.grouped key)) context c held muted
     (group_in key) notifies
 
--- a flush says what a step comes to
-pub record Says (flush : Flush) (step : Step) : Type 0 where
-  pub sendings : flush.sendings.items ≡ step.sendings
-  pub receipts : flush.receipts.items ≡ step.receipts
+-- those come next where a step is made, in which no count passes the greatest
+pub record Says (those : List Next) (step : Step) : Type 0 where
+  pub next : those ≡ step.next
   pub fits : step.fits ≡ true
 
 -- none of these finds an attempt of its key open, where they are told one after the other

@@ -16,14 +16,20 @@ use Rattle.am_muting.specs.Failing.{HasUnanswered}
 use Rattle.am_notifier.specs.Notifies.{Notifies, with_plan}
 use Rattle.am_route.specs.Asked.{route_matchers}
 use Rattle.am_planning.specs.Planning.{paces_of, planned_alerts}
+use Rattle.am_planning.specs.declared.pace.Pace.{Pace}
 
 -- the label sets of the alerts, each with the moment since which it is held
 abbrev pub sinces_in : Plan → List (List Label × ℕ)
 sinces_in plan = map (λ a. (a.0, a.1.since)) plan.grouped.alerts
 
--- the plan by a configuration, where alerts are held since these moments; flushes and attempts stay
-abbrev pub planned_by : Configuration → List (List Label × ℕ) → Plan → Plan
-planned_by c sinces plan = rebuilt (paces_of c 0) (planned_alerts c sinces) plan
+-- how the groups of each route wait at a position; without one no route has a pace, so that no group is ever due
+abbrev pub paces_at : Configuration → (position : Option ℕ) → List Pace
+paces_at c None = []
+paces_at c (Some position) = paces_of c position
+
+-- the plan by a configuration at a position, where alerts are held since these moments; flushes and attempts stay
+abbrev pub planned_by : Configuration → (position : Option ℕ) → List (List Label × ℕ) → Plan → Plan
+planned_by c position sinces plan = rebuilt (paces_at c position) (planned_alerts c sinces) plan
 
 -- the moment since which an alert is held that comes now: the least at which it came
 abbrev pub since_by : ℕ → Option ℕ → ℕ
@@ -40,9 +46,9 @@ abbrev pub all_came : ℕ → List (List Label) → List (List Label × ℕ) →
 all_came moment [] sinces = sinces
 all_came moment (labels ∷ sets) sinces = all_came moment sets (came moment labels sinces)
 
--- a plan goes by a configuration
-pub record IsPlannedBy (c : Configuration) (plan : Plan) : Type 0 where
-  pub paces : plan.paces ≡ paces_of c 0
+-- a plan goes by a configuration at a position
+pub record IsPlannedBy (c : Configuration) (position : Option ℕ) (plan : Plan) : Type 0 where
+  pub paces : plan.paces ≡ paces_at c position
   pub groups : plan.grouped.alerts ≡ planned_alerts c (sinces_in plan)
 
 -- an alert of this label set is known
@@ -74,12 +80,19 @@ abbrev pub with_met : Configuration → ℕ → List (List Label) → Plan → P
 with_met c moment sets plan = with_alerts (met c moment sets plan.grouped.alerts) plan
 
 -- a plan once alerts of these label sets came, where it goes by the configuration from then on
-abbrev pub followed : Configuration → ℕ → List (List Label) → Plan → Plan
-followed c moment sets plan = planned_by c (all_came moment sets (sinces_in plan)) plan
+abbrev pub followed : Configuration → (position : Option ℕ) → ℕ → List (List Label) → Plan → Plan
+followed c position moment sets plan = planned_by c position (all_came moment sets (sinces_in plan)) plan
 
 -- .. of a tenant
 abbrev pub follows : Configuration → ℕ → List (List Label) → Notifies → Notifies
-follows c moment sets notifies = with_plan (followed c moment sets notifies.plan) notifies
+follows c moment sets notifies = with_plan (followed c notifies.position moment sets notifies.plan) notifies
+
+-- .. once it is at this position
+abbrev pub positioned : Configuration → (position : Option ℕ) → Notifies → Notifies
+positioned c position notifies = record notifies {
+  plan = planned_by c position (sinces_in notifies.plan) notifies.plan;
+  position = position;
+}
 
 -- a pattern of the routes gave no answer, and there were alerts to plan: one that wasn't known came, or all are planned
 -- anew

@@ -1,3 +1,5 @@
+-- the positions of an instance
+pub mod Positions
 -- what is planned of a tenant
 pub mod Notifies
 -- what something comes to

@@ -1,30 +1,25 @@
--- What something comes to: what is planned then, what goes out, and what is to be recorded.
+-- What something comes to: what is planned then, and what comes next.
 use Rattle.std.specs.Prelude.{ℕ, Bool, true, ◌&&◌, List, [], ◌∷◌, ◌++◌}
-use Rattle.am_context.specs.declared.receipt.Receipt.{Receipt}
 use Rattle.am_notifier.specs.Notifies.{Makes, Notifies}
+use Rattle.am_notifier.specs.declared.next.Next.{Next}
 use Rattle.am_notifier.specs.declared.notifier.Notifier.{Notifier}
-use Rattle.am_outlet.specs.declared.attempt.Sending.{Sending}
 
--- what is planned afterwards, the tries that go out and what is to be recorded, in order, and whether no count passes
--- the
--- greatest
+-- what is planned afterwards, what comes next, in order, and whether no count passes the greatest
 pub record Step : Type 0 where
   pub notifies : Notifies
-  pub sendings : List Sending
-  pub receipts : List Receipt
+  pub next : List Next
   pub fits : Bool
 
 -- nothing happens
 abbrev pub stays : Notifies → Step
-stays notifies = record { notifies = notifies; sendings = []; receipts = []; fits = true }
+stays notifies = record { notifies = notifies; next = []; fits = true }
 
 -- one thing after the other
 abbrev pub in_turn : Step → (Notifies → Step) → Step
-in_turn first next = record {
-  notifies = (next first.notifies).notifies;
-  sendings = first.sendings ++ (next first.notifies).sendings;
-  receipts = first.receipts ++ (next first.notifies).receipts;
-  fits = first.fits && (next first.notifies).fits;
+in_turn first then = record {
+  notifies = (then first.notifies).notifies;
+  next = first.next ++ (then first.notifies).next;
+  fits = first.fits && (then first.notifies).fits;
 }
 
 -- for each of a list, in its order

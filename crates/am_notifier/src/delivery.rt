@@ -1,13 +1,13 @@
 //! Notices on their way.
 
-ghost use Rattle.std.specs.Prelude.{◌≡◌, ◌++◌, [], true, IfErr, IfOk, OnOk};
+ghost use Rattle.std.specs.Prelude.{◌≡◌, ◌++◌, true, IfErr, IfOk, OnOk};
 ghost use Rattle.am_context.specs.Stopping.{StopsPast};
-ghost use Rattle.am_notifier.specs.Delivery.{IsUntried, MayTell, notified, sent, told, with_outcome, with_retry};
+ghost use Rattle.am_notifier.specs.Delivery.{IsUntried, MayTell, notified, told, tried, with_outcome, with_retry};
 ghost use Rattle.am_notifier.specs.Notifies.{Makes, notifies_of};
 ghost use Rattle.am_notifier.specs.Steps.{Does};
 ghost use Rattle.am_outlet.specs.Attempts.{next_of, outcome_of};
 
-use crate::flushing::Flush;
+use crate::next::Next;
 use crate::notifier::Notifier;
 use crate::sets::no_sets;
 use am_context::{Context, Receipt};
@@ -19,11 +19,9 @@ use am_text::Moment;
 use std::alloc::{AllocError, Global};
 
 impl Notifier {
-    /// Tells a webhook of a tenant what a flush says, and adds to the flush the first try of a notice that goes out:
-    /// none where
-    /// its minute has no notice left; or what is to be recorded, where there is nothing to tell. No attempt of the
-    /// notice's key
-    /// may be open.
+    /// Tells a webhook of a tenant what a flush says, and adds what comes next: the first try of a notice, unless its
+    /// minute has no notice left; or what is to be recorded, where there is nothing to tell. No attempt of the notice's
+    /// key may be open.
     ///
     /// # Errors
     /// `CountsExhausted` where a count would pass 2^62, or out of memory.
@@ -33,28 +31,26 @@ impl Notifier {
         tenant: &TenantName,
         context: &Context,
         telling: Telling,
-        flush: &mut Flush,
+        next: &mut Vec<Next>,
     ) -> Result<(), Fault>
         requires { MayTell telling (notifies_of tenant.now self.old) }
         ensures does { OnOk result (Does tenant.now (told context.now telling) self.old self.new) }
-        ensures sendings { OnOk result (flush.new.sendings.items
-            ≡ flush.old.sendings.items ++ (told context.now telling (notifies_of tenant.now self.old)).sendings) }
-        ensures receipts { OnOk result (flush.new.receipts.items
-            ≡ flush.old.receipts.items ++ (told context.now telling (notifies_of tenant.now self.old)).receipts) }
+        ensures next { OnOk result (next.new.items
+            ≡ next.old.items ++ (told context.now telling (notifies_of tenant.now self.old)).next) }
         ensures fits { OnOk result ((told context.now telling (notifies_of tenant.now self.old)).fits ≡ true) }
         ensures fault { IfErr result (StopsPast (told context.now telling (notifies_of tenant.now self.old)).fits) }
     {
         match telling {
             Telling::Notify(notice) => {
                 let sending = self.notify(alloc, tenant, context, notice)?;
-                add(&mut flush.sendings, sending)?;
+                add(next, sending)?;
             }
-            Telling::Keep { key, span } => flush.receipts.push(Receipt {
+            Telling::Keep { key, span } => next.push(Next::Record(Receipt {
                 key,
                 firing: no_sets(alloc),
                 resolved: no_sets(alloc),
                 span,
-            })?,
+            }))?,
         }
         Ok(())
     }
@@ -69,9 +65,8 @@ impl Notifier {
     ) -> Result<Option<Sending>, Fault>
         requires { IsUntried notice.key (notifies_of tenant.now self.old) }
         ensures does { OnOk result (Does tenant.now (notified context.now notice) self.old self.new) }
-        ensures sendings { IfOk result (λ sending. sent sending
-            ≡ (notified context.now notice (notifies_of tenant.now self.old)).sendings) }
-        ensures receipts { OnOk result ((notified context.now notice (notifies_of tenant.now self.old)).receipts ≡ []) }
+        ensures next { IfOk result (λ sending. tried sending
+            ≡ (notified context.now notice (notifies_of tenant.now self.old)).next) }
         ensures fits { OnOk result ((notified context.now notice (notifies_of tenant.now self.old)).fits ≡ true) }
         ensures fault { IfErr result (StopsPast (notified context.now notice (notifies_of tenant.now self.old)).fits) }
     {
@@ -123,12 +118,12 @@ impl Notifier {
     }
 }
 
-// Adds what goes out, where something does.
-fn add(sendings: &mut Vec<Sending>, sending: Option<Sending>) -> Result<(), AllocError>
-    ensures { OnOk result (sendings.new.items ≡ sendings.old.items ++ sent sending) }
+// Adds a try that goes out, where one does.
+fn add(next: &mut Vec<Next>, sending: Option<Sending>) -> Result<(), AllocError>
+    ensures { OnOk result (next.new.items ≡ next.old.items ++ tried sending) }
 {
     if let Some(sending) = sending {
-        sendings.push(sending)?;
+        next.push(Next::Try(sending))?;
     }
     Ok(())
 }

@@ -9,21 +9,21 @@ ghost use Rattle.am_members.specs.Members.{is_bare};
 ghost use Rattle.am_notifier.specs.Delivery.{told};
 ghost use Rattle.am_notifier.specs.Flushing.{MayTellAll, Says, alerts_but, begun, flushed, flushed_due, sent_among};
 ghost use Rattle.am_notifier.specs.Flushing.{without_keys};
+ghost use Rattle.am_notifier.specs.Following.{paces_at};
 ghost use Rattle.am_notifier.specs.Notifies.{Makes, notifies_of};
 ghost use Rattle.am_notifier.specs.Steps.{Does, each};
 ghost use Rattle.am_outlet.specs.Attempts.{is_due};
-ghost use Rattle.am_planning.specs.Planning.{paces_of};
 ghost use Rattle.am_telling.specs.Tellings.{tellings};
 ghost use Rattle.am_tenant.specs.Names.{same};
 
+use crate::next::Next;
 use crate::notifier::Notifier;
 use crate::unmuting::unmuted;
 use am_agenda::Agenda;
 use am_config::Config;
-use am_context::{Context, Receipt};
+use am_context::Context;
 use am_item::{EntryKey, Fault, Held, LabelSets};
 use am_members::Group;
-use am_outlet::Sending;
 use am_telling::{Telling, tell, webhook_keys};
 use am_tenant::TenantName;
 use am_text::{Moment, Text};
@@ -41,32 +41,10 @@ pub struct Basis<'a> {
     pub muted: &'a LabelSets,
 }
 
-/// What comes of a flush.
-#[derive(Drop)]
-pub struct Flush {
-    /// The tries that go out, in order.
-    pub sendings: Vec<Sending>,
-    /// What is to be recorded, in order.
-    pub receipts: Vec<Receipt>,
-}
-
-impl Flush {
-    /// Nothing.
-    pub(crate) fn new(alloc: Global) -> Flush
-        ensures sendings { result.sendings.items ≡ [] }
-        ensures receipts { result.receipts.items ≡ [] }
-    {
-        Flush {
-            sendings: Vec::new(alloc),
-            receipts: Vec::new(alloc),
-        }
-    }
-}
-
 impl Notifier {
     /// Flushes a group of a tenant, where its flush is due: the flush is noted, and the webhooks of the group's
     /// receiver are
-    /// told what they weren't told before.
+    /// told what they weren't told before. Gives what comes next, in the order of the webhooks.
     ///
     /// # Errors
     /// `CountsExhausted` where a count would pass 2^62, or out of memory.
@@ -77,11 +55,12 @@ impl Notifier {
         context: &Context,
         key: &FlushKey,
         basis: &Basis,
-    ) -> Result<Flush, Fault>
-        requires planned { (notifies_of tenant.now self.old).plan.paces ≡ paces_of basis.now.config.now 0 }
+    ) -> Result<Vec<Next>, Fault>
+        requires planned { (notifies_of tenant.now self.old).plan.paces
+            ≡ paces_at basis.now.config.now (notifies_of tenant.now self.old).position }
         ensures does { OnOk result (Does tenant.now
             (flushed_due context.now basis.now.config.now basis.now.held.now basis.now.muted.now key.now) self.old self.new) }
-        ensures says { IfOk result (λ flush. Says flush
+        ensures says { IfOk result (λ next. Says next.items
             (flushed_due context.now basis.now.config.now basis.now.held.now basis.now.muted.now key.now (notifies_of tenant.now self.old))) }
         ensures fault { IfErr result (StopsPast
             (flushed_due context.now basis.now.config.now basis.now.held.now basis.now.muted.now key.now (notifies_of tenant.now self.old)).fits) }
@@ -91,7 +70,7 @@ impl Notifier {
             labels: key.labels.copy()?,
         };
         if !self.is_due(tenant, context.moment, &key.receiver, &group) {
-            return Ok(Flush::new(alloc));
+            return Ok(Vec::new(alloc));
         }
         self.flush(alloc, tenant, context, &group, basis)
     }
@@ -117,12 +96,12 @@ impl Notifier {
         context: &Context,
         group: &Group,
         basis: &Basis,
-    ) -> Result<Flush, Fault>
+    ) -> Result<Vec<Next>, Fault>
         requires members { is_bare (members group.now (notifies_of tenant.now self.old).plan.grouped.alerts) ≡ false }
         requires route { group.now.route < length basis.now.config.now.routes }
         ensures does { OnOk result (Does tenant.now
             (flushed context.now basis.now.config.now basis.now.held.now basis.now.muted.now group.now) self.old self.new) }
-        ensures says { IfOk result (λ flush. Says flush
+        ensures says { IfOk result (λ next. Says next.items
             (flushed context.now basis.now.config.now basis.now.held.now basis.now.muted.now group.now (notifies_of tenant.now self.old))) }
         ensures fault { IfErr result (StopsPast
             (flushed context.now basis.now.config.now basis.now.held.now basis.now.muted.now group.now (notifies_of tenant.now self.old)).fits) }
@@ -181,19 +160,19 @@ impl Notifier {
         tenant: &TenantName,
         context: &Context,
         tellings: Vec<Telling>,
-    ) -> Result<Flush, Fault>
+    ) -> Result<Vec<Next>, Fault>
         requires { MayTellAll context.now tellings.items (notifies_of tenant.now self.old) }
         ensures does { OnOk result (Does tenant.now (each (told context.now) tellings.items) self.old self.new) }
-        ensures says { IfOk result (λ flush. Says flush
+        ensures says { IfOk result (λ next. Says next.items
             (each (told context.now) tellings.items (notifies_of tenant.now self.old))) }
         ensures fault { IfErr result (StopsPast
             (each (told context.now) tellings.items (notifies_of tenant.now self.old)).fits) }
     {
-        let mut flush = Flush::new(alloc);
+        let mut next = Vec::new(alloc);
         for telling in tellings {
-            self.tell(alloc, tenant, context, telling, &mut flush)?;
+            self.tell(alloc, tenant, context, telling, &mut next)?;
         }
-        Ok(flush)
+        Ok(next)
     }
 }
 

@@ -1,7 +1,7 @@
 //! Alerts that came.
 
 ghost use Rattle.std.specs.Prelude.{◌≡◌, ◌⊎◌, ◌<◌, ℕ, List, [], ◌∷◌, false, true, length, IfErr, IfOk, OnOk};
-ghost use Rattle.std.specs.Prelude.{if◌then◌else◌};
+ghost use Rattle.std.specs.Prelude.{option_map, if◌then◌else◌};
 ghost use Rattle.std.specs.List.{list_any};
 ghost use Rattle.std.specs.List.Sorted.{IsStrictlySortedBy};
 ghost use Rattle.std.specs.Map.{keys_of};
@@ -11,9 +11,10 @@ ghost use Rattle.am_labels.specs.Labels.{labels_cmp};
 ghost use Rattle.am_match.specs.Matchers.{patterns_of};
 ghost use Rattle.am_members.specs.Grouped.{put_all};
 ghost use Rattle.am_muting.specs.Failing.{HasUnanswered};
-ghost use Rattle.am_notifier.specs.Following.{FailsFollowing, IsPlannedBy, all_sooner, followed, follows, is_known};
-ghost use Rattle.am_notifier.specs.Following.{is_new_known, planned_by, sinces_in, unknown_of, with_met};
+ghost use Rattle.am_notifier.specs.Following.{FailsFollowing, IsPlannedBy, all_sooner, follows, is_known, is_new_known};
+ghost use Rattle.am_notifier.specs.Following.{paces_at, positioned, planned_by, sinces_in, unknown_of, with_met};
 ghost use Rattle.am_notifier.specs.Notifies.{Makes, notifies_of};
+ghost use Rattle.am_notifier.specs.Positions.{number_of};
 ghost use Rattle.am_pattern.specs.Asking.{Asked};
 ghost use Rattle.am_planning.specs.Planning.{planned_alerts};
 ghost use Rattle.am_route.specs.Asked.{route_matchers};
@@ -21,15 +22,16 @@ ghost use Rattle.am_tenant.specs.Names.{same};
 ghost use Rattle.am_text.specs.Outcome.{ForRefused};
 
 use crate::notifier::Notifier;
+use crate::position::Position;
 use am_agenda::Agenda;
 use am_config::Config;
 use am_context::Came;
 use am_labels::LabelSet;
 use am_members::{Known, copy_groups};
 use am_pattern::{PatternCache, PatternRefusal};
-use am_planning::{paces_of, plan_alerts};
+use am_planning::{Pace, paces_of, plan_alerts};
 use am_tenant::TenantName;
-use am_text::{Failure, Moment};
+use am_text::{Failure, Listed, Moment};
 use std::alloc::{AllocError, Global};
 
 impl Notifier {
@@ -52,47 +54,50 @@ impl Notifier {
     ) -> Result<(), Failure<PatternRefusal>>
         requires rising { IsStrictlySortedBy labels_cmp (keys_of (notifies_of tenant.now self.old).plan.grouped.alerts) }
         requires new { is_new_known came.sets.items (notifies_of tenant.now self.old).plan.grouped.alerts ≡ false }
-        requires planned { came.is_configured ≡ false → IsPlannedBy config.now (notifies_of tenant.now self.old).plan }
+        requires planned { came.is_configured ≡ false →
+            IsPlannedBy config.now (notifies_of tenant.now self.old).position (notifies_of tenant.now self.old).plan }
         ensures plans { OnOk result (Makes tenant.now (follows config.now moment (keys_of came.sets.items)) self.old self.new) }
         ensures asked { Asked result cache.old cache.new }
         ensures failure { IfErr result (λ failure. ForRefused failure (λ refusal.
             FailsFollowing cache.new.refused config.now moment came.is_configured (keys_of came.sets.items)
             (notifies_of tenant.now self.old).plan)) }
     {
+        let Came {
+            sets,
+            is_configured,
+        } = came;
         let agenda = &mut self.agenda;
-        follow(alloc, agenda, tenant, moment, came, config, cache)
+        meet(alloc, agenda, tenant, moment, sets, config, cache)?;
+        if is_configured {
+            let position = self.positions.of(tenant);
+            plan_all(alloc, agenda, tenant, config, position, cache)
+        } else {
+            Ok(())
+        }
     }
-}
 
-// What is planned of a tenant once alerts of these label sets came at a moment, each with whether it is new, where this
-// configuration is in use: where the configuration is new, all is planned anew.
-fn follow(
-    alloc: Global,
-    agenda: &mut Agenda,
-    tenant: &TenantName,
-    moment: Moment,
-    came: Came,
-    config: &Config,
-    cache: &mut PatternCache,
-) -> Result<(), Failure<PatternRefusal>>
-    requires rising { IsStrictlySortedBy labels_cmp (keys_of (plan_of tenant.now agenda.old).grouped.alerts) }
-    requires new { is_new_known came.sets.items (plan_of tenant.now agenda.old).grouped.alerts ≡ false }
-    requires planned { came.is_configured ≡ false → IsPlannedBy config.now (plan_of tenant.now agenda.old) }
-    ensures plans { OnOk result ((t : List ℕ) → plan_of t agenda.new ≡ (if same t tenant.now
-        then followed config.now moment (keys_of came.sets.items) (plan_of t agenda.old) else plan_of t agenda.old)) }
-    ensures asked { Asked result cache.old cache.new }
-    ensures failure { IfErr result (λ failure. ForRefused failure (λ refusal.
-        FailsFollowing cache.new.refused config.now moment came.is_configured (keys_of came.sets.items)
-        (plan_of tenant.now agenda.old))) }
-{
-    let Came {
-        sets,
-        is_configured,
-    } = came;
-    meet(alloc, agenda, tenant, moment, sets, config, cache)?;
-    if is_configured {
-        plan_all(alloc, agenda, tenant, config, cache)
-    } else {
+    /// Has the groups of a tenant wait by the position of the instance among the tenant's replicas from now on; without
+    /// one, none of them is flushed. All that is planned is planned anew, by the configuration that is in use.
+    ///
+    /// # Errors
+    /// Where there are alerts and a pattern of the routes gives no answer; or out of memory.
+    pub fn set_position(
+        &mut self,
+        alloc: Global,
+        tenant: &TenantName,
+        position: Option<Position>,
+        config: &Config,
+        cache: &mut PatternCache,
+    ) -> Result<(), Failure<PatternRefusal>>
+        ensures plans { OnOk result
+            (Makes tenant.now (positioned config.now (option_map number_of position)) self.old self.new) }
+        ensures asked { Asked result cache.old cache.new }
+        ensures failure { IfErr result (λ failure. ForRefused failure (λ refusal.
+            (0 < length (notifies_of tenant.now self.old).plan.grouped.alerts)
+            × HasUnanswered cache.new.refused (patterns_of (route_matchers config.now.routes)))) }
+    {
+        plan_all(alloc, &mut self.agenda, tenant, config, position, cache)?;
+        self.positions.set(tenant, position)?;
         Ok(())
     }
 }
@@ -218,24 +223,40 @@ fn plan_new(
     Ok(())
 }
 
-// Plans all alerts of a tenant anew, by the configuration.
+// Plans all alerts of a tenant anew, by the configuration and a position.
 fn plan_all(
     alloc: Global,
     agenda: &mut Agenda,
     tenant: &TenantName,
     config: &Config,
+    position: Option<Position>,
     cache: &mut PatternCache,
 ) -> Result<(), Failure<PatternRefusal>>
     ensures plans { OnOk result ((t : List ℕ) → plan_of t agenda.new ≡ (if same t tenant.now
-        then planned_by config.now (sinces_in (plan_of t agenda.old)) (plan_of t agenda.old) else plan_of t agenda.old)) }
+        then planned_by config.now (option_map number_of position) (sinces_in (plan_of t agenda.old)) (plan_of t agenda.old)
+        else plan_of t agenda.old)) }
     ensures asked { Asked result cache.old cache.new }
     ensures failure { IfErr result (λ failure. ForRefused failure
         (λ refusal. (0 < length (plan_of tenant.now agenda.old).grouped.alerts)
         × HasUnanswered cache.new.refused (patterns_of (route_matchers config.now.routes)))) }
 {
     let sinces = agenda.sinces(alloc, tenant)?;
-    let paces = paces_of(alloc, config, 0)?;
+    let paces = paces_at(alloc, config, position)?;
     let planned = plan_known(alloc, config, sinces, cache)?;
     agenda.rebuild(alloc, tenant, paces, planned)?;
     Ok(())
+}
+
+// How the groups of each route wait at a position.
+fn paces_at(
+    alloc: Global,
+    config: &Config,
+    position: Option<Position>,
+) -> Result<Listed<Pace>, AllocError>
+    ensures { IfOk result (λ paces. paces ≡ paces_at config.now (option_map number_of position)) }
+{
+    match position {
+        Some(position) => paces_of(alloc, config, position.number()),
+        None => Ok(Listed::from_vec(Vec::new(alloc))),
+    }
 }

@@ -6,6 +6,7 @@ ghost use Rattle.am_outlet.specs.Attempts.{attempt_at, awaits_outcome};
 ghost use Rattle.am_timer.specs.Queue.{due_at, timers_of};
 ghost use Rattle.am_agenda.specs.Plan.{timers_in};
 
+use crate::positions::Positions;
 use am_agenda::Agenda;
 use am_limit::Allowances;
 use am_tenant::TenantName;
@@ -13,22 +14,26 @@ use am_text::Moment;
 use am_timer::Timer;
 use std::alloc::{AllocError, Global};
 
-/// What is planned of all tenants, and how many notices each was given. It is told what came and what went of what is
-/// held,
-/// and is shown what is held where it needs that. A call for one tenant leaves what it has of the others as it was;
-/// after an
-/// error it is of use only to be cleared.
+/// What is planned of all tenants, how many notices each was given, and at which position among their replicas. It is
+/// told what came and what went of what is held, and is shown what is held where it needs that. A call for one tenant
+/// leaves what it has of the others as it was; after an error it is of use only to be cleared.
 pub struct Notifier {
     pub(crate) agenda: Agenda,
     pub(crate) allowances: Allowances,
+    pub(crate) positions: Positions,
 }
 
 // Written out, so that a crate which owns a notifier has no need to prove anew how each of its parts is dropped.
 impl Drop for Notifier {
     fn drop(self) {
-        let Notifier { agenda, allowances } = self;
+        let Notifier {
+            agenda,
+            allowances,
+            positions,
+        } = self;
         drop(agenda);
         drop(allowances);
+        drop(positions);
     }
 }
 
@@ -43,6 +48,7 @@ impl Notifier {
         Ok(Notifier {
             agenda: Agenda::new(alloc)?,
             allowances: Allowances::new(alloc),
+            positions: Positions::new(alloc),
         })
     }
 
@@ -53,6 +59,7 @@ impl Notifier {
     {
         self.agenda.clear(alloc);
         self.allowances.clear();
+        self.positions.clear();
     }
 
     /// Whether the outcome of this try of a tenant's attempt is awaited.

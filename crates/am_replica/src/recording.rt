@@ -5,7 +5,7 @@ ghost use Rattle.am_book.specs.Book.{items_of};
 ghost use Rattle.am_context.specs.Stopping.{StopsPast};
 ghost use Rattle.am_item.specs.Counts.{greatest_count};
 ghost use Rattle.am_replica.specs.Holds.{Makes, holds_of};
-ghost use Rattle.am_replica.specs.Recording.{entry_stamped, recorded, seen};
+ghost use Rattle.am_replica.specs.Recording.{entry_of, entry_stamped, recorded, seen};
 
 use crate::replica::Replica;
 use am_alert::stamp_moment;
@@ -18,7 +18,7 @@ use am_text::Moment;
 use std::alloc::Global;
 
 impl Replica {
-    /// Records that a webhook of a tenant was told.
+    /// Records that a webhook of a tenant was told, and gives the item that does.
     ///
     /// # Errors
     /// `CountsExhausted` where the count of the stamp would pass 2^62, or out of memory.
@@ -28,8 +28,9 @@ impl Replica {
         tenant: &TenantName,
         context: &Context,
         receipt: Receipt,
-    ) -> Result<(), Fault>
+    ) -> Result<SharedItem, Fault>
         ensures holds { OnOk result (Makes tenant.now (recorded context.now receipt) self.old self.new) }
+        ensures entry { IfOk result (λ entry. entry ≡ entry_of context.now receipt (holds_of tenant.now self.old)) }
         ensures fits { IfOk result (λ _. nat_le ((holds_of tenant.now self.old).stamps + 1) greatest_count ≡ true) }
         ensures fault { IfErr result (StopsPast (nat_le ((holds_of tenant.now self.old).stamps + 1) greatest_count)) }
     {
@@ -40,10 +41,11 @@ impl Replica {
         let moment = stamp_moment(context.moment, seen(&self.holdings, tenant, &receipt.key));
         let entry = entry(context, receipt, moment, used + 1);
         let entry = SharedItem::new(alloc, entry)?;
-        let items = vec![in alloc; entry]?;
+        let shared = entry.share()?;
+        let items = vec![in alloc; shared]?;
         self.holdings.put_all(alloc, tenant, items)?;
         self.counts.set(alloc, tenant, used + 1)?;
-        Ok(())
+        Ok(entry)
     }
 }
 

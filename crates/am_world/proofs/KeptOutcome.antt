@@ -1,6 +1,7 @@
 -- the outcome of a try keeps the simulation
 use Rattle.std.proofs.Common.{◌≡◌, ◌⊎◌, ◌∙◌, ℕ, ◌&&◌, nat_lt, inl, inr, Bool, true, false, is_some, List, [], ◌∷◌}
 use Rattle.std.proofs.Common.{◌++◌, Option, Some, None, refl, sym, ap, if◌then◌else◌}
+use Rattle.std.specs.List.{filter_map}
 use Rattle.std.proofs.lemmas.List.{append-nil}
 use Rattle.am_limit.specs.Books.{limits_of}
 use Rattle.am_outlet.specs.declared.outcome.Outcome.TheVariants as fate
@@ -20,7 +21,7 @@ use Rattle.am_world.specs.Outputs.{front_told}
 use Rattle.am_world.specs.Places.{SameElsewhere, awaits_at, bytes_at, here_in, local_at, refused_at, roster_of}
 use Rattle.am_world.specs.PrivateCluster.{AreAllBuilt, Course, PrivateCluster, Tried, after_all, awaits, course}
 use Rattle.am_world.specs.PrivateCluster.{fits_all, handled, here_at, put_out_at, told_all, unchanged}
-use Rattle.am_instance.specs.Reaction.{in_node, terms_of}
+use Rattle.am_instance.specs.Reaction.{in_node, output_of, terms_of}
 use Rattle.am_world.specs.Roster.{IsSameRoster, put_at}
 use Rattle.am_world.specs.Simulation.{Kept, Stands, fault_count, put_out}
 use Rattle.am_world.specs.View.{adds, watch}
@@ -29,17 +30,18 @@ use Rattle.am_world.proofs.KeptBytes.{Reacts, here_same, local_everywhere, stand
 use Rattle.am_world.proofs.RefusalSeen.{awaits_same}
 use Rattle.am_world.proofs.Turns.{local_same}
 
--- an outcome says nothing
-settled_silent : (here : NodeContext) (fate : Fate) (local : Local) → (settled here fate local).said ≡ []
+-- nothing goes out of an outcome
+settled_silent : (t : List ℕ) (i k : ℕ) (here : NodeContext) (fate : Fate) (local : Local) → filter_map (output_of t i k) (settled here fate local).said ≡ []
 unfolding recorded
-settled_silent here fate.NotOpen local = refl
-settled_silent here (fate.Delivered notice) local = refl
-settled_silent here (fate.Again due) local = refl
-settled_silent here fate.GivenUp local = refl
+settled_silent t i k here fate.NotOpen local = refl
+settled_silent t i k here (fate.Delivered notice) local = refl
+settled_silent t i k here (fate.Again due) local = refl
+settled_silent t i k here fate.GivenUp local = refl
 
-outcome_silent : (here : NodeContext) (number tries : ℕ) (status : Option ℕ) (local : Local) → (outcome here number tries status local).said ≡ []
+outcome_silent : (t : List ℕ) (i k : ℕ) (here : NodeContext) (number tries : ℕ) (status : Option ℕ) (local : Local)
+    → filter_map (output_of t i k) (outcome here number tries status local).said ≡ []
 unfolding outcome
-outcome_silent here number tries status local = settled_silent here _ _
+outcome_silent t i k here number tries status local = settled_silent t i k here _ _
 
 -- ---- one that is refused
 
@@ -134,7 +136,7 @@ tried_alone t w w' p attempt tries m status s allowed awaited local fit others c
       rw (e.0) (
         rw (ap (λ (q : Course). q.cluster) is, e.1) (stands_reacts attempt.tenant attempt.instance w w' p reaction reacts stands),
         ap (λ (q : Course). q.outputs ++ []) is
-            ∙ ap (λ said. put_out_at p attempt.instance said ++ []) (outcome_silent _ attempt.number tries status _),
+            ∙ ap (λ outputs. outputs ++ []) (outcome_silent p.tenant attempt.instance (p.roster.incarnation attempt.instance) _ attempt.number tries status _),
         ap (λ (q : Course). q.fits && true) is ∙ ap (λ b. b && true) fit,
       )
   | inr e ↦

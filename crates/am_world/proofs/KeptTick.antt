@@ -1,7 +1,7 @@
 -- a tick keeps the simulation, or stops instances
 use Rattle.std.proofs.Common.{◌≡◌, ◌≢◌, ◌∙◌, ℕ, ◌+◌, ◌-◌, ◌^◌, ◌||◌, ◌&&◌, nat_le, nat_lt, filter, inl, inr, Bool}
-use Rattle.std.proofs.Common.{true, false, List, [], ◌∷◌, ◌++◌, length, map, min, refl, sym, ap, arith, if◌then◌else◌}
-use Rattle.std.specs.List.{flat_map, list_all}
+use Rattle.std.proofs.Common.{true, false, List, [], ◌∷◌, ◌++◌, length, min, refl, sym, ap, arith, if◌then◌else◌}
+use Rattle.std.specs.List.{filter_map, flat_map, list_all}
 use Rattle.std.proofs.lemmas.Bool.{cases_Bool}
 use Rattle.std.proofs.lemmas.Bool.Decides.{nat_tests}
 use Rattle.std.proofs.lemmas.List.{append-nil}
@@ -35,14 +35,14 @@ turn_alone t m i w p s =
     rw (s.roster.up i, s.roster.incarnation i, s.local i, s.limits, s.tenant) refl
 
 put_out_alone : (t : List ℕ) (m : ℕ) (w : State) (p : PrivateCluster) → Stands t w p → (ns : List ℕ) →
-    flat_map (λ i. map (output_of t i (incarnation_at i w.instances)) (turn t m w.limits w.instances i).said) ns
+    flat_map (λ i. filter_map (output_of t i (incarnation_at i w.instances)) (turn t m w.limits w.instances i).said) ns
     ≡ flat_map (λ i. put_out_at p i (tick_at p m i).said) ns
 put_out_alone t m w p s [] = refl
 put_out_alone t m w p s (i ∷ ns) =
-    let one : map (output_of t i (incarnation_at i w.instances)) (turn t m w.limits w.instances i).said ≡ put_out_at p i (tick_at p m i).said =
-    ap (λ (r : Reaction). map (output_of t i (incarnation_at i w.instances)) r.said) (turn_alone t m i w p s)
-    ∙ ap (λ k. map (output_of t i k) (tick_at p m i).said) (s.roster.incarnation i)
-    ∙ ap (λ name. map (output_of name i (p.roster.incarnation i)) (tick_at p m i).said) (sym s.tenant) in
+    let one : filter_map (output_of t i (incarnation_at i w.instances)) (turn t m w.limits w.instances i).said ≡ put_out_at p i (tick_at p m i).said =
+    ap (λ (r : Reaction). filter_map (output_of t i (incarnation_at i w.instances)) r.said) (turn_alone t m i w p s)
+    ∙ ap (λ k. filter_map (output_of t i k) (tick_at p m i).said) (s.roster.incarnation i)
+    ∙ ap (λ name. filter_map (output_of name i (p.roster.incarnation i)) (tick_at p m i).said) (sym s.tenant) in
     rw (one, put_out_alone t m w p s ns) refl
 
 fits_alone : (t : List ℕ) (m : ℕ) (w : State) (p : PrivateCluster) → Stands t w p → (ns : List ℕ) →

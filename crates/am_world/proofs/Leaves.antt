@@ -14,7 +14,7 @@ use Rattle.am_item.specs.declared.item.Item.{Item}
 use Rattle.am_limit.specs.declared.limits.Limits.{Limits}
 use Rattle.am_rows.specs.Refusing.{MayRefuse, Medium}
 use Rattle.am_rows.specs.Rows.{has_stored, rows_of, stored_in}
-use Rattle.am_node.specs.Accepting.{StopsCommitting, accepted, kept, kept_for}
+use Rattle.am_node.specs.Accepting.{StopsCommitting, accepted}
 use Rattle.am_node.specs.Held.{StopsFor as StopsReacting}
 use Rattle.am_node.specs.Local.{Local, Reaction}
 use Rattle.am_node.specs.Retiring.{retired}

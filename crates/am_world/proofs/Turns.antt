@@ -1,8 +1,8 @@
 -- what a tick of all instances comes to, where none stopped and where some did
 use Rattle.std.proofs.Common.{◌≡◌, ◌≢◌, ◌∙◌, inl, inr, ℕ, ◌+◌, ◌<◌, ◌≤◌, ◌==◌, nat_eq, suc, Bool, true, false, not}
-use Rattle.std.proofs.Common.{◌&&◌, ◌||◌, is_some, List, [], ◌∷◌, ◌++◌, map, filter, length, Option, refl, sym, ap}
+use Rattle.std.proofs.Common.{◌&&◌, ◌||◌, is_some, List, [], ◌∷◌, ◌++◌, filter, length, Option, refl, sym, ap}
 use Rattle.std.proofs.Common.{arith, if◌then◌else◌}
-use Rattle.std.specs.List.{flat_map, list_all, list_any}
+use Rattle.std.specs.List.{cons_option, filter_map, flat_map, list_all, list_any}
 use Rattle.std.proofs.lemmas.Bool.{cases_Bool}
 use Rattle.std.proofs.lemmas.Bool.Decides.{nat_tests}
 use Rattle.std.proofs.lemmas.List.{append-nil, append_assoc}
@@ -10,7 +10,9 @@ use Rattle.std.proofs.lemmas.List.Elements.{filter-append}
 use Rattle.std.proofs.lemmas.List.Folds.{list_all-append}
 use Rattle.am_limit.specs.declared.limits.Limits.{Limits}
 use Rattle.am_node.specs.declared.dispatch.Dispatch.{Dispatch}
-use Rattle.am_node.specs.Local.{Reaction}
+use Rattle.am_node.specs.declared.report.Report.{Report}
+use Rattle.am_node.specs.declared.report.Report.TheVariants.{Try, Record}
+use Rattle.am_node.specs.Local.{Reaction, said_in}
 use Rattle.am_node.specs.Ticks.{context_for, said_of}
 use Rattle.am_tenant.specs.Names.{same}
 use Rattle.am_tenant.proofs.Same.{same_tells}
@@ -23,7 +25,7 @@ use Rattle.am_world.specs.Places.{refused_where, roster_of, up_at, up_where}
 use Rattle.am_instance.specs.Reaction.{notice, output_of, tick_if}
 use Rattle.am_world.specs.Roster.{IsSameRoster}
 use Rattle.am_world.specs.Ticks.{CauseAt, TakeTurns, TakesTurn, TicksAt}
-use Rattle.am_instance.specs.Ticks.{notice_from}
+use Rattle.am_instance.specs.Ticks.{output_from}
 use Rattle.am_world.specs.View.{Watch}
 use Rattle.am_world.proofs.Built.{keep_equal, keep_then}
 use Rattle.am_world.proofs.InstancesLemmas.{CountsFrom}
@@ -47,28 +49,48 @@ has_between n i (m ∷ ns) (first, rest) least less = elim (cases_Bool (nat_eq i
       rw h (has_between (suc n) i ns rest later (omega arith))
 ]
 
--- ---- the notices of one instance
+-- ---- what goes out of one instance
+
+-- of one thing that there is to say
+one_of_tenant : (t : List ℕ) (u : Watch) (i k : ℕ) (name : List ℕ) (report : Report) (rest : List Output) →
+    outputs_of t u (cons_option (output_of name i k (said_in report)) rest)
+    ≡ (if same t name then cons_option (output_of t i k (said_in report)) (outputs_of t u rest) else outputs_of t u rest)
+unfolding owner
+one_of_tenant t u i k name (Try sending) rest = elim (same_tells t name) [
+  | inl e ↦ rw (e.0) (ap (λ s. notice s i k sending ∷ outputs_of t u rest) (sym e.1))
+  | inr e ↦ rw (e.0) refl
+]
+one_of_tenant t u i k name (Record item) rest = elim (same_tells t name) [ inl e ↦ rw (e.0) refl | inr e ↦ rw (e.0) refl ]
 
 of_tenant : (t : List ℕ) (u : Watch) (i k : ℕ) (all : List Dispatch) →
-    outputs_of t u (map (notice_from i k) all) ≡ map (output_of t i k) (said_of t all)
-unfolding owner said_of
+    outputs_of t u (filter_map (output_from i k) all) ≡ filter_map (output_of t i k) (said_of t all)
+unfolding said_of
 of_tenant t u i k [] = refl
-of_tenant t u i k (d ∷ all) = elim (same_tells t d.tenant) [
-  | inl e ↦ rw (e.0) (
-      ap (λ s. notice s i k d.sending ∷ outputs_of t u (map (notice_from i k) all)) (sym e.1)
-      ∙ ap (λ os. notice t i k d.sending ∷ os) (of_tenant t u i k all))
-  | inr e ↦ rw (e.0) (of_tenant t u i k all)
-]
+of_tenant t u i k (d ∷ all) =
+    one_of_tenant t u i k d.tenant d.report (filter_map (output_from i k) all) ∙ elim (same_tells t d.tenant) [
+      | inl e ↦ rw (e.0) (ap (λ os. cons_option (output_of t i k (said_in d.report)) os) (of_tenant t u i k all))
+      | inr e ↦ rw (e.0) (of_tenant t u i k all)
+    ]
 
-of_front : (u : Watch) (i k : ℕ) (all : List Dispatch) → front_outputs u (map (notice_from i k) all) ≡ []
+one_of_front : (u : Watch) (i k : ℕ) (name : List ℕ) (report : Report) (rest : List Output) →
+    front_outputs u (cons_option (output_of name i k (said_in report)) rest) ≡ front_outputs u rest
 unfolding owner
+one_of_front u i k name (Try sending) rest = refl
+one_of_front u i k name (Record item) rest = refl
+
+of_front : (u : Watch) (i k : ℕ) (all : List Dispatch) → front_outputs u (filter_map (output_from i k) all) ≡ []
 of_front u i k [] = refl
-of_front u i k (d ∷ all) = of_front u i k all
+of_front u i k (d ∷ all) = one_of_front u i k d.tenant d.report (filter_map (output_from i k) all) ∙ of_front u i k all
 
-owned : (u : Watch) (i k : ℕ) (all : List Dispatch) → are_owned u (map (notice_from i k) all) ≡ true
+one_owned : (u : Watch) (i k : ℕ) (name : List ℕ) (report : Report) (rest : List Output) →
+    are_owned u (cons_option (output_of name i k (said_in report)) rest) ≡ are_owned u rest
 unfolding owner
+one_owned u i k name (Try sending) rest = refl
+one_owned u i k name (Record item) rest = refl
+
+owned : (u : Watch) (i k : ℕ) (all : List Dispatch) → are_owned u (filter_map (output_from i k) all) ≡ true
 owned u i k [] = refl
-owned u i k (d ∷ all) = owned u i k all
+owned u i k (d ∷ all) = one_owned u i k d.tenant d.report (filter_map (output_from i k) all) ∙ owned u i k all
 
 -- ---- none stopped
 
@@ -94,7 +116,7 @@ pub record AllTicked (moment : ℕ) (limits : List (List ℕ × Limits)) (first 
   pub local : (t : List ℕ) (i : ℕ) →
       local_at t i ys ≡ (if has i ns then (turn t moment limits first i).local else local_at t i xs)
   pub told : (t : List ℕ) (u : Watch) → outputs_of t u outs
-      ≡ flat_map (λ i. map (output_of t i (incarnation_at i first)) (turn t moment limits first i).said) ns
+      ≡ flat_map (λ i. filter_map (output_of t i (incarnation_at i first)) (turn t moment limits first i).said) ns
   pub fits : (t : List ℕ) → list_all (λ i. (turn t moment limits first i).fits) ns ≡ true
   pub front : (u : Watch) → front_outputs u outs ≡ []
   pub owned : (u : Watch) → are_owned u outs ≡ true
@@ -168,7 +190,7 @@ one_ticked moment limits first n ns xs mid ys before outs after counts here tick
     let k : incarnation_at n xs ≡ incarnation_at n first = incarnation_same n first xs here in
     let roster = roster_everywhere n xs mid ticks.up incarnation others in
     record {
-      outs = map (notice_from n (incarnation_at n xs)) ticks.all ++ rest.outs;
+      outs = filter_map (output_from n (incarnation_at n xs)) ticks.all ++ rest.outs;
       appended = rest.appended ∙ ap (λ os. os ++ rest.outs) ticks.outputs ∙ append_assoc before _ rest.outs;
       local = λ t i. rest.local t i ∙ elim (cases_Bool (nat_eq i n)) [
         | inl h ↦
@@ -179,9 +201,9 @@ one_ticked moment limits first n ns xs mid ys before outs after counts here tick
       told = λ t u.
           filter-append (λ output. is_tenant t (owner u output)) _ rest.outs
           ∙ ap (λ os. os ++ outputs_of t u rest.outs) (of_tenant t u n (incarnation_at n xs) ticks.all
-          ∙ ap (map (output_of t n (incarnation_at n xs))) ((ticks.does t).said ∙ ap (λ (r : Reaction). r.said) (same_turn t moment limits first xs n here))
-          ∙ ap (λ j. map (output_of t n j) (turn t moment limits first n).said) k)
-          ∙ ap (λ os. map (output_of t n (incarnation_at n first)) (turn t moment limits first n).said ++ os) (rest.told t u);
+          ∙ ap (filter_map (output_of t n (incarnation_at n xs))) ((ticks.does t).said ∙ ap (λ (r : Reaction). r.said) (same_turn t moment limits first xs n here))
+          ∙ ap (λ j. filter_map (output_of t n j) (turn t moment limits first n).said) k)
+          ∙ ap (λ os. filter_map (output_of t n (incarnation_at n first)) (turn t moment limits first n).said ++ os) (rest.told t u);
       fits = λ t. both _ _ (sym (ap (λ (r : Reaction). r.fits) (same_turn t moment limits first xs n here)) ∙ (ticks.does t).fits) (rest.fits t);
       front = λ u. filter-append (λ output. is_front (owner u output)) _ rest.outs
           ∙ rw (of_front u n (incarnation_at n xs) ticks.all) (rest.front u);
@@ -264,7 +286,7 @@ turned n moment limits true xs mid before outs turn = record {
   down = λ never. absurd cc;
   cause = λ never. absurd cc;
   idle = turn.ends.idle;
-  said = map (notice_from n (incarnation_at n xs)) turn.ends.all;
+  said = filter_map (output_from n (incarnation_at n xs)) turn.ends.all;
   appended = turn.ends.outputs;
   silent = λ none. elim (cases_Bool (up_at n xs)) [
     | inl up ↦ let never = none up in absurd cc

@@ -1,7 +1,7 @@
 -- what one tenant would have if nobody else were there: what is due is computed anew, with no queue
-use Rattle.std.specs.Prelude.{ℕ, Bool, true, ◌&&◌, ◌==◌, List, [], ◌∷◌, ◌++◌, map, Option, Some, None, is_some}
+use Rattle.std.specs.Prelude.{ℕ, Bool, true, ◌&&◌, ◌==◌, List, [], ◌∷◌, ◌++◌, Option, Some, None, is_some}
 use Rattle.std.specs.Prelude.{if◌then◌else◌}
-use Rattle.std.specs.List.{flat_map, list_all}
+use Rattle.std.specs.List.{filter_map, flat_map, list_all}
 use Rattle.am_api.specs.Patterns.{patterns_of_request}
 use Rattle.am_api.specs.Replied.{Decision}
 use Rattle.am_http.specs.declared.request.Request.{Request}
@@ -77,7 +77,7 @@ here_at p moment i =
 
 -- what the instance says, as outputs
 abbrev pub put_out_at : PrivateCluster → ℕ → List Said → List Output
-put_out_at p i said = map (output_of p.tenant i (p.roster.incarnation i)) said
+put_out_at p i said = filter_map (output_of p.tenant i (p.roster.incarnation i)) said
 
 abbrev pub unchanged : PrivateCluster → Course
 unchanged p = record { cluster = p; outputs = []; fits = true }

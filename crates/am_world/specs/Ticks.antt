@@ -1,5 +1,6 @@
 -- a tick of the instances, of all tenants
-use Rattle.std.specs.Prelude.{ℕ, ◌≡◌, ◌+◌, Bool, true, false, List, [], ◌∷◌, ◌++◌, map, None, Some, if◌then◌else◌}
+use Rattle.std.specs.Prelude.{ℕ, ◌≡◌, ◌+◌, Bool, true, false, List, [], ◌∷◌, ◌++◌, None, Some, if◌then◌else◌}
+use Rattle.std.specs.List.{filter_map}
 use Rattle.am_item.specs.declared.fault.Fault.{Fault}
 use Rattle.am_limit.specs.declared.limits.Limits.{Limits}
 use Rattle.am_node.specs.declared.dispatch.Dispatch.{Dispatch}
@@ -10,13 +11,13 @@ use Rattle.am_instance.specs.declared.instance.Instance.{Instance}
 use Rattle.am_world.specs.Places.{IsDownAt, KeepRefused, SameElsewhere, bytes_at, cause_at, incarnation_at}
 use Rattle.am_world.specs.Places.{instance_at, local_at, refused_at, up_at}
 use Rattle.am_instance.specs.Reaction.{tick_if}
-use Rattle.am_instance.specs.Ticks.{Either, notice_from}
+use Rattle.am_instance.specs.Ticks.{Either, output_from}
 
 -- the instance of a number ticked
 pub record TicksAt (i moment : ℕ) (limits : List (List ℕ × Limits)) (xs ys : List Instance)
     (before after : List Output) : Type 0 where
   pub all : List Dispatch
-  pub outputs : after ≡ before ++ map (notice_from i (incarnation_at i xs)) all
+  pub outputs : after ≡ before ++ filter_map (output_from i (incarnation_at i xs)) all
   pub does : (t : List ℕ) → IsDone
       (tick_if (up_at i xs) t (context_for i (incarnation_at i xs) moment limits t) (local_at t i xs)) (local_at t i ys)
       (said_of t all)

@@ -3,7 +3,7 @@ use Rattle.am_node.specs.Ticks.{said_of}
 use Rattle.am_node.proofs.Ticks.{said_more}
 use Rattle.am_node.proofs.ticking.add_all.Goals as goal
 
-pub loop-sending-preserved : goal.loop-sending-preserved
-loop-sending-preserved c = λ t.
+pub loop-report-preserved : goal.loop-report-preserved
+loop-report-preserved c = λ t.
     ap (λ items. said_of t items) c.in_ok-push.ensures.items
-    ∙ said_more t c.args.tenant.now c.loop-sending.all.items c.loop-sending.yielded c.in-Some.sending _ (c.loop-sending.invariant t)
+    ∙ said_more t c.args.tenant.now c.loop-report.all.items c.loop-report.yielded c.in-Some.report _ (c.loop-report.invariant t)

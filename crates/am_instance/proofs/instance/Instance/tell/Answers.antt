@@ -8,7 +8,7 @@ pub returns-clause-told : goal.returns-clause-told
 unfolding local_in
 returns-clause-told g c = record {
   all = c.in_ok-all.all.items;
-  outputs = c.in_ok-append.ensures.items ∙ ap (λ os. c.args.outputs.now.items ++ os) c.in_ok-notices.ensures;
+  outputs = c.in_ok-append.ensures.items ∙ ap (λ os. c.args.outputs.now.items ++ os) c.in_ok-told.ensures;
   ticks = c.in_ok-all.ensures.ticks;
   refused = c.in_ok-all.ensures.asked.refused;
 }
@@ -35,10 +35,10 @@ returns-in_err-all-clause-left g c clean =
     let p = err_from_is_err_and c.from_residual.result c.from_residual.ensures.1 in
     rw (p.1, p.2) (c.in_err-all.ensures.left clean (c.requires.backed.stores c.requires.up (c.tick.ensures.clean clean)))
 
-pub returns-in_err-notices-clause-left : goal.returns-in_err-notices-clause-left
+pub returns-in_err-told-clause-left : goal.returns-in_err-told-clause-left
 unfolding local_in
-returns-in_err-notices-clause-left g c clean =
-    let p = err_from_is_err_and c.from_residual-in_err-notices.result c.from_residual-in_err-notices.ensures.1 in
+returns-in_err-told-clause-left g c clean =
+    let p = err_from_is_err_and c.from_residual-in_err-told.result c.from_residual-in_err-told.ensures.1 in
     rw (p.1, p.2) (left_ending _ _ _ None _ _ _ (c.in_ok-all.ensures.left clean (c.requires.backed.stores c.requires.up (c.tick.ensures.clean clean))) _ memory_unrefused)
 
 pub returns-in_err-append-clause-left : goal.returns-in_err-append-clause-left

@@ -28,7 +28,7 @@ follow-requires-clause-planned c = λ old.
     let held = (holds_of s r.replica).held in
     let joined : (holds_of s c.accept.new.self).held ≡ all_joined held items = ap (λ h. h.held) (own s (held_then items (holds_of s r.replica)) _ _ (c.in_ok-came.ensures.holds s)) in
     let used : c.in_ok-config.config.now ≡ configuration_in (all_joined held items) = c.in_ok-config.ensures.configuration ∙ ap configuration_in joined in
-    subst (λ (k : Configuration). IsPlannedBy k (notifies_of s r.notifier).plan) (sym used)
+    subst (λ (k : Configuration). IsPlannedBy k (notifies_of s r.notifier).position (notifies_of s r.notifier).plan) (sym used)
     (still_by items (local_of s r) c.requires.planned (sym c.in_ok-came.ensures.configured ∙ old))
 
 pub follow-requires-clause-new : goal.follow-requires-clause-new

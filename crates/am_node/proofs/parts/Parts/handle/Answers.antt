@@ -6,21 +6,21 @@ use Rattle.am_node.specs.Ticks.{muted_for}
 use Rattle.am_node.proofs.Handling.{does_as, does_nothing, no_operation, no_push, tries, try_fits}
 use Rattle.am_node.proofs.parts.Parts.handle.Goals as goal
 
-pub returns-in_ok-sendings-in-Retry-clause-does : goal.returns-in_ok-sendings-in-Retry-clause-does
-returns-in_ok-sendings-in-Retry-clause-does c =
+pub returns-in_ok-reports-in-Retry-clause-does : goal.returns-in_ok-reports-in-Retry-clause-does
+returns-in_ok-reports-in-Retry-clause-does c =
     let l = local_of c.args.tenant.now c.args.self.now in
     let muted = muted_for c.args.tenant.now c.args.muted.now in
     does_as c.args.tenant.now (retried c.args.context.now c.in-Retry.number) (handled c.args.context.now muted c.args.key.now) c.args.self.now c.retry.new.self
     (sym (rw c.in-Retry.is (tries c.args.context.now muted c.in-Retry.number l))) c.in_ok-sending-in-Retry.ensures.does
 
-pub returns-in_ok-sendings-in-Retry-clause-said : goal.returns-in_ok-sendings-in-Retry-clause-said
-returns-in_ok-sendings-in-Retry-clause-said c =
+pub returns-in_ok-reports-in-Retry-clause-said : goal.returns-in_ok-reports-in-Retry-clause-said
+returns-in_ok-reports-in-Retry-clause-said c =
     let l = local_of c.args.tenant.now c.args.self.now in
     let muted = muted_for c.args.tenant.now c.args.muted.now in
-    rw (c.in-Retry.is, tries c.args.context.now muted c.in-Retry.number l) (c.in_ok-sendings-in-Retry.ensures ∙ c.in_ok-sending-in-Retry.ensures.said)
+    rw (c.in-Retry.is, tries c.args.context.now muted c.in-Retry.number l) (c.in_ok-reports-in-Retry.ensures ∙ c.in_ok-sending-in-Retry.ensures.said)
 
-pub returns-in_ok-sendings-in-Retry-clause-fits : goal.returns-in_ok-sendings-in-Retry-clause-fits
-returns-in_ok-sendings-in-Retry-clause-fits c =
+pub returns-in_ok-reports-in-Retry-clause-fits : goal.returns-in_ok-reports-in-Retry-clause-fits
+returns-in_ok-reports-in-Retry-clause-fits c =
     let l = local_of c.args.tenant.now c.args.self.now in
     let muted = muted_for c.args.tenant.now c.args.muted.now in
     rw (c.in-Retry.is, tries c.args.context.now muted c.in-Retry.number l) (try_fits c.args.context.now c.in-Retry.number l)

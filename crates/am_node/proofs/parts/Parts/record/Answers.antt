@@ -1,12 +1,14 @@
-use Rattle.std.proofs.Common.{refl}
-use Rattle.std.proofs.lemmas.Result.{IfErr-weaker, on_ok_weaker}
+use Rattle.std.proofs.Common.{◌∷◌, [], ap, refl}
+use Rattle.std.proofs.lemmas.Result.{IfErr-weaker, IfOk-weaker, on_ok_weaker}
 use Rattle.am_context.proofs.Changes.{other, own}
+use Rattle.am_item.specs.declared.item.Item.{Item}
 use Rattle.am_notifier.specs.Notifies.{notifies_of}
 use Rattle.am_replica.specs.Holds.{holds_of}
 use Rattle.am_replica.specs.Recording.{recorded as recorded_there}
 use Rattle.am_words.specs.Places.{place_of}
 use Rattle.am_node.specs.Delivery.{received, recorded}
 use Rattle.am_node.specs.Held.{local_of}
+use Rattle.am_node.specs.Local.{Records}
 use Rattle.am_node.proofs.Locals.{done, rooms, stops_for}
 use Rattle.am_node.proofs.parts.Parts.record.Goals as goal
 
@@ -29,3 +31,7 @@ pub returns-clause-fault : goal.returns-clause-fault
 unfolding local_of recorded
 returns-clause-fault c =
     IfErr-weaker c.record.result _ _ (λ fault stops. stops_for (received c.args.context.now c.args.receipt (local_of c.args.tenant.now c.args.self.now)) fault stops) c.record.ensures.fault
+
+pub returns-clause-said : goal.returns-clause-said
+unfolding local_of recorded
+returns-clause-said c = IfOk-weaker c.record.result _ _ (λ entry is. ap (λ (i : Item). Records i ∷ []) is) c.record.ensures.entry

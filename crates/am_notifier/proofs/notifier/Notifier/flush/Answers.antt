@@ -21,7 +21,7 @@ returns-clause-does c =
 pub returns-clause-says : goal.returns-clause-says
 returns-clause-says c =
     IfOk-weaker c.tell_all.result _ _
-    (λ flush is. subst (λ (s : Step). Says flush s)
+    (λ next is. subst (λ (s : Step). Says next.items s)
     (says c.args.context.now c.args.basis.now.config.now c.args.basis.now.held.now c.args.basis.now.muted.now c.args.group.now c.args.tenant.now c.args.self.now c.begin.new.self c.in_ok-tellings.tellings.items
     c.in_ok-tellings.ensures c.in_ok-begin.ensures) is)
     c.tell_all.ensures.says

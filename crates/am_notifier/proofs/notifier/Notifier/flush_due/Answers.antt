@@ -20,7 +20,7 @@ pub returns-then-not-is_due-clause-says : goal.returns-then-not-is_due-clause-sa
 returns-then-not-is_due-clause-says c =
     let none = passes_over c.args.context.now c.args.basis.now.config.now c.args.basis.now.held.now c.args.basis.now.muted.now c.args.key.now (notifies_of c.args.tenant.now c.args.self.now)
     (sym (rw c.in_ok-copy.ensures at c.is_due.ensures) ∙ c.if-not-is_due.true) in
-    rw none (record { sendings = c.new.ensures.sendings; receipts = c.new.ensures.receipts; fits = refl })
+    rw none (record { next = c.new.ensures.items; fits = refl })
 
 pub flush-requires-clause-members : goal.flush-requires-clause-members
 flush-requires-clause-members c =
@@ -32,7 +32,7 @@ pub flush-requires-clause-route : goal.flush-requires-clause-route
 flush-requires-clause-route c =
     let n = notifies_of c.args.tenant.now c.args.self.now in
     let due = due_some c.args.context.now.moment (flush_due n.plan.paces n.plan.grouped c.args.key.now) (sym (rw c.in_ok-copy.ensures at c.is_due.ensures) ∙ c.if-not-is_due.false) in
-    has_route c.args.basis.now.config.now 0 n.plan.paces n.plan.grouped c.args.key.now due.0 c.requires.planned due.1
+    has_route c.args.basis.now.config.now n.position n.plan.paces n.plan.grouped c.args.key.now due.0 c.requires.planned due.1
 
 pub returns-clause-does : goal.returns-clause-does
 returns-clause-does c =
@@ -50,7 +50,7 @@ returns-clause-says c =
     let is : flushed c.args.context.now c.args.basis.now.config.now c.args.basis.now.held.now c.args.basis.now.muted.now (record { route = c.args.key.now.route; labels = c.in_ok-copy.field-0 }) n
     ≡ flushed_due c.args.context.now c.args.basis.now.config.now c.args.basis.now.held.now c.args.basis.now.muted.now c.args.key.now n =
     rw c.in_ok-copy.ensures (sym (flushes_if c.args.context.now c.args.basis.now.config.now c.args.basis.now.held.now c.args.basis.now.muted.now c.args.key.now n (sym (rw c.in_ok-copy.ensures at c.is_due.ensures) ∙ c.if-not-is_due.false))) in
-    subst (λ (s : Step). IfOk c.flush.result (λ flush. Says flush s)) is c.flush.ensures.says
+    subst (λ (s : Step). IfOk c.flush.result (λ next. Says next.items s)) is c.flush.ensures.says
 
 pub returns-clause-fault : goal.returns-clause-fault
 returns-clause-fault c =

@@ -9,6 +9,7 @@ use Rattle.am_limit.specs.Limits.{has_room, with_limit}
 use Rattle.am_notifier.specs.Delivery.{notified}
 use Rattle.am_notifier.specs.Notifies.{notifies_of}
 use Rattle.am_notifier.specs.Steps.{Step}
+use Rattle.am_notifier.specs.declared.next.Next.TheVariants.{Try}
 use Rattle.am_notifier.proofs.Counting.{not_started, started}
 use Rattle.am_notifier.proofs.Parts.{both}
 use Rattle.am_outlet.specs.Attempts.{added}
@@ -32,19 +33,12 @@ returns-then-not-branch-clause-does c =
     (λ t apart. both (plan_of t r.agenda) _ (allowance_of t c.take.new.self) (allowance_of t r.allowances) refl
     (other t s _ _ _ apart (c.in_ok-take.ensures.each t)))
 
-pub returns-then-not-branch-clause-sendings : goal.returns-then-not-branch-clause-sendings
+pub returns-then-not-branch-clause-next : goal.returns-then-not-branch-clause-next
 unfolding notifies_of notified
-returns-then-not-branch-clause-sendings c =
+returns-then-not-branch-clause-next c =
     let room = has_room (with_limit (allowance_of c.args.tenant.now c.args.self.now.allowances) c.args.context.now.limits.notices) c.args.context.now.moment in
     let none : room ≡ false = sym c.in_ok-take.ensures.answer ∙ search rules in
-    ap (λ (x : Step). x.sendings) (sym (not_started room c.args.notice _ none))
-
-pub returns-then-not-branch-clause-receipts : goal.returns-then-not-branch-clause-receipts
-unfolding notifies_of notified
-returns-then-not-branch-clause-receipts c =
-    let room = has_room (with_limit (allowance_of c.args.tenant.now c.args.self.now.allowances) c.args.context.now.limits.notices) c.args.context.now.moment in
-    let none : room ≡ false = sym c.in_ok-take.ensures.answer ∙ search rules in
-    ap (λ (x : Step). x.receipts) (not_started room c.args.notice _ none)
+    ap (λ (x : Step). x.next) (sym (not_started room c.args.notice _ none))
 
 pub returns-then-not-branch-clause-fits : goal.returns-then-not-branch-clause-fits
 unfolding notifies_of notified
@@ -69,19 +63,12 @@ returns-in-Ok-clause-does c =
     (λ t apart. both (plan_of t c.start.new.self) (plan_of t r.agenda) (allowance_of t c.take.new.self) (allowance_of t r.allowances)
     (other t s _ _ _ apart (c.in-Ok.ensures.started t)) (other t s _ _ _ apart (c.in_ok-take.ensures.each t)))
 
-pub returns-in-Ok-clause-sendings : goal.returns-in-Ok-clause-sendings
+pub returns-in-Ok-clause-next : goal.returns-in-Ok-clause-next
 unfolding notifies_of notified
-returns-in-Ok-clause-sendings c =
+returns-in-Ok-clause-next c =
     let room = has_room (with_limit (allowance_of c.args.tenant.now c.args.self.now.allowances) c.args.context.now.limits.notices) c.args.context.now.moment in
     let some : room ≡ true = sym c.in_ok-take.ensures.answer ∙ search rules in
-    ap (λ sending. sending ∷ []) c.in-Ok.ensures.sending ∙ ap (λ (x : Step). x.sendings) (sym (started room c.args.notice _ some))
-
-pub returns-in-Ok-clause-receipts : goal.returns-in-Ok-clause-receipts
-unfolding notifies_of notified
-returns-in-Ok-clause-receipts c =
-    let room = has_room (with_limit (allowance_of c.args.tenant.now c.args.self.now.allowances) c.args.context.now.limits.notices) c.args.context.now.moment in
-    let some : room ≡ true = sym c.in_ok-take.ensures.answer ∙ search rules in
-    ap (λ (x : Step). x.receipts) (started room c.args.notice _ some)
+    ap (λ sending. Try sending ∷ []) c.in-Ok.ensures.sending ∙ ap (λ (x : Step). x.next) (sym (started room c.args.notice _ some))
 
 pub returns-in-Ok-clause-fits : goal.returns-in-Ok-clause-fits
 unfolding notifies_of notified

@@ -5,8 +5,8 @@ use Rattle.am_notifier.proofs.notifier.Notifier.tell_all.Goals as goal
 
 pub loop-telling-preserved : goal.loop-telling-preserved
 loop-telling-preserved c =
-    goes_on c.args.context.now c.args.tenant.now c.args.self.now c.args.tellings.items c.loop-telling.self c.in-Some.telling _ _ c.loop-telling.flush _ c.tell.new.self
-    c.in-Some.ensures.steps.0 c.loop-telling.invariant c.in_ok-tell.ensures.does c.in_ok-tell.ensures.fits c.in_ok-tell.ensures.sendings c.in_ok-tell.ensures.receipts
+    goes_on c.args.context.now c.args.tenant.now c.args.self.now c.args.tellings.items c.loop-telling.self c.in-Some.telling _ _ c.loop-telling.next.items c.tell.new.next.items c.tell.new.self
+    c.in-Some.ensures.steps.0 c.loop-telling.invariant c.in_ok-tell.ensures.does c.in_ok-tell.ensures.fits c.in_ok-tell.ensures.next
 
 pub returns-clause-does : goal.returns-clause-does
 returns-clause-does c =

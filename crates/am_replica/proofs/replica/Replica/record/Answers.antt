@@ -32,7 +32,7 @@ returns-clause-holds c =
     let moment = c.stamp_moment-moment.ensures ∙ ap (stamp_moment c.args.context.now.moment) c.seen.ensures in
     let made : c.entry-entry.result ≡ item =
     c.entry-entry.ensures ∙ ap (λ m. stamp m (c.used-used.result + 1)) moment ∙ ap (λ n. stamp (stamp_moment c.args.context.now.moment (seen receipt.key held)) (n + 1)) c.used-used.ensures in
-    let items : c.in_ok-items.items.items ≡ item ∷ [] = c.in_ok-items.ensures.items ∙ ap (λ i. i ∷ []) (c.in_ok-entry.ensures ∙ made) in
+    let items : c.in_ok-items.items.items ≡ item ∷ [] = c.in_ok-items.ensures.items ∙ ap (λ i. i ∷ []) (c.in_ok-shared.ensures ∙ c.in_ok-entry.ensures ∙ made) in
     one_changes s (recorded c.args.context.now receipt) (λ t. holds_of t r) _
     (both (items_of s c.put_all.new.self) (all_joined held (item ∷ [])) (count_of s c.set.new.self) (count_of s r.counts + 1)
     (own s (all_joined held c.in_ok-items.items.items) held _ (c.in_ok-put_all.ensures.joined s) ∙ ap (all_joined held) items)
@@ -40,3 +40,17 @@ returns-clause-holds c =
     (λ t apart.
     both (items_of t c.put_all.new.self) (items_of t r.holdings) (count_of t c.set.new.self) (count_of t r.counts)
     (other t s _ _ _ apart (c.in_ok-put_all.ensures.joined t)) (other t s _ _ _ apart (c.in_ok-set.ensures.counted t)))
+
+pub returns-clause-entry : goal.returns-clause-entry
+unfolding holds_of
+returns-clause-entry c =
+    let s = c.args.tenant.now in
+    let r = c.args.self.now in
+    let receipt = c.args.receipt in
+    let held = items_of s r.holdings in
+    let stamp = entry_stamped c.args.context.now receipt.key receipt.firing receipt.resolved receipt.span in
+    let item = entry_of c.args.context.now receipt (holds_of s r) in
+    let moment = c.stamp_moment-moment.ensures ∙ ap (stamp_moment c.args.context.now.moment) c.seen.ensures in
+    let made : c.entry-entry.result ≡ item =
+    c.entry-entry.ensures ∙ ap (λ m. stamp m (c.used-used.result + 1)) moment ∙ ap (λ n. stamp (stamp_moment c.args.context.now.moment (seen receipt.key held)) (n + 1)) c.used-used.ensures in
+    c.in_ok-entry.ensures ∙ made
