@@ -22,7 +22,7 @@ unfolding local_in
 returns-in_err-keep-clause-cause g c =
     let p = err_from_is_err_and c.from_residual-in_err-keep.result c.from_residual-in_err-keep.ensures.1 in
     rw (p.1, p.2) (stops_accepting _ _ _ c.args.request.now _ _ _ _ _ (decision_of c.in_ok-decided.decided) c.in_ok-decided.ensures.decided.decision c.in_ok-decided.ensures.decided.built
-    (c.decide.ensures.local c.args.request.now.tenant) (rw c.in_ok-items.ensures at c.in_err-keep.ensures.fault))
+    (c.decide.ensures.local c.args.request.now.tenant) (rw c.in_ok-items.ensures at c.in_err-keep.ensures.cause))
 
 pub returns-clause-brings : goal.returns-clause-brings
 unfolding local_in
@@ -74,7 +74,7 @@ returns-in_err-keep-clause-left g c clean =
     (λ t. local_in t c.args.self.now) (λ t. local_in t c.decide.new.self)
     (situation c.args.self.now c.args.occasion.now c.args.request.now) (decision_of c.in_ok-decided.decided) _
     (g.R.Rows.medium c.args.store.now) (g.R.Rows.medium c.keep.new.store) (g.R.Rows.pairs c.keep.new.store) refl c.decide.ensures.local c.in_ok-decided.ensures.decided.decision
-    (stores_some _ c.keep.new.self.cache.refused c.in_ok-decided.decided.items.items (local_in c.args.request.now.tenant c.decide.new.self) (rw c.in_ok-items.ensures at c.in_err-keep.ensures.fault)) (rw c.in_ok-items.ensures at (c.in_err-keep.ensures.left clean)))
+    (stores_some _ c.keep.new.self.cache.refused c.in_ok-decided.decided.items.items (local_in c.args.request.now.tenant c.decide.new.self) (rw c.in_ok-items.ensures at c.in_err-keep.ensures.cause)) (rw c.in_ok-items.ensures at (c.in_err-keep.ensures.left clean)))
 
 pub returns-in_err-push-clause-left : goal.returns-in_err-push-clause-left
 unfolding local_in

@@ -1,6 +1,7 @@
 use Rattle.std.proofs.Common.{◌≡◌, ◌∙◌, length, sym}
 use Rattle.std.proofs.lemmas.Result.{err_from_is_err_and}
 use Rattle.am_context.proofs.Changes.{own}
+use Rattle.am_node.specs.Held.{local_of}
 use Rattle.am_instance.specs.Instance.{local_in}
 use Rattle.am_instance.proofs.Leaves.{counted_alike, kept_steps, left_alone, left_kept, memory_unrefused, stops_kept}
 use Rattle.am_instance.proofs.instance.Instance.keep.Goals as goal
@@ -17,7 +18,7 @@ accept-requires g c = c.requires.backed.opens c.requires.up
 pub returns-clause-local : goal.returns-clause-local
 unfolding local_in
 returns-clause-local g c t =
-    kept_steps c.args.tenant.now c.args.moment c.len-more.result c.args.items.items c.args.drawn t (local_in t c.args.self.now) (local_in t c.count.new.self) (local_in t c.accept.new.self)
+    kept_steps c.args.tenant.now c.args.moment c.len-more.result c.args.items.items c.args.drawn t (local_in t c.args.self.now) (local_of t c.count.new.self) (local_of t c.accept.new.self)
     (c.len-more.ensures ∙ c.args.items.ok.0) (c.in_ok-count.ensures t) (c.in_ok-accept.ensures.does t)
 
 pub returns-in_err-accept-clause-cause : goal.returns-in_err-accept-clause-cause
@@ -49,7 +50,7 @@ pub returns-in_err-accept-clause-left : goal.returns-in_err-accept-clause-left
 unfolding local_in
 returns-in_err-accept-clause-left g c clean =
     let p = err_from_is_err_and c.from_residual-in_err-accept.result c.from_residual-in_err-accept.ensures.1 in
-    rw (p.1, p.2) (left_kept c.args.tenant.now c.args.moment c.len-more.result c.args.items.items c.args.drawn (λ t. local_in t c.args.self.now) (λ t. local_in t c.count.new.self) _ _ _ _ _
+    rw (p.1, p.2) (left_kept c.args.tenant.now c.args.moment c.len-more.result c.args.items.items c.args.drawn (λ t. local_in t c.args.self.now) (λ t. local_of t c.count.new.self) _ _ _ _ _
     (c.len-more.ensures ∙ c.args.items.ok.0) c.in_ok-count.ensures
     (c.in_err-accept.ensures.left clean
     (λ t. c.requires.backed.stores c.requires.up (c.accept.ensures.clean clean) t
@@ -58,7 +59,7 @@ returns-in_err-accept-clause-left g c clean =
 pub returns-clause-left : goal.returns-clause-left
 unfolding local_in
 returns-clause-left g c clean =
-    left_kept c.args.tenant.now c.args.moment c.len-more.result c.args.items.items c.args.drawn (λ t. local_in t c.args.self.now) (λ t. local_in t c.count.new.self) _ _ _ _ _
+    left_kept c.args.tenant.now c.args.moment c.len-more.result c.args.items.items c.args.drawn (λ t. local_in t c.args.self.now) (λ t. local_of t c.count.new.self) _ _ _ _ _
     (c.len-more.ensures ∙ c.args.items.ok.0) c.in_ok-count.ensures
     (c.in_ok-accept.ensures.left clean
     (λ t. c.requires.backed.stores c.requires.up (c.accept.ensures.clean clean) t
