@@ -1,5 +1,5 @@
 -- Each message that an instance sends has the next count there, and is of its number and incarnation.
-use Rattle.std.proofs.Common.{◌≡◌, ℕ, ◌+◌, Bool, true, false, ◌&&◌, not, List, [], ◌∷◌, ◌++◌, length, map, Option, Some, None, is_none, if◌then◌else◌, refl, sym, ap, subst}
+use Rattle.std.proofs.Common.{◌≡◌, ℕ, ◌+◌, Bool, true, false, ◌&&◌, not, List, [], ◌∷◌, ◌++◌, length, Option, Some, None, is_none, if◌then◌else◌, refl, sym, ap, subst}
 use Rattle.std.specs.List.{filter_map}
 use Rattle.am_http.specs.declared.request.Request.{Request}
 use Rattle.am_api.specs.Replied.{Decision}

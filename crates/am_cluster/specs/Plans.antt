@@ -1,6 +1,6 @@
 -- What an instance has planned of a tenant. Nothing of it is stored: it is computed from what is held, by the
 -- configuration that is in use and by the position of the instance, whenever something is asked of it.
-use Rattle.std.specs.Prelude.{ℕ, List, [], Option, Some, None, if◌then◌else◌}
+use Rattle.std.specs.Prelude.{ℕ, Option, Some, None, if◌then◌else◌}
 use Rattle.std.specs.List.{filter_map}
 use Rattle.am_agenda.specs.Plan.{Plan}
 use Rattle.am_current.specs.Current.{configuration_in}

@@ -1,28 +1,20 @@
 -- What is left in a store: where nothing was put to it, where items were, and at a place.
-use Rattle.std.proofs.Common.{◌≡◌, ◌∙◌, ◌⊎◌, inl, inr, ◌==◌, ◌<◌, ◌≤◌, ◌+◌, ℕ, zero, suc, get_or, nat_eq, nat_le}
-use Rattle.std.proofs.Common.{nat_lt, Bool, true, false, List, [], ◌++◌, length, map, slice_get, slice_set, Option}
-use Rattle.std.proofs.Common.{Some, None, Result, Ok, Err, IfErr, refl, sym, ap, arith, subst}
-use Rattle.std.proofs.lemmas.Bool.{cases_Bool, false≢true, true≢false}
+use Rattle.std.proofs.Common.{◌≡◌, ◌∙◌, inl, inr, ◌==◌, ◌<◌, ◌≤◌, ℕ, suc}
+use Rattle.std.proofs.Common.{true, false, List, ◌++◌, length, map, slice_get, slice_set, Option}
+use Rattle.std.proofs.Common.{Some, refl, sym, ap, arith, subst}
+use Rattle.std.proofs.lemmas.Bool.{cases_Bool}
 use Rattle.std.proofs.lemmas.Bool.Decides.{nat_tests}
 use Rattle.am_http.specs.Verdict.{verdict}
 use Rattle.am_http.specs.declared.request.Fed.{Fed}
 use Rattle.am_http.specs.declared.request.Fed.TheVariants as fed
 use Rattle.am_http.specs.declared.request.Request.{Request}
 use Rattle.am_item.specs.declared.fault.Fault.{Fault}
-use Rattle.am_item.specs.declared.fault.Fault.TheVariants.{OutOfMemory, CountsExhausted, PatternNotBuilt, StoreRefused}
+use Rattle.am_item.specs.declared.fault.Fault.TheVariants.{StoreRefused}
 use Rattle.am_item.specs.declared.item.Item.{Item}
-use Rattle.am_limit.specs.declared.limits.Limits.{Limits}
-use Rattle.am_rows.specs.Refusing.{MayRefuse, Medium}
-use Rattle.am_rows.specs.Rows.{has_stored, rows_of, stored_in}
-use Rattle.am_node.specs.Accepting.{StopsCommitting, accepted}
-use Rattle.am_node.specs.Held.{StopsFor as StopsReacting}
-use Rattle.am_node.specs.Local.{Local, Reaction}
+use Rattle.am_node.specs.Local.{Local}
 use Rattle.am_node.specs.Retiring.{retired}
-use Rattle.am_node.specs.Storing.{AreRowsOf, LeavesStore}
-use Rattle.am_replica.specs.Storing.{fault_in}
 use Rattle.am_ring.specs.Instances.{is_instance}
 use Rattle.am_tenant.specs.Names.{same}
-use Rattle.am_api.specs.Replied.{Decision}
 use Rattle.am_world.specs.declared.event.Event.{Event}
 use Rattle.am_world.specs.declared.event.Event.TheVariants.{Bytes}
 use Rattle.am_instance.specs.declared.instance.Instance.{Instance}

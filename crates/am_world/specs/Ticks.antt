@@ -1,10 +1,9 @@
 -- a tick of the instances, of all tenants
-use Rattle.std.specs.Prelude.{ℕ, ◌≡◌, ◌+◌, Bool, true, false, List, [], ◌∷◌, ◌++◌, None, Some, if◌then◌else◌}
+use Rattle.std.specs.Prelude.{ℕ, ◌≡◌, ◌+◌, Bool, true, false, List, [], ◌∷◌, ◌++◌, Some, if◌then◌else◌}
 use Rattle.std.specs.List.{filter_map}
 use Rattle.am_item.specs.declared.fault.Fault.{Fault}
 use Rattle.am_limit.specs.declared.limits.Limits.{Limits}
 use Rattle.am_node.specs.declared.dispatch.Dispatch.{Dispatch}
-use Rattle.am_node.specs.Local.{blank}
 use Rattle.am_node.specs.Ticks.{IsDone, StopsTicking, context_for, said_of}
 use Rattle.am_instance.specs.declared.output.Output.{Output}
 use Rattle.am_instance.specs.declared.instance.Instance.{Instance}

@@ -1,5 +1,5 @@
 use Rattle.std.proofs.Common.{refl, sym, ap, ◌∙◌, subst}
-use Rattle.am_outlet.specs.declared.outcome.Outcome.TheVariants.{NotOpen, Delivered, Again, GivenUp}
+use Rattle.am_outlet.specs.declared.outcome.Outcome.TheVariants.{NotOpen, Again, GivenUp}
 use Rattle.am_node.specs.Delivery.{outcome}
 use Rattle.am_node.specs.Local.{Reaction}
 use Rattle.am_node.proofs.Outcomes.{delivered, unsettled}

@@ -1,7 +1,6 @@
-use Rattle.std.proofs.Common.{◌∙◌, ap, sym}
+use Rattle.std.proofs.Common.{ap}
 use Rattle.std.specs.Option.{option_map}
 use Rattle.am_context.proofs.Changes.{one_changes, other, own}
-use Rattle.am_current.specs.Current.{configuration_in}
 use Rattle.am_notifier.specs.Notifies.{notifies_of}
 use Rattle.am_notifier.specs.Positions.{number_of}
 use Rattle.am_replica.specs.Holds.{holds_of}
