@@ -3,7 +3,7 @@ use Rattle.std.proofs.Common.{◌≡◌, ◌+◌, Bool, true, false, List, [], �
 use Rattle.std.specs.List.{flat_map}
 use Rattle.std.proofs.lemmas.List.Concat.{flat_map-append}
 use Rattle.am_item.specs.declared.item.Item.{Item}
-use Rattle.am_cluster.specs.Pieces.{Cutting, Piece, all_cut, cut, cut_with, piece_of, takes}
+use Rattle.am_transfer.specs.Pieces.{Cutting, Piece, all_cut, cut, cut_with, piece_of, takes}
 
 abbrev items_of : Piece → List Item
 items_of p = p.items

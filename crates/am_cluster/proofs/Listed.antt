@@ -38,14 +38,14 @@ use Rattle.am_cluster.specs.Local.{Local, holds_any, is_settled, with_settling}
 use Rattle.am_cluster.specs.Messages.{Ack, Answer, Ask, Body, Get, Got, Message, Put, State}
 use Rattle.am_cluster.specs.Operating.{Decide, ack_by, acked, answer_by, answered, begin, carry_out, finish, first_ack, first_answer, list_for, operation_for, replicas_changed, reply_for, stamp, start, timed_out, unavailable, wait_with}
 use Rattle.am_cluster.specs.Operations.{Answered, Decided, Operation, Stage, Undecided, operation_at, operation_of}
-use Rattle.am_cluster.specs.Peers.{ByPeer, Peer, at_number, at_peer, peer, with_peer}
-use Rattle.am_cluster.specs.Pieces.{Piece, SentList, cut, first_sent, named_at, pieces_to_send, reach_of}
+use Rattle.am_transfer.specs.Peers.{ByPeer, Peer, at_number, at_peer, peer, with_peer}
+use Rattle.am_transfer.specs.Pieces.{Piece, SentList, cut, first_sent, named_at, pieces_to_send, reach_of}
 use Rattle.am_cluster.specs.Plans.{by_replica, replica_local}
 use Rattle.am_cluster.specs.Reactions.{Reaction, each, messages_in, only_if, stays, ◌>>◌}
 use Rattle.am_cluster.specs.Retiring.{retired}
 use Rattle.am_cluster.specs.RingChanges.{are_same, dropped, end_push, go_on, go_on_or_drop, just_opened, other_restarted, push_if_settled, push_or_ask, ring_learned}
 use Rattle.am_cluster.specs.Sending.{message_to, send, send_all, send_in}
-use Rattle.am_cluster.specs.Settling.{Push, Settling, ended_by, in_new_epoch, is_merged, lacking, sent_list_for, now_settled, settled_by, spans_from, to_push, with_list, with_push, with_span, without_push}
+use Rattle.am_transfer.specs.Settling.{Push, Settling, ended_by, in_new_epoch, is_merged, lacking, list_for as sent_list_for, now_settled, settled_by, spans_from, to_push, with_list, with_push, with_span, without_push}
 use Rattle.am_cluster.specs.Ticking.{due_keys, handled, is_flush_due, muted_of, send_again, ticked}
 use Rattle.am_cluster.specs.Transfers.{answer_ask, ask, asked, asks_first, begin_push, forced, push, send_state, take_got, take_state}
 use Rattle.am_cluster.proofs.ListsKept.{AllWithin, AreCut, AreListed, IsListed, Within, all_later, chosen_listed, cut-append, cut_in, each_listed, from_within, if_listed, list_at, none_some, only_if_listed, seq, stays_listed, still, where_some_listed}

@@ -8,8 +8,8 @@ use Rattle.am_cluster.proofs.Counted.{messages-append}
 use Rattle.am_cluster.specs.Here.{Here}
 use Rattle.am_cluster.specs.Local.{Local}
 use Rattle.am_cluster.specs.Messages.{Ack, Answer, Ask, Body, Get, Got, Message, Put, State}
-use Rattle.am_cluster.specs.Peers.{ByPeer, Peer, at_peer, peer}
-use Rattle.am_cluster.specs.Pieces.{Piece, SentList, cut, pieces_from}
+use Rattle.am_transfer.specs.Peers.{ByPeer, Peer, at_peer, peer}
+use Rattle.am_transfer.specs.Pieces.{Piece, SentList, cut, pieces_from}
 use Rattle.am_cluster.specs.Reactions.{Reaction, each, messages_in, only_if, stays, where_some, ◌>>◌}
 
 -- ---- what is kept and sent

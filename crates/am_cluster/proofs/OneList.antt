@@ -12,7 +12,7 @@ use Rattle.am_cluster.specs.Messages.{Ack, Answer, Ask, Body, Get, Got, Message,
 use Rattle.am_cluster.specs.Moments.{effective}
 use Rattle.am_cluster.specs.Operating.{Decide, decision_on, start}
 use Rattle.am_cluster.specs.Origins.{Origin}
-use Rattle.am_cluster.specs.Pieces.{Piece, cut}
+use Rattle.am_transfer.specs.Pieces.{Piece, cut}
 use Rattle.am_cluster.specs.PrivateCluster.{PrivateCluster, opened, unchanged, unopened, with_all_opened, with_opened}
 use Rattle.am_cluster.specs.Sent.{Sent, is_named}
 use Rattle.am_cluster.specs.SentFacts.{AreLists, StateName, is_of_state, piece_in, pieces_sent}

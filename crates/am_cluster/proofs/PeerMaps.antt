@@ -5,7 +5,7 @@ use Rattle.std.proofs.lemmas.Bool.{false≢true}
 use Rattle.std.proofs.lemmas.Cmp.{nat_cmp_total, tied_itself}
 use Rattle.std.proofs.lemmas.Map.Lookups.{exact_unsigned}
 use Rattle.am_item.proofs.Order.{then_equal}
-use Rattle.am_cluster.specs.Peers.{ByPeer, Peer, at_peer, peer_cmp, with_peer}
+use Rattle.am_transfer.specs.Peers.{ByPeer, Peer, at_peer, peer_cmp, with_peer}
 
 peer_exact : (a b : Peer) → peer_cmp a b ≡ Equal → a ≡ b
 peer_exact a b h =

@@ -5,7 +5,7 @@ use Rattle.am_cluster.specs.Here.{Here, is_replica_here, others}
 use Rattle.am_cluster.specs.Local.{Local, is_settled, with_settling}
 use Rattle.am_cluster.specs.Plans.{plan_of}
 use Rattle.am_cluster.specs.Reactions.{each, only_if, stays}
-use Rattle.am_cluster.specs.Settling.{Settling, lacking, untouched}
+use Rattle.am_transfer.specs.Settling.{Settling, lacking, untouched}
 use Rattle.am_cluster.specs.Ticking.{ask_timers, deadlines, push_timers, timers_of}
 use Rattle.am_cluster.specs.Transfers.{ask, asks_first}
 

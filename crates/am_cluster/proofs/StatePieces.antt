@@ -5,8 +5,8 @@ use Rattle.std.proofs.lemmas.Bool.{and_parts, cases_eq, eqb-true, false≢true}
 use Rattle.am_item.specs.declared.item.Item.{Item}
 use Rattle.am_cluster.specs.Local.{Local}
 use Rattle.am_cluster.specs.Messages.{Ack, Answer, Ask, Body, Get, Got, Message, Put, State}
-use Rattle.am_cluster.specs.Peers.{Peer, peer}
-use Rattle.am_cluster.specs.Pieces.{cut}
+use Rattle.am_transfer.specs.Peers.{Peer, peer}
+use Rattle.am_transfer.specs.Pieces.{cut}
 use Rattle.am_cluster.specs.PrivateCluster.{PrivateCluster}
 use Rattle.am_cluster.specs.Sent.{Sent}
 use Rattle.am_cluster.specs.SentFacts.{StateName, is_of_state}

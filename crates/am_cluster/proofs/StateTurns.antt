@@ -9,7 +9,7 @@ use Rattle.am_cluster.specs.Courses.{at_restart, changed, with_event}
 use Rattle.am_cluster.specs.Here.{Here}
 use Rattle.am_cluster.specs.Local.{Local, blank}
 use Rattle.am_cluster.specs.Messages.{Ack, Answer, Ask, Body, Get, Got, Message, Put, State}
-use Rattle.am_cluster.specs.Peers.{peer}
+use Rattle.am_transfer.specs.Peers.{peer}
 use Rattle.am_cluster.specs.PrivateCluster.{Course, PrivateCluster, here_at, react, react_all, react_one, reaction_at, stopped, unchanged, with_opened}
 use Rattle.am_cluster.specs.Reactions.{Reaction, messages_in, stays}
 use Rattle.am_cluster.specs.RingChanges.{just_opened, opened as opened_with, ring_learned}

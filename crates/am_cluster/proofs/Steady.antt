@@ -28,7 +28,7 @@ use Rattle.am_cluster.specs.RingChanges.{opened as opened_with}
 use Rattle.am_cluster.specs.Rings.{is_always_replica}
 use Rattle.am_cluster.specs.Roster.{Crashes, Joins, Learns, Leaves, Restarts, has_stayed, put_at, ring_event_refusal, roster_after, three_at}
 use Rattle.am_cluster.specs.Sent.{Sent, is_lost, is_named, posted, sent_at, unlost}
-use Rattle.am_cluster.specs.Settling.{untouched}
+use Rattle.am_transfer.specs.Settling.{untouched}
 use Rattle.am_cluster.specs.Steady.{IsSteady, any_moves, is_of_settling, moves}
 use Rattle.am_cluster.specs.Ticking.{ticked}
 use Rattle.am_cluster.specs.Transfers.{forced}

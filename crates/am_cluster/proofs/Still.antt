@@ -35,12 +35,12 @@ use Rattle.am_cluster.specs.Local.{Local, is_settled, with_settling}
 use Rattle.am_cluster.specs.Messages.{Ack, Answer, Ask, Body, Get, Got, Message, Put, State}
 use Rattle.am_cluster.specs.Operating.{Decide, ack_by, acked, answer_by, answered, begin, carry_out, finish, first_ack, first_answer, list_for, operation_for, reply_for, stamp, start, timed_out, unavailable, wait_with}
 use Rattle.am_cluster.specs.Operations.{Answered, Decided, Operation, Stage, Undecided, operation_at, operation_of}
-use Rattle.am_cluster.specs.Peers.{Peer, at_number, peer}
+use Rattle.am_transfer.specs.Peers.{Peer, at_number, peer}
 use Rattle.am_cluster.specs.Plans.{by_replica, replica_local}
 use Rattle.am_cluster.specs.Reactions.{Reaction, each, messages_in, only_if, stays, where_some, ◌>>◌}
 use Rattle.am_cluster.specs.Retiring.{retired}
 use Rattle.am_cluster.specs.Sending.{send, send_all, send_in}
-use Rattle.am_cluster.specs.Settling.{Push, Settling, lacking, now_settled, untouched}
+use Rattle.am_transfer.specs.Settling.{Push, Settling, lacking, now_settled, untouched}
 use Rattle.am_cluster.specs.Steady.{is_of_settling}
 use Rattle.am_cluster.specs.Ticking.{due_keys, handled, is_flush_due, muted_of, send_again, ticked}
 use Rattle.am_cluster.specs.Transfers.{ask, asks_first, forced}

@@ -15,14 +15,14 @@ use Rattle.am_cluster.specs.Deciding.{Deciding, deciding_at, written_at}
 use Rattle.am_cluster.specs.Happening.{Happening, Asked, Changed, Delivered, Forced, Limited, Lost, Ticked, Tried}
 use Rattle.am_cluster.specs.Local.{is_settled}
 use Rattle.am_cluster.specs.Origins.{Origin}
-use Rattle.am_cluster.specs.Peers.{peer}
-use Rattle.am_cluster.specs.Pieces.{reach_of}
+use Rattle.am_transfer.specs.Peers.{peer}
+use Rattle.am_transfer.specs.Pieces.{reach_of}
 use Rattle.am_cluster.specs.PrivateCluster.{PrivateCluster, here_at, opened, stored_at}
 use Rattle.am_cluster.specs.RingChanges.{are_same}
 use Rattle.am_cluster.specs.Rings.{newest_epoch}
 use Rattle.am_cluster.specs.Roster.{Crashes, Joins, Learns, Leaves, Restarts, RingEvent, ring_now, roster_after}
 use Rattle.am_cluster.specs.SentFacts.{StateName, pieces_sent}
-use Rattle.am_cluster.specs.Settling.{spans_from}
+use Rattle.am_transfer.specs.Settling.{spans_from}
 
 -- ---- what holds an item
 

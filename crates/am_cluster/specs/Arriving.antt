@@ -6,10 +6,10 @@ use Rattle.am_cluster.specs.Here.{Here, is_replica_here}
 use Rattle.am_cluster.specs.Local.{Local, is_settled}
 use Rattle.am_cluster.specs.Messages.{Ack, Answer, Ask, Body, Get, Got, Message, Put, State, is_answer}
 use Rattle.am_cluster.specs.Operating.{Decide, acked, answered}
-use Rattle.am_cluster.specs.Peers.{Peer, peer}
+use Rattle.am_transfer.specs.Peers.{Peer, peer}
 use Rattle.am_cluster.specs.Reactions.{Reaction, only_if, stays, ◌>>◌}
 use Rattle.am_cluster.specs.Sending.{send}
-use Rattle.am_cluster.specs.Settling.{goes_to}
+use Rattle.am_transfer.specs.Settling.{goes_to}
 use Rattle.am_cluster.specs.Transfers.{answer_ask, asks_first, take_got, take_state}
 
 -- ---- what becomes of it

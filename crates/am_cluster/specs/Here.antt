@@ -3,7 +3,7 @@ use Rattle.std.specs.Prelude.{ℕ, Bool, not, ◌==◌, List, Option, filter, po
 use Rattle.am_context.specs.declared.context.Context.{Context as NodeContext}
 use Rattle.am_ring.specs.Instances.{is_among}
 use Rattle.am_cluster.specs.Origins.{TenantLimits}
-use Rattle.am_cluster.specs.Peers.{Peer, peer}
+use Rattle.am_transfer.specs.Peers.{Peer, peer}
 
 -- whose it is; its number and its incarnation; the moment; the tenant's limits; of the ring that it knows the epoch
 -- and the tenant's three replicas, in order of position; whether it has stayed: it was never joined or restarted, and

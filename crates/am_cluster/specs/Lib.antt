@@ -2,8 +2,6 @@
 pub mod Moments
 -- limits, and what a cluster starts from
 pub mod Origins
--- instances in their incarnations
-pub mod Peers
 -- the rings so far
 pub mod Rings
 -- why an event is refused
@@ -14,10 +12,6 @@ pub mod Roster
 pub mod Messages
 -- open operations
 pub mod Operations
--- the pieces of a State
-pub mod Pieces
--- how far an instance settled
-pub mod Settling
 -- what an instance goes by
 pub mod Here
 -- what an instance has of a tenant

@@ -7,7 +7,7 @@ use Rattle.am_members.specs.declared.group.Group.{Group}
 use Rattle.am_outlet.specs.Attempts.{Desk, no_attempts}
 use Rattle.am_cluster.specs.Here.{Here}
 use Rattle.am_cluster.specs.Operations.{Operation}
-use Rattle.am_cluster.specs.Settling.{Settling, untouched}
+use Rattle.am_transfer.specs.Settling.{Settling, untouched}
 
 -- what it has counted of the tenant, and how far the tenant's words are drawn. (The attempts are counted at their
 -- desk.) All this stays where the instance stops being a replica, and begins anew with an incarnation

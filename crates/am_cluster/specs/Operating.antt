@@ -25,7 +25,7 @@ use Rattle.am_cluster.specs.Here.{Here}
 use Rattle.am_cluster.specs.Local.{Ledger, Local, with_operations}
 use Rattle.am_cluster.specs.Messages.{Get, Put}
 use Rattle.am_cluster.specs.Operations.{Answered, Decided, Operation, Stage, Undecided, operation_of, with_operation, without_operation}
-use Rattle.am_cluster.specs.Pieces.{size_of}
+use Rattle.am_transfer.specs.Pieces.{size_of}
 use Rattle.am_cluster.specs.Reactions.{Reaction, Replies, each, says, stays, where_some, ◌>>◌}
 use Rattle.am_cluster.specs.Sending.{send_all}
 

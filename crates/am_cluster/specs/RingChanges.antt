@@ -9,7 +9,7 @@ use Rattle.am_cluster.specs.Here.{Here, is_replica_here, others}
 use Rattle.am_cluster.specs.Local.{Local, blank, holds_any, is_settled, with_settling}
 use Rattle.am_cluster.specs.Operating.{replicas_changed}
 use Rattle.am_cluster.specs.Reactions.{Reaction, each, only_if, stays, ◌>>◌}
-use Rattle.am_cluster.specs.Settling.{in_new_epoch, to_push, without_push}
+use Rattle.am_transfer.specs.Settling.{in_new_epoch, to_push, without_push}
 use Rattle.am_cluster.specs.Transfers.{asks_first, begin_push}
 
 -- ---- an opening

@@ -3,8 +3,8 @@ use Rattle.std.specs.Prelude.{◌≡◌, ℕ, Bool, false, ◌&&◌, ◌==◌, C
 use Rattle.std.specs.List.{filter_map, list_any}
 use Rattle.am_item.specs.declared.item.Item.{Item}
 use Rattle.am_cluster.specs.Messages.{Body, Get, Answer, Put, Ack, Ask, State, Got, Message}
-use Rattle.am_cluster.specs.Peers.{Peer}
-use Rattle.am_cluster.specs.Pieces.{Piece, cut}
+use Rattle.am_transfer.specs.Peers.{Peer}
+use Rattle.am_transfer.specs.Pieces.{Piece, cut}
 use Rattle.am_cluster.specs.Sent.{Sent, is_named}
 
 -- all that an instance sent in one incarnation, in order

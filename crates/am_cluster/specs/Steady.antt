@@ -9,7 +9,7 @@ use Rattle.am_cluster.specs.PrivateCluster.{PrivateCluster}
 use Rattle.am_cluster.specs.Rings.{newest_epoch}
 use Rattle.am_cluster.specs.Roster.{Crashes, Joins, Learns, Leaves, Restarts, RingEvent, has_stayed, three_at}
 use Rattle.am_cluster.specs.Sent.{Sent}
-use Rattle.am_cluster.specs.Settling.{untouched}
+use Rattle.am_transfer.specs.Settling.{untouched}
 
 -- a message by which instances settle
 abbrev pub is_of_settling : Body → Bool

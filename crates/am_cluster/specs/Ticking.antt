@@ -19,11 +19,11 @@ use Rattle.am_cluster.specs.Here.{Here}
 use Rattle.am_cluster.specs.Local.{Local}
 use Rattle.am_cluster.specs.Operating.{timed_out}
 use Rattle.am_cluster.specs.Operations.{Operation, operation_at}
-use Rattle.am_cluster.specs.Peers.{at_number, peer}
+use Rattle.am_transfer.specs.Peers.{at_number, peer}
 use Rattle.am_cluster.specs.Plans.{plan_of}
 use Rattle.am_cluster.specs.Reactions.{Reaction, each, only_if, where_some}
 use Rattle.am_cluster.specs.Retiring.{retired}
-use Rattle.am_cluster.specs.Settling.{Push}
+use Rattle.am_transfer.specs.Settling.{Push}
 use Rattle.am_cluster.specs.Transfers.{ask, asked, push}
 
 -- a State that is pushed and an Ask are sent again so many milliseconds after they were last sent

@@ -5,11 +5,11 @@ use Rattle.am_cluster.specs.Accepting.{accepted}
 use Rattle.am_cluster.specs.Here.{Here, is_replica_here, others, peer_now}
 use Rattle.am_cluster.specs.Local.{Local, is_settled, with_settling}
 use Rattle.am_cluster.specs.Messages.{Ask, Got, State}
-use Rattle.am_cluster.specs.Peers.{Peer}
-use Rattle.am_cluster.specs.Pieces.{Piece, SentList, pieces_to_send, reach_of}
+use Rattle.am_transfer.specs.Peers.{Peer}
+use Rattle.am_transfer.specs.Pieces.{Piece, SentList, pieces_to_send, reach_of}
 use Rattle.am_cluster.specs.Reactions.{Reaction, each, only_if, stays}
 use Rattle.am_cluster.specs.Sending.{send}
-use Rattle.am_cluster.specs.Settling.{Settling, lacking, named_in, now_settled, sent_list_for, settled_by, spans_from, with_list, with_push, with_span}
+use Rattle.am_transfer.specs.Settling.{Settling, lacking, named_in, now_settled, list_for as sent_list_for, settled_by, spans_from, with_list, with_push, with_span}
 
 -- ---- Asks
 

@@ -1,7 +1,7 @@
 -- What an instance has of each tenant.
 use Rattle.std.specs.Prelude.{ℕ, List}
 use Rattle.am_cluster.specs.Local.{Local}
-use Rattle.am_cluster.specs.Settling.{untouched}
+use Rattle.am_transfer.specs.Settling.{untouched}
 use Rattle.am_item.specs.Counts.{count_of}
 use Rattle.am_node.specs.Held.{local_of as local_in_node}
 use Rattle.am_node.specs.Local.{Local as NodeLocal}

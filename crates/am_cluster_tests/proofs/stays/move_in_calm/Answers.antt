@@ -6,7 +6,7 @@ use Rattle.am_cluster.specs.Accepting.{accepted}
 use Rattle.am_cluster.specs.Arriving.{arrive}
 use Rattle.am_cluster.specs.Courses.{changed, refusal_of, handled_by, course_by}
 use Rattle.am_cluster.specs.Operating.{start, finish, replicas_changed, answered, acked, carry_out}
-use Rattle.am_cluster.specs.Pieces.{cut, reach_of}
+use Rattle.am_transfer.specs.Pieces.{cut, reach_of}
 use Rattle.am_cluster.specs.Plans.{grouped_of, plan_of}
 use Rattle.am_cluster.specs.PrivateCluster.{here_at, react_all, react_one}
 use Rattle.am_cluster.specs.Retiring.{retired}
