@@ -1,2 +1,4 @@
+pub mod Acks
+pub mod Answers
 pub mod Lengths
 pub mod Reacting

@@ -3,7 +3,7 @@ use Rattle.std.proofs.Common.{◌≡◌, ℕ, Bool, true, false, ◌&&◌, List,
 use Rattle.std.proofs.Common.{append_assoc, append-nil}
 use Rattle.std.proofs.Math.Bool.{and_assoc}
 use Rattle.am_cluster.specs.Local.{Local}
-use Rattle.am_cluster.specs.Reactions.{Reaction, each, in_turn, ◌>>◌}
+use Rattle.am_cluster.specs.Reactions.{Reaction, each, stays, ◌>>◌}
 use Rattle.am_context.proofs.Changes.{one_changes, other, own}
 use Rattle.am_item.specs.declared.fault.Fault.{Fault}
 use Rattle.am_item.specs.declared.fault.Fault.TheVariants.{OutOfMemory, CountsExhausted, PatternNotBuilt, StoreRefused}
@@ -63,6 +63,31 @@ module _ (tenant : List ℕ) where
   stops_as f g a CountsExhausted same stops = sym (ap (λ (r : Reaction). r.fits) (same (local_of tenant a))) ∙ stops
   stops_as f g a PatternNotBuilt same stops = stops
   stops_as f g a StoreRefused same stops = stops
+
+  -- .. from where all have what they had
+  module _ (f g : Local → Reaction) (a b : Site) (same : (t : List ℕ) → local_of t b ≡ local_of t a) (is : f (local_of tenant a) ≡ g (local_of tenant a)) where
+    pub reacts_from : (c : Site) (x y : List Spoken) → Reacts tenant f b c x y → Reacts tenant g a c x y
+    reacts_from c x y one = record {
+      local = one_changes tenant (λ l. (g l).local) (λ t. local_of t a) (λ t. local_of t c)
+          (own tenant _ _ _ (one.local tenant) ∙ ap (λ l. (f l).local) (same tenant) ∙ ap (λ (r : Reaction). r.local) is)
+          (λ t apart. other t tenant _ _ _ apart (one.local t) ∙ same t);
+      said = one.said ∙ ap (λ l. map said_in x ++ (f l).said) (same tenant) ∙ ap (λ (r : Reaction). map said_in x ++ r.said) is;
+      fits = sym (ap (λ l. (f l).fits) (same tenant) ∙ ap (λ (r : Reaction). r.fits) is) ∙ one.fits;
+    }
+
+    pub stops_from : (fault : Fault) → StopsReacting tenant f b fault → StopsReacting tenant g a fault
+    stops_from OutOfMemory stops = tt
+    stops_from CountsExhausted stops = sym (ap (λ l. (f l).fits) (same tenant) ∙ ap (λ (r : Reaction). r.fits) is) ∙ stops
+    stops_from PatternNotBuilt stops = stops
+    stops_from StoreRefused stops = stops
+
+  -- nothing is done
+  pub nothing : (f : Local → Reaction) (a : Site) (x : List Spoken) → f (local_of tenant a) ≡ stays (local_of tenant a) → Reacts tenant f a a x x
+  nothing f a x is = record {
+    local = one_changes tenant (λ l. (f l).local) (λ t. local_of t a) (λ t. local_of t a) (sym (ap (λ (r : Reaction). r.local) is)) (λ t apart. refl);
+    said = sym (append-nil (map said_in x)) ∙ ap (λ (r : Reaction). map said_in x ++ r.said) (sym is);
+    fits = ap (λ (r : Reaction). r.fits) is;
+  }
 
   -- nothing is said
   pub quiet : (f : Local → Reaction) (a b : Site) (x : List Spoken) → Does tenant f a b → Reacts tenant f a b x x

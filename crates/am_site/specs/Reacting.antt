@@ -1,10 +1,11 @@
 -- What an instance does where something happens to one tenant: of that tenant it has what a private cluster's instance
 -- has then, and says of it what that says; and of every other tenant it has what it had.
-use Rattle.std.specs.Prelude.{◌≡◌, ℕ, ◌++◌, true, false, List, [], map, if◌then◌else◌}
+use Rattle.std.specs.Prelude.{◌≡◌, ℕ, ◌++◌, true, false, List, [], ◌∷◌, map, Option, Some, None, if◌then◌else◌}
 use Rattle.am_cluster.specs.Local.{Local}
 use Rattle.am_cluster.specs.Reactions.{Reaction, Replies, Said, Sends, Tells}
 use Rattle.am_item.specs.declared.fault.Fault.{Fault}
 use Rattle.am_item.specs.declared.fault.Fault.TheVariants.{OutOfMemory, CountsExhausted, PatternNotBuilt, StoreRefused}
+use Rattle.am_quorum.specs.declared.operation.Ready.{Ready}
 use Rattle.am_tenant.specs.Names.{same}
 use Rattle.am_site.specs.Locals.{local_of}
 use Rattle.am_site.specs.declared.said.Said.{Said as Spoken}
@@ -16,6 +17,11 @@ abbrev pub said_in : Spoken → Said
 said_in (Reply connection bytes) = Replies connection bytes
 said_in (Message message) = Sends message
 said_in (Try sending) = Tells sending
+
+-- the reply of an operation that is over, where one is
+abbrev pub replied : Option Ready → List Said
+replied None = []
+replied (Some ready) = Replies ready.connection ready.reply ∷ []
 
 -- one tenant has what this makes of it, and every other has what it had
 abbrev pub Makes : List ℕ → (Local → Local) → Site → Site → Type 0

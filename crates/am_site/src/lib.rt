@@ -2,6 +2,7 @@
 //! replicas of a tenant, decides by two of their answers, and has two acknowledge what it decided.
 #![tactic(auto)]
 
+mod answering;
 mod here;
 mod operating;
 mod said;
