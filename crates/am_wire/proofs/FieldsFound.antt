@@ -53,14 +53,21 @@ pub record Stood {A : Type 0} (bytes_of : A → List ℕ) (P : A → Type 0) (by
   pub takes : Takes bytes (bytes_of x.0) x.1
   pub valid : P x.0
 
+-- a number below another
+abbrev pub IsBelow : ℕ → ℕ → Type 0
+IsBelow limit n = n < limit
+
 -- a byte
+abbrev pub one_byte : ℕ → List ℕ
+one_byte byte = byte ∷ []
+
 pub byte_takes : (byte : ℕ) (rest : List ℕ) → AreBytes (byte ∷ rest) → Takes (byte ∷ rest) (byte ∷ []) rest
 byte_takes byte rest are = record { front = refl; are = AreBytes-drop 1 (byte ∷ rest) are }
 
-pub byte_found : (bytes : List ℕ) (x : ℕ × List ℕ) → AreBytes bytes → byte_at bytes ≡ done x → Stood (λ byte. byte ∷ []) (λ byte. byte < 256) bytes x
+pub byte_found : (bytes : List ℕ) (x : ℕ × List ℕ) → AreBytes bytes → byte_at bytes ≡ done x → Stood one_byte (IsBelow 256) bytes x
 byte_found [] x are e = absurd (let never : failed FieldPastEnd ≡ done x = e in cc)
 byte_found (byte ∷ rest) x are e =
-    subst (Stood (λ byte. byte ∷ []) (λ byte. byte < 256) (byte ∷ rest)) (done_is (byte, rest) x e)
+    subst (Stood one_byte (IsBelow 256) (byte ∷ rest)) (done_is (byte, rest) x e)
     (record { takes = byte_takes byte rest are; valid = are 0 })
 
 -- so many bytes
@@ -83,13 +90,13 @@ bytes_found n bytes x are e =
 -- a number in so many bytes, where its bytes are those that were there
 module _ (n : ℕ) (spelled : (bytes field left : List ℕ) (x : ℕ) → AreBytes field → bytes ≡ field ++ left → length field ≡ n → x ≡ big_number n field →
       bytes ≡ number_bytes n x ++ left) where
-  number_found : (bytes : List ℕ) (x : ℕ × List ℕ) → AreBytes bytes → number_at n bytes ≡ done x → Stood (number_bytes n) (λ v. v < 256 ^ n) bytes x
+  number_found : (bytes : List ℕ) (x : ℕ × List ℕ) → AreBytes bytes → number_at n bytes ≡ done x → Stood (number_bytes n) (IsBelow (256 ^ n)) bytes x
   unfolding number_at
   number_found bytes x are e =
       let a = bind_ok (bytes_at n bytes) _ x e in
       let field = bytes_found n bytes a.0 are a.1 in
       let made : ℕ × List ℕ = (big_number n a.0.0, a.0.1) in
-      subst (Stood (number_bytes n) (λ v. v < 256 ^ n) bytes) (done_is made x a.2) (record {
+      subst (Stood (number_bytes n) (IsBelow (256 ^ n)) bytes) (done_is made x a.2) (record {
         takes = record {
           front = spelled bytes a.0.0 a.0.1 (big_number n a.0.0) field.are field.takes.front field.long refl;
           are = field.takes.are;
@@ -97,13 +104,13 @@ module _ (n : ℕ) (spelled : (bytes field left : List ℕ) (x : ℕ) → AreByt
         valid = big_from-lt 0 n a.0.0 field.are;
       })
 
-pub number_2_found : (bytes : List ℕ) (x : ℕ × List ℕ) → AreBytes bytes → number_at 2 bytes ≡ done x → Stood (number_bytes 2) (λ v. v < 2 ^ 16) bytes x
+pub number_2_found : (bytes : List ℕ) (x : ℕ × List ℕ) → AreBytes bytes → number_at 2 bytes ≡ done x → Stood (number_bytes 2) (IsBelow (2 ^ 16)) bytes x
 number_2_found = number_found 2 found_2
 
-pub number_4_found : (bytes : List ℕ) (x : ℕ × List ℕ) → AreBytes bytes → number_at 4 bytes ≡ done x → Stood (number_bytes 4) (λ v. v < 2 ^ 32) bytes x
+pub number_4_found : (bytes : List ℕ) (x : ℕ × List ℕ) → AreBytes bytes → number_at 4 bytes ≡ done x → Stood (number_bytes 4) (IsBelow (2 ^ 32)) bytes x
 number_4_found = number_found 4 found_4
 
-pub number_8_found : (bytes : List ℕ) (x : ℕ × List ℕ) → AreBytes bytes → number_at 8 bytes ≡ done x → Stood (number_bytes 8) (λ v. v < 2 ^ 64) bytes x
+pub number_8_found : (bytes : List ℕ) (x : ℕ × List ℕ) → AreBytes bytes → number_at 8 bytes ≡ done x → Stood (number_bytes 8) (IsBelow (2 ^ 64)) bytes x
 number_8_found = number_found 8 found_8
 
 -- a flag
@@ -127,23 +134,29 @@ flag_found (byte ∷ rest) x are e =
     ]
 
 -- an instance
-pub instance_found : (bytes : List ℕ) (x : ℕ × List ℕ) → AreBytes bytes → instance_at bytes ≡ done x → Stood (λ i. i ∷ []) (λ i. IsTrue (is_instance i)) bytes x
+abbrev pub IsInstance : ℕ → Type 0
+IsInstance i = IsTrue (is_instance i)
+
+pub instance_found : (bytes : List ℕ) (x : ℕ × List ℕ) → AreBytes bytes → instance_at bytes ≡ done x → Stood one_byte IsInstance bytes x
 unfolding instance_at
 instance_found [] x are e = absurd (let never : failed FieldPastEnd ≡ done x = e in cc)
 instance_found (byte ∷ rest) x are e =
     let made : ℕ × List ℕ = (byte, rest) in
     let kept = kept_if (is_instance byte) BadValue made x e in
-    subst (Stood (λ i. i ∷ []) (λ i. IsTrue (is_instance i)) (byte ∷ rest)) kept.1
+    subst (Stood one_byte IsInstance (byte ∷ rest)) kept.1
     (record { takes = byte_takes byte rest are; valid = kept.0 })
 
 -- a moment
-pub moment_found : (bytes : List ℕ) (x : ℕ × List ℕ) → AreBytes bytes → moment_at bytes ≡ done x → Stood (number_bytes 8) (λ moment. moment ≤ greatest_moment) bytes x
+abbrev pub IsMoment : ℕ → Type 0
+IsMoment moment = moment ≤ greatest_moment
+
+pub moment_found : (bytes : List ℕ) (x : ℕ × List ℕ) → AreBytes bytes → moment_at bytes ≡ done x → Stood (number_bytes 8) IsMoment bytes x
 unfolding moment_at
 moment_found bytes x are e =
     let a = bind_ok (number_at 8 bytes) _ x e in
     let number = number_8_found bytes a.0 are a.1 in
     let kept = kept_if (nat_le a.0.0 greatest_moment) BadValue a.0 x a.2 in
-    subst (Stood (number_bytes 8) (λ moment. moment ≤ greatest_moment) bytes) kept.1
+    subst (Stood (number_bytes 8) IsMoment bytes) kept.1
     (record { takes = number.takes; valid = leb-true a.0.0 greatest_moment kept.0 })
 
 -- what stands behind its length, or its number
@@ -161,8 +174,8 @@ text_found bytes x are e =
     let number = number_4_found bytes a.0 are a.1 in
     let field = bytes_found a.0.0 a.0.1 b.0 number.takes.are b.1 in
     let kept = kept_if (is_utf8 b.0.0) BadValue b.0 x b.2 in
-    subst (Stood text_bytes IsUtf8 bytes) kept.1
-    (record { takes = counted 4 b.0.0 number.takes field.takes field.long; valid = IsUtf8-from_is_utf8 b.0.0 kept.0 })
+    let both = counted 4 b.0.0 number.takes field.takes field.long in
+    subst (Stood text_bytes IsUtf8 bytes) kept.1 (record { takes = both; valid = IsUtf8-from_is_utf8 b.0.0 kept.0 })
 
 -- things one after another
 pub record StoodAll {A : Type 0} (bytes_of : A → List ℕ) (P : Option A → A → Type 0) (n : ℕ) (before : Option A) (bytes : List ℕ) (x : List A × List ℕ) : Type 0 where
@@ -184,6 +197,7 @@ module _ {A : Type 0} (one : Option A → List ℕ → Reading A) (bytes_of : A 
       let b = bind_ok (several one n (Some a.0.0) a.0.1) _ x a.2 in
       let first = one_found before bytes a.0 are a.1 in
       let others = several_found n (Some a.0.0) a.0.1 b.0 first.takes.are b.1 in
+      let both = then_takes first.takes others.takes in
       let made : List A × List ℕ = (a.0.0 ∷ b.0.0, b.0.1) in
       subst (StoodAll bytes_of P (suc n) before bytes) (done_is made x b.2)
-      (record { takes = then_takes first.takes others.takes; valid = (first.valid, others.valid); long = ap suc others.long })
+      (record { takes = both; valid = (first.valid, others.valid); long = ap suc others.long })

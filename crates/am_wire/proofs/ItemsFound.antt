@@ -54,13 +54,17 @@ operator_found (byte ∷ rest) x are e =
       ]
     ]
 
-matcher_name_found : (bytes : List ℕ) (x : List ℕ × List ℕ) → AreBytes bytes → matcher_name_at bytes ≡ done x → Stood text_bytes (λ name. IsTrue (is_label_name name)) bytes x
+-- the name of a label
+abbrev IsNamed : List ℕ → Type 0
+IsNamed name = IsTrue (is_label_name name)
+
+matcher_name_found : (bytes : List ℕ) (x : List ℕ × List ℕ) → AreBytes bytes → matcher_name_at bytes ≡ done x → Stood text_bytes IsNamed bytes x
 unfolding matcher_name_at
 matcher_name_found bytes x are e =
     let a = bind_ok (text_at bytes) _ x e in
     let text = text_found bytes a.0 are a.1 in
     let kept = kept_if (is_label_name a.0.0) BadValue a.0 x a.2 in
-    subst (Stood text_bytes (λ name. IsTrue (is_label_name name)) bytes) kept.1 (record { takes = text.takes; valid = kept.0 })
+    subst (Stood text_bytes IsNamed bytes) kept.1 (record { takes = text.takes; valid = kept.0 })
 
 matcher_found : (bytes : List ℕ) (x : MatcherText × List ℕ) → AreBytes bytes → matcher_at bytes ≡ done x → Stood matcher_bytes IsMatcher bytes x
 unfolding matcher_at matcher_bytes
@@ -72,9 +76,10 @@ matcher_found bytes x are e =
     let name = matcher_name_found a.0.1 b.0 operator.are b.1 in
     let value = text_found b.0.1 c.0 name.takes.are c.1 in
     let matcher : MatcherText = record { operator = a.0.0; name = b.0.0; value = c.0.0 } in
+    let whole = then_takes operator (then_takes name.takes value.takes) in
     let made : MatcherText × List ℕ = (matcher, c.0.1) in
     subst (Stood matcher_bytes IsMatcher bytes) (done_is made x c.2)
-    (record { takes = then_takes operator (then_takes name.takes value.takes); valid = record { named = name.valid; text = value.valid } })
+    (record { takes = whole; valid = record { named = name.valid; text = value.valid } })
 
 matchers_found : (bytes : List ℕ) (x : List MatcherText × List ℕ) → AreBytes bytes → matchers_at bytes ≡ done x → Stood matchers_bytes AreMatchers bytes x
 unfolding matchers_at matchers_bytes
@@ -82,8 +87,9 @@ matchers_found bytes x are e =
     let a = bind_ok (number_at 2 bytes) _ x e in
     let number = number_2_found bytes a.0 are a.1 in
     let matchers = several_found (λ before. matcher_at) matcher_bytes (λ before. IsMatcher) (λ before. matcher_found) a.0.0 None a.0.1 x number.takes.are a.2 in
+    let both = counted 2 x.0 number.takes matchers.takes matchers.long in
     record {
-      takes = counted 2 x.0 number.takes matchers.takes matchers.long;
+      takes = both;
       valid = record { each = all_of_chain IsMatcher None x.0 matchers.valid; few = rw matchers.long number.valid };
     }
 
@@ -99,29 +105,38 @@ stamp_found bytes x are e =
     let incarnation = number_4_found b.0.1 c.0 instance.takes.are c.1 in
     let count = number_8_found c.0.1 d.0 incarnation.takes.are d.1 in
     let stamp : Stamp = record { moment = a.0.0; instance = b.0.0; incarnation = c.0.0; count = d.0.0 } in
+    let whole = then_takes moment.takes (then_takes instance.takes (then_takes incarnation.takes count.takes)) in
     let made : Stamp × List ℕ = (stamp, d.0.1) in
     subst (Stood stamp_bytes IsStamp bytes) (done_is made x d.2) (record {
-      takes = then_takes moment.takes (then_takes instance.takes (then_takes incarnation.takes count.takes));
+      takes = whole;
       valid = record { moment = moment.valid; instance = instance.valid; incarnation = incarnation.valid; count = count.valid };
     })
 
 -- a configuration behind its flag
+abbrev some_text : List ℕ × List ℕ → Reading (Option (List ℕ))
+some_text read = Ok (Some read.0, read.1)
+
+abbrev no_text : List ℕ → Reading (Option (List ℕ))
+no_text behind = Ok (None, behind)
+
+abbrev IsConfiguration : Option (List ℕ) → Type 0
+IsConfiguration text = IfSome text IsUtf8
+
 behind_flag : (bytes behind : List ℕ) (is_present : Bool) (x : Option (List ℕ) × List ℕ) → Takes bytes (flag_bytes is_present) behind →
-    cond is_present (text_at behind >>= λ read. done (Some read.0, read.1)) (done (None, behind)) ≡ done x →
-    Stood configuration_bytes (λ text. IfSome text IsUtf8) bytes x
+    cond is_present (text_at behind >>= some_text) (no_text behind) ≡ done x → Stood configuration_bytes IsConfiguration bytes x
 unfolding configuration_bytes
 behind_flag bytes behind true x flag e =
-    let a = bind_ok (text_at behind) _ x e in
+    let a = bind_ok (text_at behind) some_text x e in
     let text = text_found behind a.0 flag.are a.1 in
+    let both = then_takes flag text.takes in
     let made : Option (List ℕ) × List ℕ = (Some a.0.0, a.0.1) in
-    subst (Stood configuration_bytes (λ text. IfSome text IsUtf8) bytes) (done_is made x a.2)
-    (record { takes = then_takes flag text.takes; valid = text.valid })
+    subst (Stood configuration_bytes IsConfiguration bytes) (done_is made x a.2) (record { takes = both; valid = text.valid })
 behind_flag bytes behind false x flag e =
     let made : Option (List ℕ) × List ℕ = (None, behind) in
-    subst (Stood configuration_bytes (λ text. IfSome text IsUtf8) bytes) (done_is made x e) (record { takes = flag; valid = tt })
+    subst (Stood configuration_bytes IsConfiguration bytes) (done_is made x e) (record { takes = flag; valid = tt })
 
 configuration_found : (bytes : List ℕ) (x : Option (List ℕ) × List ℕ) → AreBytes bytes → configuration_at bytes ≡ done x →
-    Stood configuration_bytes (λ text. IfSome text IsUtf8) bytes x
+    Stood configuration_bytes IsConfiguration bytes x
 unfolding configuration_at
 configuration_found bytes x are e =
     let a = bind_ok (flag_at bytes) _ x e in
@@ -147,10 +162,11 @@ silence_found bytes x are e =
     let silence : Silence = record {
       id = a.0.0; starts_at = b.0.0; ends_at = c.0.0; kept_until = d.0.0; created_by = f.0.0; comment = g.0.0; matchers = h.0.0;
     } in
+    let whole = then_takes id.takes (then_takes starts_at.takes (then_takes ends_at.takes (then_takes kept_until.takes
+    (then_takes created_by.takes (then_takes comment.takes matchers.takes))))) in
     let made : Silence × List ℕ = (silence, h.0.1) in
     subst (Stood silence_bytes IsSilence bytes) (done_is made x h.2) (record {
-      takes = then_takes id.takes (then_takes starts_at.takes (then_takes ends_at.takes (then_takes kept_until.takes
-          (then_takes created_by.takes (then_takes comment.takes matchers.takes)))));
+      takes = whole;
       valid = record {
         id = id.long; starts_at = starts_at.valid; ends_at = ends_at.valid; kept_until = kept_until.valid;
         created_by = created_by.valid; comment = comment.valid; matchers = matchers.valid;
@@ -171,9 +187,10 @@ alert_found bytes x are e =
     let ends_at = moment_found c.0.1 d.0 starts_at.takes.are d.1 in
     let url = text_found d.0.1 f.0 ends_at.takes.are f.1 in
     let alert : Alert = record { labels = a.0.0; annotations = b.0.0; starts_at = c.0.0; ends_at = d.0.0; generator_url = f.0.0 } in
+    let whole = then_takes labels.takes (then_takes annotations.takes (then_takes starts_at.takes (then_takes ends_at.takes url.takes))) in
     let made : Alert × List ℕ = (alert, f.0.1) in
     subst (Stood alert_bytes IsAlert bytes) (done_is made x f.2) (record {
-      takes = then_takes labels.takes (then_takes annotations.takes (then_takes starts_at.takes (then_takes ends_at.takes url.takes)));
+      takes = whole;
       valid = record {
         labels = labels.valid; annotations = annotations.valid; starts_at = starts_at.valid; ends_at = ends_at.valid; generator_url = url.valid;
       };
@@ -195,9 +212,11 @@ entry_found bytes x are e =
     let firing = label_sets_found d.0.1 f.0 ends_at.takes.are f.1 in
     let resolved = label_sets_found f.0.1 g.0 firing.takes.are g.1 in
     let entry : SentEntry = record { receiver = a.0.0; group = b.0.0; webhook = c.0.0; ends_at = d.0.0; firing = f.0.0; resolved = g.0.0 } in
+    let whole = then_takes receiver.takes (then_takes group.takes (then_takes webhook.takes (then_takes ends_at.takes
+    (then_takes firing.takes resolved.takes)))) in
     let made : SentEntry × List ℕ = (entry, g.0.1) in
     subst (Stood entry_bytes IsEntry bytes) (done_is made x g.2) (record {
-      takes = then_takes receiver.takes (then_takes group.takes (then_takes webhook.takes (then_takes ends_at.takes (then_takes firing.takes resolved.takes))));
+      takes = whole;
       valid = record {
         receiver = receiver.valid; group = group.valid; webhook = webhook.valid; ends_at = ends_at.valid; firing = firing.valid; resolved = resolved.valid;
       };
@@ -266,7 +285,7 @@ item_found bytes x are e =
     let stamp = stamp_found a.0.1 b.0 its_kind.are b.1 in
     let what = thing_found a.0.0 b.0.1 c.0 stamp.takes.are c.1 in
     let behind : List ℕ = stamp_bytes b.0.0 ++ thing_bytes c.0.0 in
-    let whole : Takes bytes (thing_number a.0.0 ∷ behind) c.0.1 = then_takes its_kind (then_takes stamp.takes what.takes) in
+    let whole = then_takes its_kind (then_takes stamp.takes what.takes) in
     let item : Item = record { stamp = b.0.0; thing = c.0.0 } in
     let made : Item × List ℕ = (item, c.0.1) in
     subst (Stood item_bytes IsItem bytes) (done_is made x c.2) (record {
@@ -280,4 +299,5 @@ items_found bytes x are e =
     let a = bind_ok (number_at 4 bytes) _ x e in
     let number = number_4_found bytes a.0 are a.1 in
     let items = several_found (λ before. item_at) item_bytes (λ before. IsItem) (λ before. item_found) a.0.0 None a.0.1 x number.takes.are a.2 in
-    record { takes = counted 4 x.0 number.takes items.takes items.long; valid = all_of_chain IsItem None x.0 items.valid }
+    let both = counted 4 x.0 number.takes items.takes items.long in
+    record { takes = both; valid = all_of_chain IsItem None x.0 items.valid }

@@ -67,9 +67,10 @@ label_found may_be_empty before bytes x are e =
     let name = name_found before bytes a.0 are a.1 in
     let value = value_found may_be_empty a.0.1 b.0 name.takes.are b.1 in
     let label : Label = record { name = a.0.0; value = b.0.0 } in
+    let both = then_takes name.takes value.takes in
     let made : Label × List ℕ = (label, b.0.1) in
     subst (Stood label_bytes (IsLabelAfter may_be_empty before) bytes) (done_is made x b.2) (record {
-      takes = then_takes name.takes value.takes;
+      takes = both;
       valid = record {
         named = name.valid.named;
         rising = name_rises_so before label name.valid.rising;
@@ -90,8 +91,9 @@ labels_found may_be_empty bytes x are e =
     let a = bind_ok (number_at 2 bytes) _ x e in
     let number = number_2_found bytes a.0 are a.1 in
     let labels = several_found (label_at may_be_empty) label_bytes (IsLabelAfter may_be_empty) (label_found may_be_empty) a.0.0 None a.0.1 x number.takes.are a.2 in
+    let both = counted 2 x.0 number.takes labels.takes labels.long in
     record {
-      takes = counted 2 x.0 number.takes labels.takes labels.long;
+      takes = both;
       valid = record { chain = labels.valid; few = rw labels.long number.valid };
     }
 
@@ -121,4 +123,5 @@ label_sets_found bytes x are e =
     let a = bind_ok (number_at 4 bytes) _ x e in
     let number = number_4_found bytes a.0 are a.1 in
     let sets = several_found label_set_at labels_bytes IsSetAfter rising_set_found a.0.0 None a.0.1 x number.takes.are a.2 in
-    record { takes = counted 4 x.0 number.takes sets.takes sets.long; valid = sets_of_chain x.0 sets.valid }
+    let both = counted 4 x.0 number.takes sets.takes sets.long in
+    record { takes = both; valid = sets_of_chain x.0 sets.valid }

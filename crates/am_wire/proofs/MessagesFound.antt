@@ -60,8 +60,15 @@ body_kind_found (byte ∷ rest) x are e =
       ]
     ]
 
+-- a name behind its length
+abbrev named_bytes : List ℕ → List ℕ
+named_bytes name = length name ∷ name
+
+abbrev IsTenant : List ℕ → Type 0
+IsTenant name = IsTrue (is_tenant_name name)
+
 tenant_found : (bytes : List ℕ) (x : List ℕ × List ℕ) → AreBytes bytes → tenant_at bytes ≡ done x →
-    Stood (λ tenant. length tenant ∷ tenant) (λ tenant. IsTrue (is_tenant_name tenant)) bytes x
+    Stood named_bytes IsTenant bytes x
 unfolding tenant_at
 tenant_found bytes x are e =
     let a = bind_ok (byte_at bytes) _ x e in
@@ -69,8 +76,8 @@ tenant_found bytes x are e =
     let byte = byte_found bytes a.0 are a.1 in
     let name = bytes_found a.0.0 a.0.1 b.0 byte.takes.are b.1 in
     let kept = kept_if (is_tenant_name b.0.0) BadTenant b.0 x b.2 in
-    let both : Takes bytes (a.0.0 ∷ b.0.0) b.0.1 = then_takes byte.takes name.takes in
-    subst (Stood (λ tenant. length tenant ∷ tenant) (λ tenant. IsTrue (is_tenant_name tenant)) bytes) kept.1
+    let both = then_takes byte.takes name.takes in
+    subst (Stood named_bytes IsTenant bytes) kept.1
     (record { takes = subst (λ (n : ℕ). Takes bytes (n ∷ b.0.0) b.0.1) (sym name.long) both; valid = kept.0 })
 
 -- a body of the kind that was read
@@ -96,9 +103,10 @@ answer_found bytes x are e =
     let operation = number_8_found bytes a.0 are a.1 in
     let incarnation = number_4_found a.0.1 b.0 operation.takes.are b.1 in
     let items = items_found b.0.1 c.0 incarnation.takes.are c.1 in
+    let whole = then_takes operation.takes (then_takes incarnation.takes items.takes) in
     let made : Body × List ℕ = (Answer a.0.0 b.0.0 c.0.0, c.0.1) in
     subst (Stood body_bytes (IsOfKind kind.Answer) bytes) (done_is made x c.2) (record {
-      takes = then_takes operation.takes (then_takes incarnation.takes items.takes);
+      takes = whole;
       valid = record { its = refl; valid = (operation.valid, incarnation.valid, items.valid) };
     })
 
@@ -109,9 +117,10 @@ put_found bytes x are e =
     let b = bind_ok (items_at a.0.1) _ x a.2 in
     let operation = number_8_found bytes a.0 are a.1 in
     let items = items_found a.0.1 b.0 operation.takes.are b.1 in
+    let whole = then_takes operation.takes items.takes in
     let made : Body × List ℕ = (Put a.0.0 b.0.0, b.0.1) in
     subst (Stood body_bytes (IsOfKind kind.Put) bytes) (done_is made x b.2)
-    (record { takes = then_takes operation.takes items.takes; valid = record { its = refl; valid = (operation.valid, items.valid) } })
+    (record { takes = whole; valid = record { its = refl; valid = (operation.valid, items.valid) } })
 
 ack_found : (bytes : List ℕ) (x : Body × List ℕ) → AreBytes bytes → ack_at bytes ≡ done x → Stood body_bytes (IsOfKind kind.Ack) bytes x
 unfolding ack_at body_bytes
@@ -120,9 +129,10 @@ ack_found bytes x are e =
     let b = bind_ok (number_at 4 a.0.1) _ x a.2 in
     let operation = number_8_found bytes a.0 are a.1 in
     let incarnation = number_4_found a.0.1 b.0 operation.takes.are b.1 in
+    let whole = then_takes operation.takes incarnation.takes in
     let made : Body × List ℕ = (Ack a.0.0 b.0.0, b.0.1) in
     subst (Stood body_bytes (IsOfKind kind.Ack) bytes) (done_is made x b.2)
-    (record { takes = then_takes operation.takes incarnation.takes; valid = record { its = refl; valid = (operation.valid, incarnation.valid) } })
+    (record { takes = whole; valid = record { its = refl; valid = (operation.valid, incarnation.valid) } })
 
 ask_found : (bytes : List ℕ) (x : Body × List ℕ) → AreBytes bytes → ask_at bytes ≡ done x → Stood body_bytes (IsOfKind kind.Ask) bytes x
 unfolding ask_at body_bytes
@@ -144,9 +154,10 @@ state_found bytes x are e =
     let place = number_4_found a.0.1 b.0 incarnation.takes.are b.1 in
     let is_last = flag_found b.0.1 c.0 place.takes.are c.1 in
     let items = items_found c.0.1 d.0 is_last.are d.1 in
+    let whole = then_takes incarnation.takes (then_takes place.takes (then_takes is_last items.takes)) in
     let made : Body × List ℕ = (State a.0.0 b.0.0 c.0.0 d.0.0, d.0.1) in
     subst (Stood body_bytes (IsOfKind kind.State) bytes) (done_is made x d.2) (record {
-      takes = then_takes incarnation.takes (then_takes place.takes (then_takes is_last items.takes));
+      takes = whole;
       valid = record { its = refl; valid = (incarnation.valid, place.valid, items.valid) };
     })
 
@@ -157,9 +168,10 @@ got_found bytes x are e =
     let b = bind_ok (number_at 4 a.0.1) _ x a.2 in
     let incarnation = number_4_found bytes a.0 are a.1 in
     let place = number_4_found a.0.1 b.0 incarnation.takes.are b.1 in
+    let whole = then_takes incarnation.takes place.takes in
     let made : Body × List ℕ = (Got a.0.0 b.0.0, b.0.1) in
     subst (Stood body_bytes (IsOfKind kind.Got) bytes) (done_is made x b.2)
-    (record { takes = then_takes incarnation.takes place.takes; valid = record { its = refl; valid = (incarnation.valid, place.valid) } })
+    (record { takes = whole; valid = record { its = refl; valid = (incarnation.valid, place.valid) } })
 
 body_found : (its_kind : BodyKind) (bytes : List ℕ) (x : Body × List ℕ) → AreBytes bytes → body_at its_kind bytes ≡ done x →
     Stood body_bytes (IsOfKind its_kind) bytes x
@@ -198,9 +210,9 @@ message_found bytes x are e =
     } in
     let behind : List ℕ = c.0.0 ∷ (number_bytes 4 d.0.0 ++ f.0.0 ∷ (number_bytes 8 g.0.0 ++ (number_bytes 8 h.0.0
         ++ length i.0.0 ∷ (i.0.0 ++ body_bytes j.0.0)))) in
-    let after_kind : Takes b.0.1 behind j.0.1 = then_takes from.takes (then_takes incarnation.takes (then_takes to.takes
-        (then_takes count.takes (then_takes epoch.takes (then_takes tenant.takes body.takes))))) in
-    let whole : Takes bytes (message_version ∷ (body_number b.0.0 ∷ behind)) j.0.1 = then_takes version (then_takes its_kind after_kind) in
+    let after_kind = then_takes from.takes (then_takes incarnation.takes (then_takes to.takes
+    (then_takes count.takes (then_takes epoch.takes (then_takes tenant.takes body.takes))))) in
+    let whole = then_takes version (then_takes its_kind after_kind) in
     let made : Message × List ℕ = (message, j.0.1) in
     subst (Stood inside IsMessage bytes) (done_is made x j.2) (record {
       takes = subst (λ (k : BodyKind). Takes bytes (message_version ∷ (body_number k ∷ behind)) j.0.1) (sym body.valid.its) whole;
@@ -227,7 +239,8 @@ frame_found bytes x are e =
     let a = bind_ok (outcome_as CutShort (number_at 4 bytes)) _ x e in
     let number = number_4_found bytes a.0 are (ended_well CutShort (number_at 4 bytes) a.0 a.1) in
     let framed = bytes_found a.0.0 a.0.1 x number.takes.are (ended_well CutShort (bytes_at a.0.0 a.0.1) x a.2) in
-    record { takes = counted 4 x.0 number.takes framed.takes framed.long; short = rw framed.long number.valid; are = framed.are }
+    let both = counted 4 x.0 number.takes framed.takes framed.long in
+    record { takes = both; short = rw framed.long number.valid; are = framed.are }
 
 -- nothing is left
 nothing_left : (left : List ℕ) → (length left == 0) ≡ true → left ≡ []
