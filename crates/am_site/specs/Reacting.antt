@@ -29,7 +29,8 @@ Makes tenant change old new =
     (t : List ℕ) → local_of t new ≡ (if same t tenant then change (local_of t old) else local_of t old)
 
 -- what is said was behind what had been said
-pub record Reacts (tenant : List ℕ) (react : Local → Reaction) (old new : Site) (before after : List Spoken) : Type 0 where
+pub record Reacts (tenant : List ℕ) (react : Local → Reaction) (old new : Site) (before after : List Spoken) :
+    Type 0 where
   pub local : Makes tenant (λ l. (react l).local) old new
   pub said : map said_in after ≡ map said_in before ++ (react (local_of tenant old)).said
   pub fits : (react (local_of tenant old)).fits ≡ true

@@ -5,8 +5,8 @@ use am_node::Node;
 use am_quorum::Ops;
 
 /// What an instance has of all tenants: what it holds and has planned, the operations that are open, and how many
-/// messages it sent. A call for one tenant leaves what it has of the others as it was; after a call that failed it is of
-/// use only to be cleared.
+/// messages it sent. A call for one tenant leaves what it has of the others as it was; after a call that failed it is
+/// of use only to be cleared.
 pub struct Site {
     pub(crate) node: Node,
     pub(crate) operations: Ops,
