@@ -1,8 +1,9 @@
-use Rattle.std.proofs.Common.{◌≡◌, ◌∷◌, ◌++◌, drop, suc, sym, subst, take}
+use Rattle.std.proofs.Common.{◌≡◌, ℕ, ◌∷◌, ◌++◌, drop, suc, sym, subst, take}
 use Rattle.std.proofs.Math.Seq.{split_at}
 use Rattle.std.proofs.lemmas.List.{take_more}
 use Rattle.std.proofs.lemmas.Result.{err_from_is_err_and}
-use Rattle.am_cluster.specs.Reactions.{each}
+use Rattle.am_cluster.specs.Local.{Local}
+use Rattle.am_cluster.specs.Reactions.{Reaction, each}
 use Rattle.am_cluster.specs.Sending.{send_in}
 use Rattle.am_site.specs.Here.{here_of}
 use Rattle.am_site.specs.Reacting.{StopsReacting}
@@ -26,7 +27,7 @@ pub returns-in_err-send_in-clause-fault : goal.returns-in_err-send_in-clause-fau
 returns-in_err-send_in-clause-fault c =
     let i = c.loop-instance.instance-index in
     let x = c.instance-item.result in
-    let react = λ i. send_in c.args.epoch (here_of c.args.here.now) i c.args.body.now in
+    let react : ℕ → Local → Reaction = λ i. send_in c.args.epoch (here_of c.args.here.now) i c.args.body.now in
     let p = err_from_is_err_and c.from_residual-in_err-send_in.result c.from_residual-in_err-send_in.ensures.1 in
     let whole : c.args.to.now ≡ take i c.args.to.now ++ x ∷ drop (suc i) c.args.to.now = rw (← c.instance-item.is) at (split_at c.args.to.now i x c.loop-instance-test.true) in
     rw (p.1, p.2)

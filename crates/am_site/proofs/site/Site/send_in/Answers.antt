@@ -1,6 +1,7 @@
-use Rattle.std.proofs.Common.{◌≡◌, ◌+◌, ◌++◌, ◌∷◌, [], ◌&&◌, ◌∙◌, length, map, nat_le, ap, arith}
+use Rattle.std.proofs.Common.{◌+◌, ◌++◌, ◌∷◌, [], ◌&&◌, ◌∙◌, length, map, nat_le, not, ap, arith, sym}
+use Rattle.std.specs.Option.{is_some}
 use Rattle.std.proofs.lemmas.List.{map-append}
-use Rattle.am_cluster.specs.Reactions.{Said, Sends}
+use Rattle.am_cluster.specs.Reactions.{Sends}
 use Rattle.am_cluster.specs.Sending.{message_to, send_in}
 use Rattle.am_context.proofs.Changes.{one_changes, other, own}
 use Rattle.am_context.proofs.Counting.{fits, passes}
@@ -12,6 +13,7 @@ use Rattle.am_site.specs.Here.{here_of}
 use Rattle.am_site.specs.Locals.{from_rooms, local_of}
 use Rattle.am_site.specs.Reacting.{said_in}
 use Rattle.am_site.proofs.Lengths.{long, short}
+use Rattle.am_site.proofs.Reacting.{and_false}
 use Rattle.am_site.proofs.site.Site.send_in.Goals as goal
 
 pub returns-clause-reacts : goal.returns-clause-reacts
@@ -29,6 +31,24 @@ returns-clause-reacts c =
           ∙ ap (λ n. map said_in c.args.outbox.now.items ++ Sends (message_to here c.args.epoch c.args.to (n + 1) c.args.body) ∷ []) c.used-used.ensures;
       fits = ap (λ b. b && nat_le (length (spelling (message_to here c.args.epoch c.args.to (used + 1) c.args.body))) 4294967295)
           (fits used (λ le. omega (arith, c.if-used-ge-GREATEST_COUNT.false, c.used-used.ensures, le)))
-          ∙ ap (λ n. nat_le (length (spelling (message_to here c.args.epoch c.args.to (n + 1) c.args.body))) 4294967295) c.used-used.ensures
-          ∙ short _ c.if-is_none.false;
+          ∙ ap (λ n. nat_le (length (spelling (message_to here c.args.epoch c.args.to (n + 1) c.args.body))) 4294967295) (sym c.used-used.ensures)
+          ∙ short _ (ap is_some (sym c.spelled_len.ensures) ∙ c.is_none.ensures ∙ ap not c.if-is_none.false);
     }
+
+pub returns-then-used-ge-GREATEST_COUNT-clause-fault : goal.returns-then-used-ge-GREATEST_COUNT-clause-fault
+unfolding local_of send_in
+returns-then-used-ge-GREATEST_COUNT-clause-fault c =
+    let s = c.args.here.now.tenant.now in
+    let used = count_of s c.args.self.now.sent in
+    ap (λ b. b && nat_le (length (spelling (message_to (here_of c.args.here.now) c.args.epoch c.args.to (used + 1) c.args.body))) 4294967295)
+    (passes used (omega (arith, c.if-used-ge-GREATEST_COUNT.true, c.used-used.ensures)))
+
+pub returns-then-is_none-clause-fault : goal.returns-then-is_none-clause-fault
+unfolding local_of send_in
+returns-then-is_none-clause-fault c =
+    let s = c.args.here.now.tenant.now in
+    let used = count_of s c.args.self.now.sent in
+    ap (λ b. nat_le (used + 1) 4611686018427387904 && b)
+    (ap (λ n. nat_le (length (spelling (message_to (here_of c.args.here.now) c.args.epoch c.args.to (n + 1) c.args.body))) 4294967295) (sym c.used-used.ensures)
+    ∙ long _ (ap is_some (sym c.spelled_len.ensures) ∙ c.is_none.ensures ∙ ap not c.if-is_none.true))
+    ∙ and_false (nat_le (used + 1) 4611686018427387904)
