@@ -89,7 +89,7 @@ bytes_found n bytes x are e =
 
 -- a number in so many bytes, where its bytes are those that were there
 module _ (n : ℕ) (spelled : (bytes field left : List ℕ) (x : ℕ) → AreBytes field → bytes ≡ field ++ left → length field ≡ n → x ≡ big_number n field →
-      bytes ≡ number_bytes n x ++ left) where
+    bytes ≡ number_bytes n x ++ left) where
   number_found : (bytes : List ℕ) (x : ℕ × List ℕ) → AreBytes bytes → number_at n bytes ≡ done x → Stood (number_bytes n) (IsBelow (256 ^ n)) bytes x
   unfolding number_at
   number_found bytes x are e =

@@ -39,7 +39,7 @@ unfolding operator_at
 operator_found [] x are e = absurd (let never : failed FieldPastEnd ≡ done x = e in cc)
 operator_found (byte ∷ rest) x are e =
     let read : cond (byte == 0) (done (Equal, rest)) (cond (byte == 1) (done (NotEqual, rest)) (cond (byte == 2) (done (Match, rest))
-        (cond (byte == 3) (done (NotMatch, rest)) (failed BadValue)))) ≡ done x = e in
+    (cond (byte == 3) (done (NotMatch, rest)) (failed BadValue)))) ≡ done x = e in
     elim (eqb_tells byte 0) [
       | inl zeroth ↦ said_by operator_number byte rest Equal x are zeroth.1 (rw zeroth.0 at read)
       | inr one ↦ elim (eqb_tells byte 1) [
@@ -160,7 +160,13 @@ silence_found bytes x are e =
     let comment = text_found f.0.1 g.0 created_by.takes.are g.1 in
     let matchers = matchers_found g.0.1 h.0 comment.takes.are h.1 in
     let silence : Silence = record {
-      id = a.0.0; starts_at = b.0.0; ends_at = c.0.0; kept_until = d.0.0; created_by = f.0.0; comment = g.0.0; matchers = h.0.0;
+      id = a.0.0;
+      starts_at = b.0.0;
+      ends_at = c.0.0;
+      kept_until = d.0.0;
+      created_by = f.0.0;
+      comment = g.0.0;
+      matchers = h.0.0;
     } in
     let whole = then_takes id.takes (then_takes starts_at.takes (then_takes ends_at.takes (then_takes kept_until.takes
     (then_takes created_by.takes (then_takes comment.takes matchers.takes))))) in
@@ -168,8 +174,13 @@ silence_found bytes x are e =
     subst (Stood silence_bytes IsSilence bytes) (done_is made x h.2) (record {
       takes = whole;
       valid = record {
-        id = id.long; starts_at = starts_at.valid; ends_at = ends_at.valid; kept_until = kept_until.valid;
-        created_by = created_by.valid; comment = comment.valid; matchers = matchers.valid;
+        id = id.long;
+        starts_at = starts_at.valid;
+        ends_at = ends_at.valid;
+        kept_until = kept_until.valid;
+        created_by = created_by.valid;
+        comment = comment.valid;
+        matchers = matchers.valid;
       };
     })
 
@@ -192,7 +203,11 @@ alert_found bytes x are e =
     subst (Stood alert_bytes IsAlert bytes) (done_is made x f.2) (record {
       takes = whole;
       valid = record {
-        labels = labels.valid; annotations = annotations.valid; starts_at = starts_at.valid; ends_at = ends_at.valid; generator_url = url.valid;
+        labels = labels.valid;
+        annotations = annotations.valid;
+        starts_at = starts_at.valid;
+        ends_at = ends_at.valid;
+        generator_url = url.valid;
       };
     })
 
@@ -218,7 +233,12 @@ entry_found bytes x are e =
     subst (Stood entry_bytes IsEntry bytes) (done_is made x g.2) (record {
       takes = whole;
       valid = record {
-        receiver = receiver.valid; group = group.valid; webhook = webhook.valid; ends_at = ends_at.valid; firing = firing.valid; resolved = resolved.valid;
+        receiver = receiver.valid;
+        group = group.valid;
+        webhook = webhook.valid;
+        ends_at = ends_at.valid;
+        firing = firing.valid;
+        resolved = resolved.valid;
       };
     })
 
@@ -227,7 +247,7 @@ unfolding thing_kind_at
 thing_kind_found [] x are e = absurd (let never : failed FieldPastEnd ≡ done x = e in cc)
 thing_kind_found (byte ∷ rest) x are e =
     let read : cond (byte == 1) (done (kind.Configuration, rest)) (cond (byte == 2) (done (kind.Silence, rest)) (cond (byte == 3) (done (kind.Alert, rest))
-        (cond (byte == 4) (done (kind.SentEntry, rest)) (failed BadValue)))) ≡ done x = e in
+    (cond (byte == 4) (done (kind.SentEntry, rest)) (failed BadValue)))) ≡ done x = e in
     elim (eqb_tells byte 1) [
       | inl first ↦ said_by thing_number byte rest kind.Configuration x are first.1 (rw first.0 at read)
       | inr two ↦ elim (eqb_tells byte 2) [

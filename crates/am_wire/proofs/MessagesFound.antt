@@ -35,8 +35,8 @@ unfolding body_kind_at
 body_kind_found [] x are e = absurd (let never : failed FieldPastEnd ≡ done x = e in cc)
 body_kind_found (byte ∷ rest) x are e =
     let read : cond (byte == 1) (done (kind.Get, rest)) (cond (byte == 2) (done (kind.Answer, rest)) (cond (byte == 3) (done (kind.Put, rest))
-        (cond (byte == 4) (done (kind.Ack, rest)) (cond (byte == 5) (done (kind.Ask, rest)) (cond (byte == 6) (done (kind.State, rest))
-        (cond (byte == 7) (done (kind.Got, rest)) (failed UnknownKind))))))) ≡ done x = e in
+    (cond (byte == 4) (done (kind.Ack, rest)) (cond (byte == 5) (done (kind.Ask, rest)) (cond (byte == 6) (done (kind.State, rest))
+    (cond (byte == 7) (done (kind.Got, rest)) (failed UnknownKind))))))) ≡ done x = e in
     elim (eqb_tells byte 1) [
       | inl first ↦ said_by body_number byte rest kind.Get x are first.1 (rw first.0 at read)
       | inr two ↦ elim (eqb_tells byte 2) [
@@ -206,10 +206,16 @@ message_found bytes x are e =
     let tenant = tenant_found h.0.1 i.0 epoch.takes.are i.1 in
     let body = body_found b.0.0 i.0.1 j.0 tenant.takes.are j.1 in
     let message : Message = record {
-      from = c.0.0; incarnation = d.0.0; to = f.0.0; count = g.0.0; epoch = h.0.0; tenant = i.0.0; body = j.0.0;
+      from = c.0.0;
+      incarnation = d.0.0;
+      to = f.0.0;
+      count = g.0.0;
+      epoch = h.0.0;
+      tenant = i.0.0;
+      body = j.0.0;
     } in
     let behind : List ℕ = c.0.0 ∷ (number_bytes 4 d.0.0 ++ f.0.0 ∷ (number_bytes 8 g.0.0 ++ (number_bytes 8 h.0.0
-        ++ length i.0.0 ∷ (i.0.0 ++ body_bytes j.0.0)))) in
+    ++ length i.0.0 ∷ (i.0.0 ++ body_bytes j.0.0)))) in
     let after_kind = then_takes from.takes (then_takes incarnation.takes (then_takes to.takes
     (then_takes count.takes (then_takes epoch.takes (then_takes tenant.takes body.takes))))) in
     let whole = then_takes version (then_takes its_kind after_kind) in
@@ -217,7 +223,12 @@ message_found bytes x are e =
     subst (Stood inside IsMessage bytes) (done_is made x j.2) (record {
       takes = subst (λ (k : BodyKind). Takes bytes (message_version ∷ (body_number k ∷ behind)) j.0.1) (sym body.valid.its) whole;
       valid = record {
-        from = from.valid; incarnation = incarnation.valid; to = to.valid; count = count.valid; epoch = epoch.valid; tenant = tenant.valid;
+        from = from.valid;
+        incarnation = incarnation.valid;
+        to = to.valid;
+        count = count.valid;
+        epoch = epoch.valid;
+        tenant = tenant.valid;
         body = body.valid.valid;
       };
     })
