@@ -230,7 +230,10 @@ fn what_is_held_is_sent_as_its_list(rt: HostRuntime) -> Result<(), Fail> {
     let list = Items::from_vec(alloc, held.items(alloc)?)?;
     let listed = answer_of(alloc, list)?;
     let sent = answer_of(alloc, Items::from_held(held))?;
-    holds(sent.as_slice() == listed.as_slice(), "an Answer of what is held")?;
+    holds(
+        sent.as_slice() == listed.as_slice(),
+        "an Answer of what is held",
+    )?;
     let held = brought(alloc, sent.as_slice())?;
     best_are_held(&held)
 }

@@ -24,13 +24,21 @@ fn labels(alloc: Global, number: u32) -> Result<LabelSet> {
     labels.push(label(alloc, "instance", format!(in alloc; "node-{host}:9100")?)?)?;
     labels.push(label(alloc, "job", format!(in alloc; "prod-{job}")?)?)?;
     labels.push(label(alloc, "severity", format!(in alloc; "critical")?)?)?;
-    LabelSet::from_pairs(alloc, labels).ok().context("no label set")
+    LabelSet::from_pairs(alloc, labels)
+        .ok()
+        .context("no label set")
 }
 
 fn annotations(alloc: Global) -> Result<Annotations> {
     let mut labels = Vec::new(alloc);
-    labels.push(label(alloc, "summary", format!(in alloc; "The instance is down.")?)?)?;
-    Annotations::from_pairs(alloc, labels).ok().context("no annotations")
+    labels.push(label(
+        alloc,
+        "summary",
+        format!(in alloc; "The instance is down.")?,
+    )?)?;
+    Annotations::from_pairs(alloc, labels)
+        .ok()
+        .context("no annotations")
 }
 
 /// The alert of a number, as it was written so many milliseconds after the first moment.

@@ -67,7 +67,9 @@ impl Office {
             body: Octets::from_vec(Vec::new(alloc)),
         };
         let connection = ConnectionId::new(1);
-        let number = self.ops.start(alloc, connection, request, moment(0)?, EPOCH)?;
+        let number = self
+            .ops
+            .start(alloc, connection, request, moment(0)?, EPOCH)?;
         Ok(number)
     }
 
