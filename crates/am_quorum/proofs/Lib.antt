@@ -4,3 +4,4 @@ pub mod Seen
 pub mod Deadlines
 pub mod Timed
 pub mod Started
+pub mod Others

@@ -1,6 +1,7 @@
 -- The operations of all tenants at an instance.
 use Rattle.std.specs.Prelude.{◌≡◌, ℕ, ◌+◌, ◌^◌, ◌≤◌, nat_lt, List, [], ◌∷◌, ◌++◌, map, Option, Some, None}
 use Rattle.std.specs.Prelude.{if◌then◌else◌}
+use Rattle.std.specs.Cmp.Lexicographic.{slice_cmp}
 use Rattle.std.specs.List.Sorted.{IsStrictlySortedBy}
 use Rattle.std.specs.Map.{keys_of, lookup}
 use Rattle.std.specs.Ordering.{nat_cmp}
@@ -71,6 +72,14 @@ Stay old new = (t : List ℕ) → docket_of t new ≡ docket_of t old
 abbrev pub pairs_in : List (List ℕ × Docket) → List (List ℕ × Operation)
 pairs_in [] = []
 pairs_in (e ∷ es) = map (λ o. (e.0, o)) e.1.operations ++ pairs_in es
+
+-- those of an instance
+abbrev pub pairs_of : Ops → List (List ℕ × Operation)
+pairs_of ops = pairs_in ops.dockets
+
+-- the dockets lie in order of their tenants
+abbrev pub AreOrdered : Ops → Type 0
+AreOrdered ops = IsStrictlySortedBy (slice_cmp nat_cmp) (keys_of ops.dockets)
 
 -- a docket with one operation more
 abbrev pub added : Operation → Docket → Docket

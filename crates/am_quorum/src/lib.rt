@@ -4,6 +4,7 @@
 
 mod deadline;
 mod docket;
+pub mod laws;
 mod operation;
 mod ops;
 

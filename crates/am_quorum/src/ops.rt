@@ -7,8 +7,9 @@ ghost use Rattle.am_timer.specs.Queue.{is_due};
 ghost use Rattle.am_timer.specs.Tied.{has_timer};
 ghost use Rattle.am_timer.specs.Timer.{Timer as Timed, timer_cmp};
 ghost use Rattle.am_quorum.specs.Deadlines.{is_deadline};
-ghost use Rattle.am_quorum.specs.Dockets.{Changes, Stay, acknowledged_in, answered_in, closed_in, docket_of};
-ghost use Rattle.am_quorum.specs.Dockets.{emptied, expired_in, no_docket, operations_of, started, waiting_in};
+ghost use Rattle.am_quorum.specs.Dockets.{AreOrdered, Changes, Stay, acknowledged_in, answered_in, closed_in};
+ghost use Rattle.am_quorum.specs.Dockets.{docket_of, emptied, expired_in, no_docket, operations_of, started};
+ghost use Rattle.am_quorum.specs.Dockets.{waiting_in};
 ghost use Rattle.am_quorum.specs.Operations.{connections_of, late, lists_by, opened, operation_at, ready_by, target_in};
 ghost use Rattle.am_quorum.specs.declared.operation.Operation.{Operation};
 
@@ -74,7 +75,8 @@ impl Ops {
 
     /// The tenant's operation of a number, where it is open.
     pub fn get(&self, tenant: &TenantName, number: u64) -> Option<&Operation>
-        ensures { option_copied result ≡ operation_at number (operations_of tenant.now self.now) }
+        ensures operation { option_copied result ≡ operation_at number (operations_of tenant.now self.now) }
+        ensures ordered { AreOrdered self.now }
     {
         match self.dockets.get(tenant) {
             Some(docket) => docket.operation(number),

@@ -9,3 +9,7 @@ pub mod FieldsAgain
 pub mod LabelsAgain
 pub mod ItemsAgain
 pub mod MessagesAgain
+pub mod FieldsFound
+pub mod LabelsFound
+pub mod ItemsFound
+pub mod MessagesFound

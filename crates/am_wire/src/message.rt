@@ -103,8 +103,8 @@ impl Message {
 }
 
 impl Body {
-    // The same, with the same items.
-    fn share(&self) -> Result<Body, AllocError>
+    /// The same, with the same items. It takes no memory; an error says that they are held as often as can be counted.
+    pub fn share(&self) -> Result<Body, AllocError>
         ensures { IfOk result (λ shared. shared ≡ self.now) }
     {
         match *self {

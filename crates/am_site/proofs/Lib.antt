@@ -1,0 +1,5 @@
+pub mod Acks
+pub mod Answers
+pub mod Begun
+pub mod Lengths
+pub mod Reacting

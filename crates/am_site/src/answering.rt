@@ -1,0 +1,61 @@
+//! What an instance answers as a replica.
+
+ghost use Rattle.std.specs.Prelude.{◌≡◌, ℕ, List, IfErr, IfOk, OnOk};
+ghost use Rattle.am_cluster.specs.Arriving.{answer_get};
+ghost use Rattle.am_transfer.specs.Peers.{peer};
+ghost use Rattle.am_site.specs.Here.{here_of};
+ghost use Rattle.am_site.specs.Locals.{local_of};
+ghost use Rattle.am_site.specs.Reacting.{Reacts, StopsReacting};
+
+use crate::here::Here;
+use crate::said::Said;
+use crate::site::Site;
+use am_item::Fault;
+use am_ring::Instance;
+use am_tenant::TenantName;
+use am_wire::{Body, Items};
+use std::alloc::{AllocError, Global};
+
+impl Site {
+    /// Answers an instance, in this incarnation of it, that asks for the best items of a tenant for an operation: a
+    /// settled replica sends all that it holds.
+    ///
+    /// # Errors
+    /// `CountsExhausted` where the tenant's messages here would pass 2^62 or the answer is too long, or out of memory.
+    pub fn answer_get(
+        &mut self,
+        alloc: Global,
+        here: &Here,
+        asker: Instance,
+        incarnation: u32,
+        operation: u64,
+        outbox: &mut Vec<Said>,
+    ) -> Result<(), Fault>
+        ensures reacts { OnOk result (Reacts here.now.tenant.now
+            (answer_get (here_of here.now) (peer asker incarnation) operation)
+            self.old self.new outbox.old.items outbox.new.items) }
+        ensures fault { IfErr result (StopsReacting here.now.tenant.now
+            (answer_get (here_of here.now) (peer asker incarnation) operation) self.old) }
+    {
+        if !here.has_stayed {
+            return Ok(());
+        }
+        let items = self.snapshot(alloc, here.tenant)?;
+        let body = Body::Answer {
+            operation,
+            incarnation,
+            items,
+        };
+        self.send_in(alloc, here, here.epoch, asker, body, outbox)
+    }
+
+    // All that is held of a tenant, as the items of a message.
+    fn snapshot(&mut self, alloc: Global, tenant: &TenantName) -> Result<Items, AllocError>
+        ensures items { IfOk result (λ items. items ≡ (local_of tenant.now self.old).held) }
+        ensures stays { OnOk result ((t : List ℕ) → local_of t self.new ≡ local_of t self.old) }
+    {
+        let (held, _config) = self.node.in_use(alloc, tenant)?;
+        let held = held.snapshot()?;
+        Ok(Items::from_held(held))
+    }
+}

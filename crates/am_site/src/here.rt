@@ -1,0 +1,27 @@
+use am_limit::Limits;
+use am_ring::Instance;
+use am_tenant::TenantName;
+use am_text::Moment;
+
+/// What an instance goes by where something happens to a tenant, beside what it has of the tenant.
+#[derive(Drop)]
+pub struct Here<'a> {
+    /// Whose it is.
+    pub tenant: &'a TenantName,
+    /// The instance.
+    pub instance: Instance,
+    /// Which start of it this is, from 1 on.
+    pub incarnation: u32,
+    /// The moment at which it happens.
+    pub moment: Moment,
+    /// The tenant's limits.
+    pub limits: Limits,
+    /// The epoch of the ring that the instance knows.
+    pub epoch: u64,
+    /// The tenant's three replicas in that ring, in order of position.
+    pub three: &'a [Instance],
+    /// Whether the instance was never joined or restarted, and was one of the three in every ring that it has known.
+    pub has_stayed: bool,
+    /// The present incarnations of the instances 1 to 8, in their order.
+    pub incarnations: &'a [u32],
+}

@@ -1,0 +1,14 @@
+//! What one instance of several has of all tenants, and what each thing that happens does there: it asks the three
+//! replicas of a tenant, decides by two of their answers, and has two acknowledge what it decided.
+#![tactic(auto)]
+
+mod answering;
+mod here;
+mod operating;
+mod said;
+mod sending;
+mod site;
+
+pub use here::Here;
+pub use said::Said;
+pub use site::Site;
