@@ -1,5 +1,5 @@
 -- What an Ack makes of a tenant's docket is what it makes of what an instance has.
-use Rattle.std.proofs.Common.{◌≡◌, ℕ, true, List, [], Option, Some, None, refl}
+use Rattle.std.proofs.Common.{◌≡◌, ℕ, true, List, Option, Some, None, refl}
 use Rattle.am_cluster.specs.Local.{Local}
 use Rattle.am_cluster.specs.Operating.{ack_by, acked, finish, first_ack}
 use Rattle.am_cluster.specs.Reactions.{Reaction, where_some}
