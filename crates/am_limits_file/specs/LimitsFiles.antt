@@ -1,5 +1,6 @@
 -- The file of limits: what it says, or the first place at which it isn't of its form.
-use Rattle.std.specs.Prelude.{ℕ, Bool, true, List, [], ◌∷◌, codes, Option, Some, None, option_and_then, Result, Ok, Err, if◌then◌else◌}
+use Rattle.std.specs.Prelude.{ℕ, Bool, true, List, [], ◌∷◌, codes, Option, Some, None, option_and_then, Result, Ok, Err}
+use Rattle.std.specs.Prelude.{if◌then◌else◌}
 use Rattle.std.specs.List.{list_any}
 use Rattle.std.specs.Str.{bytes_eq}
 use Rattle.serde_json.specs.Data.{Data, Members, no_members, member}
@@ -15,7 +16,8 @@ use Rattle.am_limits_file.specs.declared.reading.Level.TheVariants as level
 use Rattle.am_limits_file.specs.declared.reading.LimitsFile.{LimitsFile}
 use Rattle.am_limits_file.specs.declared.reading.TenantLimits.{TenantLimits}
 use Rattle.am_limits_file.specs.declared.refusal.LimitsFault.{LimitsFault}
-use Rattle.am_limits_file.specs.declared.refusal.LimitsFault.TheVariants.{NotJson, NotObject, UnknownKey, NotNumber, NotTenant}
+use Rattle.am_limits_file.specs.declared.refusal.LimitsFault.TheVariants.{NotJson, NotObject, UnknownKey, NotNumber}
+use Rattle.am_limits_file.specs.declared.refusal.LimitsFault.TheVariants.{NotTenant}
 use Rattle.am_limits_file.specs.declared.refusal.LimitsRefusal.{LimitsRefusal}
 
 -- the text is one of these
@@ -30,7 +32,8 @@ stated place fault (Some x) = Ok x
 -- the keys of an object
 abbrev pub keys_of : Level → List (List ℕ)
 keys_of level.File = codes "default" ∷ codes "tenants" ∷ []
-keys_of level.Limits = codes "alerts" ∷ codes "silences" ∷ codes "configuration" ∷ codes "silence" ∷ codes "notices" ∷ []
+keys_of level.Limits =
+    codes "alerts" ∷ codes "silences" ∷ codes "configuration" ∷ codes "silence" ∷ codes "notices" ∷ []
 
 -- each key is known
 abbrev pub known_among : List ℕ → Level → Members → Result (Unit {0}) LimitsRefusal

@@ -4,8 +4,9 @@ ghost use Rattle.std.specs.Prelude.{◌≡◌, [], codes};
 ghost use Rattle.serde_json.specs.Find.{get};
 ghost use Rattle.serde_json.specs.View.{members_view, view};
 ghost use Rattle.am_text.specs.Outcome.{Gives};
-ghost use Rattle.am_limits_file.specs.LimitsFiles.{default_from, default_in, file_in, file_of, known_among, limits_in, number_at, number_in, tenant_in, tenants_from, tenants_in, tenants_of};
-ghost use Rattle.am_limits_file.specs.LimitsFiles.{has_text, keys_of, known_in, tenant_named};
+ghost use Rattle.am_limits_file.specs.LimitsFiles.{default_from, default_in, file_in, file_of, has_text, keys_of};
+ghost use Rattle.am_limits_file.specs.LimitsFiles.{known_among, known_in, limits_in, number_at, number_in, tenant_in};
+ghost use Rattle.am_limits_file.specs.LimitsFiles.{tenant_named, tenants_from, tenants_in, tenants_of};
 ghost use Rattle.std.specs.List.{list_any};
 ghost use Rattle.std.specs.Str.{bytes_eq};
 
@@ -45,8 +46,8 @@ pub struct LimitsFile {
     pub tenants: Listed<TenantLimits>,
 }
 
-/// What a text says of limits: a JSON object that may have `default` and `tenants`. A number that `default` doesn't say is
-/// that of a tenant for which no limits were set; one that a tenant doesn't say is the default's.
+/// What a text says of limits: a JSON object that may have `default` and `tenants`. A number that `default` doesn't
+/// say is that of a tenant for which no limits were set; one that a tenant doesn't say is the default's.
 ///
 /// # Errors
 /// The first place at which the text isn't of its form: an object's keys come before what they hold, `default` before
@@ -132,7 +133,8 @@ fn tenants_of(
     default: Limits,
     members: &Map<String, Value>,
 ) -> Result<Vec<TenantLimits>, Failure<LimitsRefusal>>
-    ensures { Gives (λ tenants. tenants.items) result (tenants_of place.now default (members_view members.now.entries)) }
+    ensures { Gives (λ tenants. tenants.items) result
+        (tenants_of place.now default (members_view members.now.entries)) }
 {
     let mut tenants = Vec::with_capacity(alloc, members.len())?;
     for (name, value) in members.iter() {
