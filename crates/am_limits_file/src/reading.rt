@@ -117,11 +117,7 @@ fn tenants_from(
 {
     let place = Text::read(alloc, "tenants")?;
     match value.as_object() {
-        None => Err(Failure::Refused(LimitsRefusal::at(
-            alloc,
-            &place,
-            LimitsFault::NotObject,
-        )?)),
+        None => Err(Failure::Refused(LimitsRefusal::at(alloc, &place, LimitsFault::NotObject)?)),
         Some(members) => tenants_of(alloc, &place, default, members),
     }
 }
@@ -171,11 +167,7 @@ fn tenant_named(
 {
     match TenantName::read(name.as_bytes()) {
         Ok(tenant) => Ok(tenant),
-        Err(_) => Err(Failure::Refused(LimitsRefusal::at(
-            alloc,
-            place,
-            LimitsFault::NotTenant,
-        )?)),
+        Err(_) => Err(Failure::Refused(LimitsRefusal::at(alloc, place, LimitsFault::NotTenant)?)),
     }
 }
 
@@ -228,11 +220,7 @@ fn number_in(alloc: Global, place: &Text, value: &Value) -> Result<u64, Failure<
 {
     match value.as_u64() {
         Some(number) => Ok(number),
-        None => Err(Failure::Refused(LimitsRefusal::at(
-            alloc,
-            place,
-            LimitsFault::NotNumber,
-        )?)),
+        None => Err(Failure::Refused(LimitsRefusal::at(alloc, place, LimitsFault::NotNumber)?)),
     }
 }
 
@@ -246,11 +234,7 @@ fn known_in(
     ensures { Gives (λ _. tt) result (known_in place.now level (view value.now)) }
 {
     match value.as_object() {
-        None => Err(Failure::Refused(LimitsRefusal::at(
-            alloc,
-            place,
-            LimitsFault::NotObject,
-        )?)),
+        None => Err(Failure::Refused(LimitsRefusal::at(alloc, place, LimitsFault::NotObject)?)),
         Some(members) => known_among(alloc, place, level, members),
     }
 }
