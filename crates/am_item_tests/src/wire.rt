@@ -1,7 +1,11 @@
 //! Frames written out by hand: each is read, and the message is written as the same bytes.
-use am_expect::equal;
-use am_text::Failure;
-use am_wire::{Message, decode, encode, spelled_len};
+use crate::item::{best_are_held, hold_all};
+use am_expect::{equal, holds};
+use am_item::Held;
+use am_ring::Instance;
+use am_tenant::TenantName;
+use am_text::{Failure, Octets};
+use am_wire::{Body, Items, Message, decode, encode, spelled_len};
 use std::alloc::Global;
 use std::test::Fail;
 
@@ -187,4 +191,49 @@ fn no_beginning_is_a_frame(rt: HostRuntime) -> Result<(), Fail> {
         equal(code(rt.alloc(), &frame[..length]), "Wi1", "a beginning")?;
     }
     Ok(())
+}
+
+// The bytes of an Answer of these items.
+fn answer_of(alloc: Global, items: Items) -> Result<Octets, Fail> {
+    let message = Message {
+        from: Instance::new(1).ok_or("no sender")?,
+        incarnation: 1,
+        to: Instance::new(2).ok_or("no receiver")?,
+        count: 1,
+        epoch: 0,
+        tenant: TenantName::read(b"a").ok().ok_or("no tenant")?,
+        body: Body::Answer {
+            operation: 7,
+            incarnation: 2,
+            items,
+        },
+    };
+    let bytes = encode(alloc, &message).ok().ok_or("not written")?;
+    equal(measured(&message, bytes.as_slice()), "", "an Answer")?;
+    Ok(bytes)
+}
+
+// What an Answer brings.
+fn brought(alloc: Global, bytes: &[u8]) -> Result<Held, Fail> {
+    let message = decode(alloc, bytes).ok().ok_or("not read")?;
+    match &message.body {
+        Body::Answer { items, .. } => Ok(items.held(alloc)?),
+        _ => Err(Fail::new("no Answer")),
+    }
+}
+
+#[test]
+fn what_is_held_is_sent_as_its_list(rt: HostRuntime) -> Result<(), Fail> {
+    let alloc = rt.alloc();
+    let mut held = Held::new(alloc)?;
+    hold_all(alloc, &mut held)?;
+    let list = Items::from_vec(alloc, held.items(alloc)?)?;
+    let listed = answer_of(alloc, list)?;
+    let sent = answer_of(alloc, Items::from_held(held))?;
+    holds(
+        sent.as_slice() == listed.as_slice(),
+        "an Answer of what is held",
+    )?;
+    let held = brought(alloc, sent.as_slice())?;
+    best_are_held(&held)
 }
