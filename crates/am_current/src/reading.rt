@@ -88,7 +88,7 @@ impl Readings {
 
 // The text of the configuration that is held.
 #[tactic(auto, unfolding(crate::specs::Current::configuration_in))]
-fn text_of(held: &Held) -> Option<&Text>
+pub(crate) fn text_of(held: &Held) -> Option<&Text>
     ensures text { IfSome result (λ text. configuration_in held.now ≡ or_default (reading (draft_in text.now))) }
     ensures none { IfNone result (configuration_in held.now ≡ default_configuration) }
 {
@@ -99,7 +99,7 @@ fn text_of(held: &Held) -> Option<&Text>
 }
 
 // What the text is read as by the grammars alone, and the default configuration where it is refused.
-fn read_or_default(alloc: Global, text: &Text) -> Result<Config, AllocError>
+pub(crate) fn read_or_default(alloc: Global, text: &Text) -> Result<Config, AllocError>
     ensures { IfOk result (λ c. c ≡ or_default (reading (draft_in text.now))) }
 {
     match Config::reread(alloc, text.as_str().as_bytes()) {
