@@ -4,6 +4,8 @@ pub mod Builds
 pub mod ConfigurationLemmas
 -- for callers: the counts of a decision's items
 pub mod Counts
+-- for callers: what was returned is what may be decided
+pub mod Choice
 -- what no refusal adds but that of a pattern which is not built
 mod Keeping
 -- the replies to requests whose patterns are refused

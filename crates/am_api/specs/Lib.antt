@@ -12,3 +12,5 @@ pub mod Patterns
 pub mod Deciding
 -- how requests are refused for patterns that aren't built, and which stored ones they ask
 pub mod Refusing
+-- what may be decided on a request
+pub mod Choice

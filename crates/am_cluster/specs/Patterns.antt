@@ -1,26 +1,19 @@
 -- The texts that a tenant has as patterns, and that those of an accepted request were built.
-use Rattle.std.specs.Prelude.{ℕ, ◌<◌, ◌⊎◌, All, IfSome, List, [], ◌∷◌, ◌++◌, length}
+use Rattle.std.specs.Prelude.{ℕ, IfSome, List, [], ◌∷◌, ◌++◌}
 use Rattle.std.specs.List.{flat_map}
+use Rattle.am_api.specs.Choice.{BuildsAccepted}
 use Rattle.am_api.specs.Patterns.{patterns_of_items, patterns_of_request}
-use Rattle.am_api.specs.Replied.{Decision}
-use Rattle.am_http.specs.declared.request.Request.{Request}
 use Rattle.am_item.specs.declared.item.Item.{Item}
-use Rattle.am_pattern.specs.Kept.{HasRegex}
 use Rattle.am_ring.specs.Instances.{all_instances}
 use Rattle.am_cluster.specs.Courses.{after}
 use Rattle.am_cluster.specs.Deciding.{Deciding, deciding_at, decision_of}
 use Rattle.am_cluster.specs.Happening.{Happening, Asked, Changed, Delivered, Forced, Limited, Lost, Ticked, Tried}
 use Rattle.am_cluster.specs.PrivateCluster.{PrivateCluster}
 
--- where the request is accepted, which is that something is stored or the reply is no refusal, a regex was built of
--- each pattern that it brings
-abbrev pub AcceptsBuilt : Request → Decision → Type 0
-AcceptsBuilt request d = (0 < length d.items) ⊎ (d.status < 400) → All HasRegex (patterns_of_request request)
-
 -- a request is decided at the second answer: so it is then that its patterns are asked
 abbrev pub AsksBuilt : PrivateCluster → Happening → Type 0
 AsksBuilt p h =
-    IfSome (deciding_at p h) (λ (d : Deciding). AcceptsBuilt d.operation.request (decision_of p.service_key d))
+    IfSome (deciding_at p h) (λ (d : Deciding). BuildsAccepted d.operation.request (decision_of p.service_key d))
 
 -- .. of all that happens
 abbrev pub AreAllBuilt : PrivateCluster → List Happening → Type 0

@@ -1,14 +1,13 @@
 -- what was decided on a request, as the instance sees it
-use Rattle.std.proofs.Common.{◌≡◌, inl, inr, ◌∙◌, ℕ, ◌+◌, ◌<◌, ◌≤◌, true, List, [], ◌∷◌, ◌++◌, length, Some, Result}
-use Rattle.std.proofs.Common.{Ok, Err, IfOk, IfErr, refl, sym, ap, arith, subst}
-use Rattle.am_alert.specs.Made.{counts_fit, greatest_count}
-use Rattle.am_api.specs.Deciding.{DecidesBy, IsUnbuilt, decision_of}
+use Rattle.std.proofs.Common.{◌≡◌, inl, inr, ◌∙◌, ℕ, ◌+◌, List, [], ◌∷◌, ◌++◌, Some, Result}
+use Rattle.std.proofs.Common.{Ok, Err, IfOk, IfErr, refl, sym, ap, subst}
+use Rattle.am_api.specs.Deciding.{DecidesBy, decision_of}
 use Rattle.am_api.specs.Decision.{decided}
 use Rattle.am_api.specs.Patterns.{patterns_of_request}
 use Rattle.am_api.specs.Refusing.{Refuses, stored_asked}
 use Rattle.am_api.specs.Replied.{Decision}
 use Rattle.am_api.specs.declared.decision.Decided.{Decided}
-use Rattle.am_api.proofs.Counts.{room}
+use Rattle.am_api.proofs.Choice.{items_fit, items_have_room, may_decide, no_items}
 use Rattle.am_config.specs.Configuration.{Configuration}
 use Rattle.am_current.specs.Current.{configuration_in}
 use Rattle.am_http.specs.declared.request.Request.{Request}
@@ -33,16 +32,11 @@ use Rattle.am_replica.specs.Storing.{fault_in}
 use Rattle.am_node.specs.Accepting.{StopsCommitting}
 use Rattle.am_node.specs.Local.{Local}
 use Rattle.am_instance.specs.Instance.{here_of, local_in}
-use Rattle.am_instance.specs.Reaction.{AcceptsBuilt, Here, MayDecide, StopsFor, Terms, decision_at, maker}
+use Rattle.am_instance.specs.Reaction.{Here, StopsFor, Terms, decision_at, maker}
+use Rattle.am_api.specs.Choice.{BuildsAccepted, MayDecide}
 use Rattle.am_instance.specs.Reaction.{refusal_reply, words}
 use Rattle.am_instance.specs.Taking.{Brings, IsDecided}
 use Rattle.am_instance.proofs.Growing.{adds_none}
-
--- a refusal for a pattern has no items
-pub no_items : (d : Decision) → IsUnbuilt d → d.items ≡ []
-no_items d (inl e) = ap (λ (x : Decision). x.items) e
-no_items d (inr (inl e)) = ap (λ (x : Decision). x.items) e
-no_items d (inr (inr e)) = ap (λ (x : Decision). x.items) e
 
 -- what was returned for a request of a tenant of whom the instance has this
 abbrev pub Returns : (old new : Cache) → Result Decided Fault → Request → Here → Local → Type 0
@@ -63,49 +57,20 @@ unfolding decision_at
 returned_at old new result request here local held config limits used drawn next held_is config_is limits_is used_is drawn_is next_is returned =
     rw (next_is, held_is, config_is, limits_is, used_is, drawn_is) at returned
 
-may_decide : (old new : Cache) (result : Result Decided Fault) (request : Request) (here : Here) (local : Local) →
-    Returns old new result request here local →
-    IfOk result (λ d. MayDecide old.refused new.refused request here.terms.limits (decision_at here request local) (decision_of d))
-may_decide old new (Ok d) request here local (inl right) = inl (right.0.0, right.1)
-may_decide old new (Ok d) request here local (inr (refuses, (unbuilt, own))) = inr (record {
-  old = old;
-  new = new;
-  had = refl;
-  has = refl;
-  refuses = refuses;
-  unbuilt = unbuilt;
-  own = own;
-})
-may_decide old new (Err fault) request here local returned = tt
-
-items_fit : (old new : Cache) (result : Result Decided Fault) (request : Request) (here : Here) (local : Local) →
-    Returns old new result request here local → IfOk result (λ d. counts_fit d.items.items ≡ true)
-items_fit old new (Ok d) request here local (inl right) = ap (λ (x : Decision). counts_fit x.items) right.0.0 ∙ right.0.1
-items_fit old new (Ok d) request here local (inr (refuses, (unbuilt, own))) = ap counts_fit (no_items (decision_of d) unbuilt)
-items_fit old new (Err fault) request here local returned = tt
-
-items_have_room : (old new : Cache) (result : Result Decided Fault) (request : Request) (here : Here) (local : Local) →
-    Returns old new result request here local →
-    IfOk result (λ d. 0 < length d.items.items → local.ledger.stamps + length d.items.items ≤ greatest_count)
-unfolding decision_at
-items_have_room old new (Ok d) request here local (inl right) = λ some.
-    let items = ap (λ (x : Decision). x.items) right.0.0 in
-    rw items (room request local.held here.terms.limits here.moment (maker here local.ledger) (words here local.ledger) right.0.1 (rw items at some))
-items_have_room old new (Ok d) request here local (inr (refuses, (unbuilt, own))) = λ some.
-    let none = no_items (decision_of d) unbuilt in
-    let never : 0 < 0 = rw none at some in absurd (omega arith)
-items_have_room old new (Err fault) request here local returned = tt
-
 -- what was decided
 pub decides : (old new : Cache) (result : Result Decided Fault) (request : Request) (here : Here) (local : Local) →
-    Returns old new result request here local → IfOk result (λ d. AcceptsBuilt request (decision_of d)) →
+    Returns old new result request here local → IfOk result (λ d. BuildsAccepted request (decision_of d)) →
     IfOk result (λ d. IsDecided old.refused new.refused request here local (decision_of d))
-decides old new (Ok d) request here local returned built = record {
-  decision = may_decide old new (Ok d) request here local returned;
-  fits = items_fit old new (Ok d) request here local returned;
-  room = items_have_room old new (Ok d) request here local returned;
-  built = built;
-}
+unfolding decision_at
+decides old new (Ok d) request here local returned built =
+    let limits = here.terms.limits in
+    let stored = stored_asked request (patterns_in_use (configuration_in local.held) here.moment local.held) in
+    record {
+      decision = may_decide old new request limits stored (Ok d) (decision_at here request local) returned;
+      fits = items_fit old new request limits stored (Ok d) (decision_at here request local) returned;
+      room = items_have_room old new request limits stored (Ok d) local.held limits here.moment (maker here local.ledger) (words here local.ledger) returned;
+      built = built;
+    }
 decides old new (Err fault) request here local returned built = tt
 
 pub stops_for : (old new : Cache) (result : Result Decided Fault) (request : Request) (here : Here) (local : Local) →
@@ -129,12 +94,12 @@ never_deciding old new (Err StoreRefused) request here local returned is = retur
 
 -- why an instance stops that accepts what was decided
 pub stops_accepting : (old between new : List (List ℕ)) (request : Request) (limits : Limits) (here : Here) (local after : Local) (fault : Fault)
-    (d : Decision) → MayDecide old between request limits (decision_at here request local) d → AcceptsBuilt request d → after ≡ local →
+    (d : Decision) → MayDecide old between request limits (decision_at here request local) d → BuildsAccepted request d → after ≡ local →
     StopsCommitting new d.items after fault → StopsFor fault request here local new
 stops_accepting old between new request limits here local after OutOfMemory d may built same stops = tt
 stops_accepting old between new request limits here local after CountsExhausted d may built same stops = absurd stops
 stops_accepting old between new request limits here local after PatternNotBuilt d (inl right) built same stops =
-    inr (rw (same, right.0) at stops, subst (AcceptsBuilt request) right.0 built)
+    inr (rw (same, right.0) at stops, subst (BuildsAccepted request) right.0 built)
 stops_accepting old between new request limits here local after PatternNotBuilt d (inr refused) built same stops =
     let none = no_items d refused.unbuilt in
     elim ((rw (same, none) at stops).0) [ inl alert ↦ absurd (false≢true alert) | inr configuration ↦ absurd (false≢true configuration.0) ]

@@ -19,10 +19,11 @@ use Rattle.am_tenant.specs.Names.{same}
 use Rattle.am_instance.specs.Keeping.{kept, kept_for}
 use Rattle.am_instance.specs.Instance.{local_in}
 use Rattle.am_instance.specs.Leaving.{BringsRejected, decided_on, taken_in}
-use Rattle.am_instance.specs.Reaction.{Here, MayDecide, decision_at}
+use Rattle.am_instance.specs.Reaction.{Here, decision_at}
+use Rattle.am_api.specs.Choice.{MayDecide}
 use Rattle.am_instance.specs.Shelves.{IsBacked, Shelf}
 use Rattle.am_instance.specs.declared.instance.Instance.{Instance}
-use Rattle.am_instance.proofs.Deciding.{no_items}
+use Rattle.am_api.proofs.Choice.{no_items}
 
 abbrev pub Locals : Type 0
 Locals = List ℕ → Local

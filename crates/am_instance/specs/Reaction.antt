@@ -1,5 +1,5 @@
 -- what an instance does when something happens to a tenant
-use Rattle.std.specs.Prelude.{◌≡◌, ◌⊎◌, ℕ, Bool, true, false, ◌<◌, List, [], ◌∷◌, ◌++◌, All, length, Option, Some}
+use Rattle.std.specs.Prelude.{◌≡◌, ◌⊎◌, ℕ, Bool, true, false, List, [], ◌∷◌, ◌++◌, Option, Some}
 use Rattle.std.specs.Prelude.{None, if◌then◌else◌}
 use Rattle.am_alert.specs.Made.{counts_fit}
 use Rattle.am_alert.specs.declared.maker.Maker.{Maker}
@@ -11,8 +11,6 @@ use Rattle.am_http.specs.declared.request.Fed.TheVariants as fed
 use Rattle.am_http.specs.declared.request.Request.{Request}
 use Rattle.am_item.specs.declared.fault.Fault.{Fault}
 use Rattle.am_item.specs.declared.fault.Fault.TheVariants.{OutOfMemory, CountsExhausted, PatternNotBuilt, StoreRefused}
-use Rattle.am_pattern.specs.Cache.{Cache}
-use Rattle.am_pattern.specs.Kept.{HasRegex}
 use Rattle.am_outlet.specs.declared.attempt.Sending.{Sending}
 use Rattle.am_tenant.specs.Names.{same}
 use Rattle.am_instance.specs.Keeping.{kept}
@@ -22,14 +20,13 @@ use Rattle.am_limit.specs.Books.{limits_of}
 use Rattle.am_limit.specs.declared.limits.Limits.{Limits}
 use Rattle.am_current.specs.Current.{configuration_in}
 use Rattle.am_words.specs.Words.{generator_of}
-use Rattle.am_query.specs.Patterns.{HasRefused}
 use Rattle.am_muting.specs.Failing.{HasUnanswered}
 use Rattle.am_listing.specs.Failing.{patterns_in_use}
 use Rattle.am_api.specs.Replied.{Decision}
 use Rattle.am_api.specs.Decision.{decided}
-use Rattle.am_api.specs.Deciding.{IsUnbuilt}
+use Rattle.am_api.specs.Choice.{BuildsAccepted}
 use Rattle.am_api.specs.Patterns.{patterns_of_request}
-use Rattle.am_api.specs.Refusing.{Refuses, stored_asked}
+use Rattle.am_api.specs.Refusing.{stored_asked}
 use Rattle.am_rows.specs.Rows.{has_stored}
 use Rattle.am_context.specs.declared.context.Context.{Context as NodeContext}
 use Rattle.am_node.specs.Accepting.{StopsAccepting}
@@ -95,24 +92,6 @@ carried_out moment connection decision local = record {
 unfoldable pub asked : Here → ℕ → Request → Local → Reaction
 asked here connection request local = carried_out here.moment connection (decision_at here request local) local
 
--- A pattern of the request was refused its build: under these limits the first of its checks that meets such a one
--- refuses the request, and stores nothing. The instance had been refused the first texts before, and the others
--- afterwards.
-pub record IsRefusedBuild (before after : List (List ℕ)) (request : Request) (limits : Limits) (d : Decision) :
-    Type 0 where
-  pub old : Cache
-  pub new : Cache
-  pub had : old.refused ≡ before
-  pub has : new.refused ≡ after
-  pub refuses : Refuses request limits old new d
-  pub unbuilt : IsUnbuilt d
-  pub own : HasRefused after (patterns_of_request request)
-
--- what may be decided on a request: the decision, which refuses no build; or, for a pattern of its own, such a refusal
-abbrev pub MayDecide : (before after : List (List ℕ)) → Request → Limits → Decision → Decision → Type 0
-MayDecide before after request limits decision d =
-    ((d ≡ decision) × (after ≡ before)) ⊎ IsRefusedBuild before after request limits d
-
 -- the tick of an instance, where it is up
 abbrev pub tick_if : Bool → List ℕ → NodeContext → Local → Reaction
 tick_if true tenant here local = ticked tenant here local
@@ -167,10 +146,6 @@ brought fed.Ready decide moment connection locals = only_says (Reply connection 
 brought (fed.Request request) decide moment connection locals =
     of_one request.tenant moment connection (decide request) locals
 
--- where the request is accepted, a regex was built of each pattern that it brings
-abbrev pub AcceptsBuilt : Request → Decision → Type 0
-AcceptsBuilt request d = (0 < length d.items) ⊎ (d.status < 400) → All HasRegex (patterns_of_request request)
-
 -- the texts that bytes of this verdict have an instance ask as patterns, at a moment at which it has this of each
 -- tenant: those of the request, and of those in use for its tenant the ones that it asks
 abbrev pub asked_for : Fed → (moment : ℕ) → (List ℕ → Local) → List (List ℕ)
@@ -192,7 +167,7 @@ StopsFor CountsExhausted request here local refused = counts_fit (decision_at he
 StopsFor PatternNotBuilt request here local refused =
     HasUnanswered refused (stored_asked request (patterns_in_use (configuration_in local.held) here.moment local.held))
     ⊎ (StopsAccepting refused (decision_at here request local).items local PatternNotBuilt
-    × AcceptsBuilt request (decision_at here request local))
+    × BuildsAccepted request (decision_at here request local))
 StopsFor StoreRefused request here local refused = has_stored (decision_at here request local).items ≡ true
 
 -- .. and at bytes, by their verdict

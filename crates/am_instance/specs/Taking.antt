@@ -13,7 +13,8 @@ use Rattle.am_node.specs.Local.{Local, Reaction}
 use Rattle.am_instance.specs.declared.given.Occasion.{Occasion}
 use Rattle.am_instance.specs.declared.output.AttemptName.{AttemptName}
 use Rattle.am_instance.specs.Instance.{here_of, local_in, refused_in, terms_in}
-use Rattle.am_instance.specs.Reaction.{AcceptsBuilt, Here, MayDecide, Terms}
+use Rattle.am_instance.specs.Reaction.{Here, Terms}
+use Rattle.am_api.specs.Choice.{BuildsAccepted, MayDecide}
 use Rattle.am_instance.specs.Reaction.{asked_for, brought, decision_at, in_node}
 
 -- what an instance has and has put out after bytes of a connection with this verdict, at this moment, where tenants are
@@ -27,7 +28,7 @@ pub record Brings (told : Fed) (c moment : ℕ) (terms : List ℕ → Terms) (x 
   pub outputs : after ≡ before ++ (brought told decide moment c (λ t. local_in t x)).outputs
   pub fits : (brought told decide moment c (λ t. local_in t x)).fits ≡ true
   pub local : (t : List ℕ) → local_in t x' ≡ (brought told decide moment c (λ s. local_in s x)).local t
-  pub built : (request : Request) → told ≡ fed.Request request → AcceptsBuilt request (decide request)
+  pub built : (request : Request) → told ≡ fed.Request request → BuildsAccepted request (decide request)
   pub adds : AddsAmong (asked_for told moment (λ t. local_in t x)) (refused_in x) (refused_in x')
 
 -- what an instance decided on a request, which goes by this and had this of the tenant: it may decide that, all counts
@@ -37,7 +38,7 @@ pub record IsDecided (before after : List (List ℕ)) (request : Request) (here 
   pub decision : MayDecide before after request here.terms.limits (decision_at here request local) d
   pub fits : counts_fit d.items ≡ true
   pub room : 0 < length d.items → local.ledger.stamps + length d.items ≤ greatest_count
-  pub built : AcceptsBuilt request d
+  pub built : BuildsAccepted request d
 
 -- its reaction to the outcome of a try of an attempt on an occasion
 abbrev pub outcome_in : Instance → Occasion → AttemptName → (tries : ℕ) → Option ℕ → Local → Reaction

@@ -20,7 +20,8 @@ use Rattle.am_instance.specs.Instance.{HasMore, here_of, local_in, reads}
 use Rattle.am_http.specs.Verdict.{verdict}
 use Rattle.am_node.specs.Local.{blank}
 use Rattle.am_tenant.specs.Names.{same}
-use Rattle.am_instance.specs.Reaction.{Brought, Here, MayDecide, Terms, asked_for, brought, decision_at}
+use Rattle.am_instance.specs.Reaction.{Brought, Here, Terms, asked_for, brought, decision_at}
+use Rattle.am_api.specs.Choice.{MayDecide}
 use Rattle.am_world.specs.Roster.{IsSameRoster}
 use Rattle.am_ring.specs.Instances.{all_instances, is_instance}
 use Rattle.am_world.specs.Taking.{Takes, taken_at}

@@ -24,7 +24,8 @@ use Rattle.am_world.specs.Moments.{effective, last_moment}
 use Rattle.am_world.specs.Places.{SameElsewhere, bytes_at, incarnation_at, incarnation_where, local_at, local_where}
 use Rattle.am_world.specs.Places.{refused_at, refused_where, roster_of, up_at, up_where}
 use Rattle.am_world.specs.PrivateCluster.{AreAllBuilt, Course, PrivateCluster, answered, here_at, put_out_at}
-use Rattle.am_instance.specs.Reaction.{AcceptsBuilt, IsRefusedBuild, MayDecide, Terms, asked_for, carried_out}
+use Rattle.am_instance.specs.Reaction.{Terms, asked_for, carried_out}
+use Rattle.am_api.specs.Choice.{BuildsAccepted, IsRefusedBuild, MayDecide}
 use Rattle.am_instance.specs.Reaction.{decision_at, terms_of}
 use Rattle.am_world.specs.Roster.{IsSameRoster, put_at}
 use Rattle.am_world.specs.Simulation.{IsRefusedAlone, KeepsBuilds, Kept, Later, RefusesBuild, Stands, fault_count}
@@ -120,7 +121,7 @@ refused_alone t v p w w' e outs n c m bytes told decide s adds_here sees_here sa
 
 -- what is accepted of the tenant has only patterns that were built
 built_bytes : (told : Fed) (decide : Request → Decision) (t : List ℕ) (n c m : ℕ) (w : State) (p : PrivateCluster) → Stands t w p →
-    IsRight t n m w told decide → ((r : Request) → told ≡ fed.Request r → AcceptsBuilt r (decide r)) → AreAllBuilt p (asked_by t c n m told)
+    IsRight t n m w told decide → ((r : Request) → told ≡ fed.Request r → BuildsAccepted r (decide r)) → AreAllBuilt p (asked_by t c n m told)
 built_bytes fed.Waits decide t n c m w p s right built = tt
 built_bytes (fed.Refused reason) decide t n c m w p s right built = tt
 built_bytes fed.Ready decide t n c m w p s right built = tt
@@ -129,7 +130,7 @@ built_bytes (fed.Request r) decide t n c m w p s right built = elim (same_tells 
       let alike : decide r ≡ decision_at (here_at p (effective m p.clock) n) r (p.at n) =
       right r refl e.1 ∙ ap (λ h. decision_at h r (local_at t n w.instances)) (sym (here_same t n m w p s))
       ∙ ap (decision_at (here_at p (effective m p.clock) n) r) (s.local n) in
-      rw e.0 (subst (AcceptsBuilt r) alike (built r refl), tt)
+      rw e.0 (subst (BuildsAccepted r) alike (built r refl), tt)
   | inr e ↦ rw e.0 tt
 ]
 

@@ -15,7 +15,8 @@ use Rattle.am_instance.specs.declared.output.Output.{Output}
 use Rattle.am_world.specs.declared.event.Refused.{Refused}
 use Rattle.am_world.specs.declared.event.Refused.TheVariants.{MomentRefused, NotAwaited}
 use Rattle.am_world.specs.Moments.{effective, is_refused_tick, is_too_late}
-use Rattle.am_instance.specs.Reaction.{AcceptsBuilt, Here, Terms, asked, carried_out, decision_at, in_node}
+use Rattle.am_instance.specs.Reaction.{Here, Terms, asked, carried_out, decision_at, in_node}
+use Rattle.am_api.specs.Choice.{BuildsAccepted}
 use Rattle.am_instance.specs.Reaction.{output_of, terms_with, tick_if}
 use Rattle.am_world.specs.Roster.{Roster, opened_roster, put_at, serves}
 use Rattle.am_ring.specs.Instances.{all_instances}
@@ -161,7 +162,7 @@ fits_all p (h ∷ hs) = fits p h && fits_all (after p h) hs
 -- where a request that happens is accepted, a regex was built of each pattern that it brings
 abbrev pub AsksBuilt : PrivateCluster → Happening → Type 0
 AsksBuilt p (Asked connection i moment request) =
-    AcceptsBuilt request (decision_at (here_at p (effective moment p.clock) i) request (p.at i))
+    BuildsAccepted request (decision_at (here_at p (effective moment p.clock) i) request (p.at i))
 AsksBuilt p (Limited limits) = Unit {0}
 AsksBuilt p (Ticked moment) = Unit {0}
 AsksBuilt p (Tried i k number tries moment status) = Unit {0}

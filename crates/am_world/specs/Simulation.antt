@@ -27,7 +27,8 @@ use Rattle.am_world.specs.Places.{instance_at, here_in, local_at, bytes_at, caus
 use Rattle.am_world.specs.Places.{refused_at, roster_of, IsDownAt, KeepRefused}
 use Rattle.am_world.specs.PrivateCluster.{PrivateCluster, AreAllBuilt, Asked, answered, opened, after_all, told_all}
 use Rattle.am_world.specs.PrivateCluster.{fits_all}
-use Rattle.am_instance.specs.Reaction.{IsCause, IsRefusedBuild, asked_for, in_node, terms_of}
+use Rattle.am_instance.specs.Reaction.{IsCause, asked_for, in_node, terms_of}
+use Rattle.am_api.specs.Choice.{IsRefusedBuild}
 use Rattle.am_world.specs.Refusal.{refusal}
 use Rattle.am_world.specs.Roster.{IsSameRoster, roster_after}
 use Rattle.am_ring.specs.Instances.{all_instances}

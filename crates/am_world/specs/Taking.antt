@@ -10,7 +10,8 @@ use Rattle.am_instance.specs.declared.output.Output.{Output}
 use Rattle.am_instance.specs.declared.instance.Instance.{Instance}
 use Rattle.am_world.specs.Places.{local_at, bytes_at, up_at, incarnation_at, here_in, refused_at, SameElsewhere}
 use Rattle.am_muting.specs.Failing.{AddsAmong}
-use Rattle.am_instance.specs.Reaction.{AcceptsBuilt, Brought, MayDecide, Terms, asked_for, brought, decision_at}
+use Rattle.am_instance.specs.Reaction.{Brought, Terms, asked_for, brought, decision_at}
+use Rattle.am_api.specs.Choice.{BuildsAccepted, MayDecide}
 
 -- what all these bytes of the connection bring to the instance of a number, where this is decided on requests at a
 -- moment
@@ -28,7 +29,7 @@ pub record Takes (i c : ℕ) (bytes : List ℕ) (moment : ℕ) (terms : List ℕ
   pub outputs : outs' ≡ outs ++ (taken_at i c bytes decide moment before).outputs
   pub fits : (taken_at i c bytes decide moment before).fits ≡ true
   pub local : (t : List ℕ) → local_at t i after ≡ (taken_at i c bytes decide moment before).local t
-  pub built : (request : Request) → verdict bytes ≡ fed.Request request → AcceptsBuilt request (decide request)
+  pub built : (request : Request) → verdict bytes ≡ fed.Request request → BuildsAccepted request (decide request)
   pub adds : AddsAmong (asked_for (verdict bytes) moment (λ t. local_at t i before)) (refused_at i before)
       (refused_at i after)
   pub reading : (d : ℕ) →
