@@ -29,6 +29,11 @@ operation_at n operations = find (λ (o : Operation). o.number == n) operations
 abbrev pub operation_of : (number epoch : ℕ) → List Operation → Option Operation
 operation_of n epoch operations = find (λ (o : Operation). o.number == n && o.epoch == epoch) operations
 
+-- an operation, where there is one and it started in this epoch
+abbrev pub of_epoch : (epoch : ℕ) → Option Operation → Option Operation
+of_epoch epoch None = None
+of_epoch epoch (Some operation) = if operation.epoch == epoch then Some operation else None
+
 abbrev pub without_operation : ℕ → List Operation → List Operation
 without_operation n operations = filter (λ (o : Operation). not (o.number == n)) operations
 

@@ -9,7 +9,8 @@ ghost use Rattle.am_quorum.specs.Deadlines.{EndsDeadline, KeepDeadlines, without
 ghost use Rattle.am_quorum.specs.Dockets.{AreNumbered, AreUsed, added, emptied, expired_in, next_number};
 ghost use Rattle.am_quorum.specs.Dockets.{no_docket, with_operations};
 ghost use Rattle.am_quorum.specs.Operations.{acked_by, answered_by, connections_of, first_ack_by, late, lists_by};
-ghost use Rattle.am_quorum.specs.Operations.{operation_at, operation_of, ready_by, staged, without_operation};
+ghost use Rattle.am_quorum.specs.Operations.{of_epoch, operation_at, operation_of, ready_by, staged};
+ghost use Rattle.am_quorum.specs.Operations.{without_operation};
 ghost use Rattle.am_quorum.specs.declared.operation.Stage.TheVariants.{Decided};
 
 use crate::deadline::cancel_deadline;
@@ -55,7 +56,9 @@ impl Docket {
 
     // The operation of a number.
     pub fn operation(&self, number: u64) -> Option<&Operation>
-        ensures { option_copied result ≡ operation_at number self.now.operations }
+        ensures operation { option_copied result ≡ operation_at number self.now.operations }
+        ensures alone { (epoch : ℕ) → operation_of number epoch self.now.operations
+            ≡ of_epoch epoch (operation_at number self.now.operations) }
     {
         self.operations.get(&number)
     }

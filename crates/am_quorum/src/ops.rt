@@ -10,7 +10,8 @@ ghost use Rattle.am_quorum.specs.Deadlines.{is_deadline};
 ghost use Rattle.am_quorum.specs.Dockets.{AreOrdered, Changes, Stay, acknowledged_in, answered_in, closed_in};
 ghost use Rattle.am_quorum.specs.Dockets.{docket_of, emptied, expired_in, no_docket, operations_of, started};
 ghost use Rattle.am_quorum.specs.Dockets.{waiting_in};
-ghost use Rattle.am_quorum.specs.Operations.{connections_of, late, lists_by, opened, operation_at, ready_by, target_in};
+ghost use Rattle.am_quorum.specs.Operations.{connections_of, late, lists_by, of_epoch, opened, operation_at};
+ghost use Rattle.am_quorum.specs.Operations.{operation_of, ready_by, target_in};
 ghost use Rattle.am_quorum.specs.declared.operation.Operation.{Operation};
 
 use crate::deadline::{cancel_deadline, deadline_name};
@@ -73,9 +74,11 @@ impl Ops {
         }
     }
 
-    /// The tenant's operation of a number, where it is open.
+    /// The tenant's operation of a number, where it is open: no other one has its number.
     pub fn get(&self, tenant: &TenantName, number: u64) -> Option<&Operation>
         ensures operation { option_copied result ≡ operation_at number (operations_of tenant.now self.now) }
+        ensures alone { (epoch : ℕ) → operation_of number epoch (operations_of tenant.now self.now)
+            ≡ of_epoch epoch (operation_at number (operations_of tenant.now self.now)) }
         ensures ordered { AreOrdered self.now }
     {
         match self.dockets.get(tenant) {

@@ -12,15 +12,15 @@ early_one : (now : ℕ) (o : Operation) → nat_le (due_of o) now ≡ false → 
 early_one now o h = rw h refl
 
 pub returns-in_default-clause-operation : goal.returns-in_default-clause-operation
-returns-in_default-clause-operation c = ap (late c.args.now) c.in_default.ensures
+returns-in_default-clause-operation c = ap (late c.args.now) c.in_default.ensures.operation
 
 pub returns-in_default-clause-docket : goal.returns-in_default-clause-docket
 returns-in_default-clause-docket c =
-    ap (λ (o : Option Operation). with_operations (without (late c.args.now o)) c.args.self.now) c.in_default.ensures
+    ap (λ (o : Option Operation). with_operations (without (late c.args.now o)) c.args.self.now) c.in_default.ensures.operation
 
 pub returns-then-not-is_late-clause-operation : goal.returns-then-not-is_late-clause-operation
 returns-then-not-is_late-clause-operation c =
-    sym (early_one c.args.now c.in-Some.operation.now (sym c.is_late.ensures ∙ c.if-not-is_late.true)) ∙ ap (late c.args.now) c.in-Some.ensures
+    sym (early_one c.args.now c.in-Some.operation.now (sym c.is_late.ensures ∙ c.if-not-is_late.true)) ∙ ap (late c.args.now) c.in-Some.ensures.operation
 
 pub returns-then-not-is_late-clause-docket : goal.returns-then-not-is_late-clause-docket
 returns-then-not-is_late-clause-docket c =
@@ -29,15 +29,15 @@ returns-then-not-is_late-clause-docket c =
 
 pub returns-clause-operation : goal.returns-clause-operation
 returns-clause-operation c =
-    c.close.ensures.operation ∙ sym c.in-Some.ensures
-    ∙ sym (late_one c.args.now c.in-Some.operation.now (sym c.is_late.ensures ∙ c.if-not-is_late.false)) ∙ ap (late c.args.now) c.in-Some.ensures
+    c.close.ensures.operation ∙ sym c.in-Some.ensures.operation
+    ∙ sym (late_one c.args.now c.in-Some.operation.now (sym c.is_late.ensures ∙ c.if-not-is_late.false)) ∙ ap (late c.args.now) c.in-Some.ensures.operation
 
 pub returns-clause-docket : goal.returns-clause-docket
 returns-clause-docket c =
     let o = c.in-Some.operation.now in
-    let number : o.number ≡ c.args.number = number_at c.args.number o c.args.self.now.operations (sym c.in-Some.ensures) in
+    let number : o.number ≡ c.args.number = number_at c.args.number o c.args.self.now.operations (sym c.in-Some.ensures.operation) in
     let due : Some o ≡ late c.args.now (operation_at c.args.number c.args.self.now.operations) =
-    sym (late_one c.args.now o (sym c.is_late.ensures ∙ c.if-not-is_late.false)) ∙ ap (late c.args.now) c.in-Some.ensures in
+    sym (late_one c.args.now o (sym c.is_late.ensures ∙ c.if-not-is_late.false)) ∙ ap (late c.args.now) c.in-Some.ensures.operation in
     c.close.ensures.docket ∙ ap (λ (n : ℕ). with_operations (without_operation n) c.args.self.now) (sym number)
     ∙ ap (λ (x : Option Operation). with_operations (without x) c.args.self.now) due
 
@@ -45,4 +45,4 @@ pub returns-clause-over : goal.returns-clause-over
 returns-clause-over c = if_some c.close.result c.close.ensures.deadlines
 
 pub returns-clause-open : goal.returns-clause-open
-returns-clause-open c = if_none _ c.close.result (ap is_some (c.close.ensures.operation ∙ sym c.in-Some.ensures))
+returns-clause-open c = if_none _ c.close.result (ap is_some (c.close.ensures.operation ∙ sym c.in-Some.ensures.operation))
