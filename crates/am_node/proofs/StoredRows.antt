@@ -11,10 +11,13 @@ use Rattle.am_rows.proofs.Following.{put_follows, rows_rise, rows_stored}
 use Rattle.am_node.specs.Accepting.{StopsAccepting, StopsCommitting, accepted, accepted_for}
 use Rattle.am_node.specs.declared.parts.Parts.{Parts}
 use Rattle.am_context.specs.declared.context.Context.{Context}
+use Rattle.am_labels.specs.declared.Label.{Label}
+use Rattle.am_timer.specs.Timer.{Key}
 use Rattle.am_node.specs.Delivery.{outcome}
 use Rattle.am_node.specs.Held.{Does, Makes, local_of}
-use Rattle.am_node.proofs.StoredTicks.{outcome_rests}
-use Rattle.am_node.specs.Local.{Local, blank}
+use Rattle.am_node.proofs.StoredTicks.{Rest, handled_rests, outcome_rests}
+use Rattle.am_node.specs.Local.{Local, Reaction, blank}
+use Rattle.am_node.specs.Ticking.{handled}
 use Rattle.am_item.proofs.BestLaws.{best-rising}
 use Rattle.am_item.proofs.Joining.{all_joined-merged}
 use Rattle.std.specs.List.Sorted.{IsStrictlySortedBy}
@@ -65,15 +68,28 @@ stops_keeping refused items local CountsExhausted stops = absurd stops
 stops_keeping refused items local PatternNotBuilt stops = stops
 stops_keeping refused items local StoreRefused stops = absurd stops
 
+-- a reaction that leaves what is stored of its tenant leaves what is stored of all
+pub stores_did : (tenant : List ℕ) (react : Local → Reaction) (old new : Parts) → ((t : List ℕ) → IsPlanned (local_of t old))
+    → ((xs : List Item) (l : Local) → Rest xs l.held → Rest xs (react l).local.held)
+    → Does tenant react old new → (t : List ℕ) → stored_in (local_of t new).held ≡ stored_in (local_of t old).held
+stores_did tenant react old new planned rests does t = by (same t tenant) (does t)
+  where
+    by : (b : Bool) → local_of t new ≡ (if b then (react (local_of t old)).local else local_of t old)
+        → stored_in (local_of t new).held ≡ stored_in (local_of t old).held
+    by true is = ap (λ (l : Local). stored_in l.held) is ∙ (rests (stored_in (local_of t old).held) (local_of t old) (record { rising = (planned t).rising; rows = refl })).rows
+    by false is = ap (λ (l : Local). stored_in l.held) is
+
 -- what an outcome makes of it leaves what is stored
 pub stores_outcome : (tenant : List ℕ) (context : Context) (number tries : ℕ) (status : Option ℕ) (old new : Parts) → ((t : List ℕ) → IsPlanned (local_of t old))
     → Does tenant (outcome context number tries status) old new → (t : List ℕ) → stored_in (local_of t new).held ≡ stored_in (local_of t old).held
-stores_outcome tenant context number tries status old new planned does t = by (same t tenant) (does t)
-  where
-    by : (b : Bool) → local_of t new ≡ (if b then (outcome context number tries status (local_of t old)).local else local_of t old)
-        → stored_in (local_of t new).held ≡ stored_in (local_of t old).held
-    by true is = ap (λ (l : Local). stored_in l.held) is ∙ (outcome_rests (stored_in (local_of t old).held) context number tries status (local_of t old) (record { rising = (planned t).rising; rows = refl })).rows
-    by false is = ap (λ (l : Local). stored_in l.held) is
+stores_outcome tenant context number tries status old new planned does =
+    stores_did tenant (outcome context number tries status) old new planned (λ xs l rest. outcome_rests xs context number tries status l rest) does
+
+-- .. and so does what is done for a timer
+pub stores_handled : (tenant : List ℕ) (context : Context) (muted : List (List Label)) (key : Key) (old new : Parts) → ((t : List ℕ) → IsPlanned (local_of t old))
+    → Does tenant (handled context muted key) old new → (t : List ℕ) → stored_in (local_of t new).held ≡ stored_in (local_of t old).held
+stores_handled tenant context muted key old new planned does =
+    stores_did tenant (handled context muted key) old new planned (λ xs l rest. handled_rests xs context muted key l rest) does
 
 nothing_rises : IsRising []
 unfolding IsStrictlySortedBy

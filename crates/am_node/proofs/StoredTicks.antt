@@ -87,7 +87,7 @@ flushed_if_rests : (xs : List Item) (b : Bool) (context : Context) (muted : List
 flushed_if_rests xs true context muted group l is = flushed_rests xs context muted group l is
 flushed_if_rests xs false context muted group l is = is
 
-handled_rests : (xs : List Item) (context : Context) (muted : List (List Label)) (key : Key) (l : Local) → Rest xs l.held → Rest xs (handled context muted key l).local.held
+pub handled_rests : (xs : List Item) (context : Context) (muted : List (List Label)) (key : Key) (l : Local) → Rest xs l.held → Rest xs (handled context muted key l).local.held
 unfolding handled
 handled_rests xs context muted (Operation number) l is = is
 handled_rests xs context muted (Group key) l is = flushed_if_rests xs (is_due context.moment (flush_due l.plan.paces l.plan.grouped key)) context muted (group_in key) l is

@@ -13,5 +13,6 @@ mod retiring;
 mod ticking;
 
 pub use dispatch::Dispatch;
+pub use muted::Muted;
 pub use node::Node;
 pub use report::Report;

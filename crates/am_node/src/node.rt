@@ -1,28 +1,38 @@
 //! What an instance has of all tenants.
 
-ghost use Rattle.std.specs.Prelude.{false, ◌≡◌, ◌+◌, ◌<◌, ◌≤◌, ℕ, List, true, IfErr, IfOk, OnErr, OnOk, length};
+ghost use Rattle.std.specs.Prelude.{false, ◌≡◌, ◌+◌, ◌<◌, ◌≤◌, ℕ, List, true, IfErr, IfOk, OnErr, OnOk, length, map};
 ghost use Rattle.std.specs.Prelude.{option_map, if◌then◌else◌};
 ghost use Rattle.std.specs.Borrow.{sem};
 ghost use Rattle.std.specs.Io.BufRead.{Rests};
+ghost use Rattle.std.specs.List.Sorted.{IsStrictlySortedBy};
+ghost use Rattle.am_agenda.specs.Plan.{timers_in};
 ghost use Rattle.am_alert.specs.Made.{greatest_count};
 ghost use Rattle.am_current.specs.Current.{configuration_in};
 ghost use Rattle.am_item.specs.Best.{IsRising};
-ghost use Rattle.am_notifier.specs.Positions.{number_of};
+ghost use Rattle.am_notifier.specs.Positions.{is_same_position, number_of};
 ghost use Rattle.am_pattern.specs.Asking.{Asked};
 ghost use Rattle.am_rows.specs.Refusing.{IsJudged, MayRefuse};
 ghost use Rattle.am_rows.specs.Rows.{Keeps, has_stored, rows_of, stored_in};
 ghost use Rattle.am_node.specs.Retiring.{retired};
 ghost use Rattle.am_node.specs.Storing.{AreStored, LeavesStore};
+ghost use Rattle.am_replica.specs.Retiring.{StopsRetiring};
 ghost use Rattle.am_replica.specs.Storing.{fault_in};
 ghost use Rattle.am_tenant.specs.Names.{same};
+ghost use Rattle.am_timer.specs.Queue.{due_at, timers_of};
+ghost use Rattle.am_timer.specs.Timer.{timer_cmp};
 ghost use Rattle.am_node.specs.Accepting.{StopsCommitting, StopsPositioning, accepted, accepted_for, counted, positioned};
 ghost use Rattle.am_node.specs.Delivery.{is_awaited, outcome, records};
 ghost use Rattle.am_node.specs.Held.{Does, Makes, StopsFor, local_of};
-ghost use Rattle.am_node.specs.Local.{blank};
-ghost use Rattle.am_node.specs.Ticks.{StopsTicking, TicksAll, context_for};
+ghost use Rattle.am_node.specs.Local.{blank, said_in};
+ghost use Rattle.am_node.specs.Plans.{IsPlanned};
+ghost use Rattle.am_node.specs.Ticking.{handled};
+ghost use Rattle.am_node.specs.Ticks.{StopsMuting, StopsTicking, TicksAll, context_for, has_flush};
+ghost use Rattle.am_node.specs.Ticks.{muted_at, muted_for, some_flush};
 
 use crate::dispatch::Dispatch;
+use crate::muted::Muted;
 use crate::parts::Parts;
+use crate::report::Report;
 use am_config::Config;
 use am_context::{Context, Start};
 use am_item::{Fault, Held, SharedItem};
@@ -32,15 +42,14 @@ use am_pattern::PatternCache;
 use am_rows::{Rows, StoreRefusal};
 use am_tenant::TenantName;
 use am_text::{Failure, Moment};
+use am_timer::{Timer, TimerKey};
 use am_words::Place;
 use std::alloc::{AllocError, Global};
 use std::marker::Model;
 
-/// What an instance has of all tenants: what it holds, what it has planned for that, which notices are on their way,
-/// and what
-/// it counts. A call for one tenant leaves what it has of the others as it was. After a call that failed it is of use
-/// only to
-/// be cleared.
+/// What an instance has of all tenants: what it holds, what it has planned for that, which notices are on their way, and
+/// what it counts. A call for one tenant leaves what it has of the others as it was. After a call that failed it is of
+/// use only to be cleared.
 pub struct Node {
     parts: Parts,
 }
@@ -100,6 +109,15 @@ impl Node {
         ensures { result ≡ (local_of tenant.now self.now).ledger.drawn }
     {
         self.parts.places.place(tenant)
+    }
+
+    /// What is held of a tenant, in the order of keys.
+    #[tactic(auto, unfolding(crate::specs::Held::local_of))]
+    pub fn held(&self, tenant: &TenantName) -> &Held
+        ensures held { result.now ≡ (local_of tenant.now self.now).held }
+        ensures rising { IsRising result.now }
+    {
+        self.parts.replica.held(tenant)
     }
 
     /// What is held of a tenant, and the configuration in use for it.
@@ -180,6 +198,14 @@ impl Node {
         }
     }
 
+    /// Whether the groups of a tenant wait by this position; without one the instance flushes none of them.
+    #[tactic(auto, unfolding(crate::specs::Held::local_of))]
+    pub fn is_at(&self, tenant: &TenantName, position: Option<Position>) -> bool
+        ensures { result ≡ is_same_position (local_of tenant.now self.now).position (option_map number_of position) }
+    {
+        self.parts.notifier.is_at(tenant, position)
+    }
+
     /// Counts the stamps of so many more items of a tenant that the instance made; where words were drawn for them, the
     /// place of the next one is kept. The count may not pass 2^62.
     ///
@@ -234,6 +260,99 @@ impl Node {
         let parts = &mut self.parts;
         match parts.commit(alloc, tenant, moment, items, cache, store) {
             Ok(()) => Ok(()),
+            Err(fault) => {
+                self.parts.clear(alloc);
+                Err(fault)
+            }
+        }
+    }
+
+    /// Drops what is retired at a moment, of all tenants: items, and the last flushes of groups that then have no
+    /// members. It is the first step of a tick, and costs what goes.
+    ///
+    /// # Errors
+    /// `StoreRefused` where silences retire, or out of memory. The rows are as before, or without the silences that
+    /// retire.
+    pub fn retire<R: Rows>(
+        &mut self,
+        alloc: Global,
+        moment: Moment,
+        store: &mut R,
+    ) -> Result<(), Fault>
+        requires { R.is_open store.old ≡ true }
+        ensures retired { OnOk result ((t : List ℕ) → local_of t self.new ≡ retired moment (local_of t self.old)) }
+        ensures planned { OnOk result ((t : List ℕ) → IsPlanned (local_of t self.new)) }
+        ensures fault { IfErr result (StopsRetiring moment (λ t. (local_of t self.old).held)) }
+        ensures clean { R.is_clean store.new ≡ true → R.is_clean store.old ≡ true }
+        ensures open { OnOk result (R.is_open store.new ≡ true) }
+        ensures stores { R.is_clean store.new ≡ true → AreStored self.old (R.pairs store.old)
+            → OnOk result (AreStored self.new (R.pairs store.new)) }
+        ensures left { R.is_clean store.new ≡ true → AreStored self.old (R.pairs store.old) → LeavesStore
+            (λ t. local_of t self.old) (λ t. retired moment (local_of t self.old))
+            ⊥ (fault_in result) (R.medium store.old) (R.medium store.new) (R.pairs store.new) }
+    {
+        let parts = &mut self.parts;
+        match parts.retire(alloc, moment, store) {
+            Ok(()) => Ok(()),
+            Err(fault) => {
+                self.parts.clear(alloc);
+                Err(fault)
+            }
+        }
+    }
+
+    /// The timers of flushes and tries that are due at a moment, in order, and what is muted of the tenants that have a
+    /// group to flush: the second step of a tick. It costs what is due.
+    ///
+    /// # Errors
+    /// `PatternNotBuilt` where a pattern that may mute alerts of such a tenant gave no answer, or out of memory.
+    pub fn due(
+        &mut self,
+        alloc: Global,
+        moment: Moment,
+        cache: &mut PatternCache,
+    ) -> Result<(Vec<Timer>, Muted), Fault>
+        ensures due { IfOk result (λ found. (t : List ℕ)
+            → timers_of t found.0.items ≡ due_at moment (timers_in t (local_of t self.old).plan)) }
+        ensures order { IfOk result (λ found. IsStrictlySortedBy timer_cmp found.0.items) }
+        ensures muted { IfOk result (λ found. (t : List ℕ) → some_flush t found.0.items ≡ true
+            → muted_for t found.1 ≡ muted_at moment (local_of t self.old).held) }
+        ensures stays { self.new ≡ self.old }
+        ensures asked { Asked result cache.old cache.new }
+        ensures fault { IfErr result (StopsMuting cache.new.refused moment
+            (λ t. has_flush t moment (local_of t self.old).plan) (λ t. (local_of t self.old).held)) }
+    {
+        self.parts.due(alloc, moment, cache)
+    }
+
+    /// Does what a timer of a tenant is for, where it is still due, and gives what there is to say, in order: the third
+    /// step of a tick. Deadlines of operations, pushes and Asks are nothing to a node.
+    ///
+    /// # Errors
+    /// `CountsExhausted` where a count would pass 2^62, or out of memory.
+    pub fn handle(
+        &mut self,
+        alloc: Global,
+        tenant: &TenantName,
+        context: &Context,
+        key: &TimerKey,
+        muted: &Muted,
+    ) -> Result<Vec<Report>, Fault>
+        ensures does { OnOk result (Does tenant.now
+            (handled context.now (muted_for tenant.now muted.now) key.now) self.old self.new) }
+        ensures said { IfOk result (λ v. map said_in v.items ≡
+            (handled context.now (muted_for tenant.now muted.now) key.now (local_of tenant.now self.old)).said) }
+        ensures fits { IfOk result (λ _.
+            (handled context.now (muted_for tenant.now muted.now) key.now (local_of tenant.now self.old)).fits ≡ true) }
+        ensures planned { IsPlanned (local_of tenant.now self.old) }
+        ensures stored { OnOk result ((t : List ℕ) →
+            stored_in (local_of t self.new).held ≡ stored_in (local_of t self.old).held) }
+        ensures fault { IfErr result (StopsFor
+            (handled context.now (muted_for tenant.now muted.now) key.now (local_of tenant.now self.old))) }
+    {
+        let parts = &mut self.parts;
+        match parts.handle(alloc, tenant, context, key, muted) {
+            Ok(reports) => Ok(reports),
             Err(fault) => {
                 self.parts.clear(alloc);
                 Err(fault)

@@ -1,10 +1,13 @@
 //! Ticks.
 
 ghost use Rattle.std.specs.Prelude.{◌≡◌, ◌++◌, ℕ, List, [], false, true, IfErr, IfOk, OnErr, OnOk, map, if◌then◌else◌};
+ghost use Rattle.std.specs.List.Sorted.{IsStrictlySortedBy};
 ghost use Rattle.am_tenant.specs.Names.{same};
-ghost use Rattle.am_agenda.specs.Plan.{flush_due};
+ghost use Rattle.am_agenda.specs.Plan.{flush_due, timers_in};
 ghost use Rattle.am_outlet.specs.Attempts.{is_due};
 ghost use Rattle.am_pattern.specs.Asking.{Asked};
+ghost use Rattle.am_timer.specs.Queue.{due_at, timers_of};
+ghost use Rattle.am_timer.specs.Timer.{timer_cmp};
 ghost use Rattle.am_timer.specs.declared.key.TimerKey.TheVariants.{Group as GroupTimer};
 ghost use Rattle.am_node.specs.Delivery.{tells};
 ghost use Rattle.am_node.specs.Held.{Does, StopsFor, local_of};
@@ -13,9 +16,9 @@ ghost use Rattle.am_node.specs.Plans.{IsPlanned};
 ghost use Rattle.am_node.specs.Retiring.{retired};
 ghost use Rattle.am_node.specs.Storing.{AreStored, LeavesStore};
 ghost use Rattle.am_replica.specs.Storing.{fault_in};
-ghost use Rattle.am_node.specs.Ticking.{due_keys, handled};
+ghost use Rattle.am_node.specs.Ticking.{handled};
 ghost use Rattle.am_node.specs.Ticks.{AreHandled, DoesDue, StopsTicking, StopsDoing, StopsHandling, StopsMuting};
-ghost use Rattle.am_node.specs.Ticks.{TicksAll, has_flush, context_for, keys_for, muted_at, muted_for, said_of};
+ghost use Rattle.am_node.specs.Ticks.{TicksAll, has_flush, context_for, muted_at, muted_for, said_of};
 ghost use Rattle.am_node.specs.Ticks.{some_flush};
 
 use crate::dispatch::Dispatch;
@@ -84,15 +87,16 @@ impl Parts {
         self.handle_all(alloc, start, moment, limits, &due, &muted)
     }
 
-    // The timers that are due at a moment, and what is muted of the tenants that have a group to flush.
+    /// The timers that are due at a moment, and what is muted of the tenants that have a group to flush.
     #[tactic(auto, unfolding(crate::specs::Held::local_of))]
-    fn due(
+    pub(crate) fn due(
         &mut self,
         alloc: Global,
         moment: Moment,
         cache: &mut PatternCache,
     ) -> Result<(Vec<Timer>, Muted), Fault>
-        ensures due { IfOk result (λ found. (t : List ℕ) → keys_for t found.0.items ≡ due_keys t moment (local_of t self.old).plan) }
+        ensures due { IfOk result (λ found. (t : List ℕ) → timers_of t found.0.items ≡ due_at moment (timers_in t (local_of t self.old).plan)) }
+        ensures order { IfOk result (λ found. IsStrictlySortedBy timer_cmp found.0.items) }
         ensures muted { IfOk result (λ found. (t : List ℕ) → some_flush t found.0.items ≡ true → muted_for t found.1 ≡ muted_at moment (local_of t self.old).held) }
         ensures stays { self.new ≡ self.old }
         ensures asked { Asked result cache.old cache.new }
@@ -132,8 +136,8 @@ impl Parts {
         Ok(all)
     }
 
-    // Does what a timer of a tenant is for, where it is still due.
-    fn handle(
+    /// Does what a timer of a tenant is for, where it is still due.
+    pub(crate) fn handle(
         &mut self,
         alloc: Global,
         tenant: &TenantName,

@@ -1,11 +1,15 @@
 //! What an instance notifies of, of all tenants.
 
-ghost use Rattle.std.specs.Prelude.{◌≡◌, ℕ, List, IfOk};
+ghost use Rattle.std.specs.List.Sorted.{IsStrictlySortedBy};
+ghost use Rattle.std.specs.Prelude.{◌≡◌, ℕ, List, IfOk, option_map};
 ghost use Rattle.am_notifier.specs.Notifies.{notifies_of, nothing};
+ghost use Rattle.am_notifier.specs.Positions.{is_same_position, number_of};
 ghost use Rattle.am_outlet.specs.Attempts.{attempt_at, awaits_outcome};
 ghost use Rattle.am_timer.specs.Queue.{due_at, timers_of};
+ghost use Rattle.am_timer.specs.Timer.{timer_cmp};
 ghost use Rattle.am_agenda.specs.Plan.{timers_in};
 
+use crate::position::Position;
 use crate::positions::Positions;
 use am_agenda::Agenda;
 use am_limit::Allowances;
@@ -70,6 +74,18 @@ impl Notifier {
         self.agenda.is_awaited(tenant, number, tries)
     }
 
+    /// Whether a tenant's groups wait by this position; without one none of them is flushed.
+    #[tactic(auto, unfolding(crate::specs::Notifies::notifies_of))]
+    pub fn is_at(&self, tenant: &TenantName, position: Option<Position>) -> bool
+        ensures { result ≡ is_same_position (notifies_of tenant.now self.now).position (option_map number_of position) }
+    {
+        match (self.positions.of(tenant), position) {
+            (Some(own), Some(position)) => own.number() == position.number(),
+            (None, None) => true,
+            _ => false,
+        }
+    }
+
     /// The timers that are due at a moment, in order: by when they are due, by tenant, groups before attempts.
     ///
     /// An error is out of memory.
@@ -77,6 +93,7 @@ impl Notifier {
     pub fn due(&mut self, alloc: Global, moment: Moment) -> Result<Vec<Timer>, AllocError>
         ensures due { IfOk result (λ due. (t : List ℕ)
             → timers_of t due.items ≡ due_at moment (timers_in t (notifies_of t self.old).plan)) }
+        ensures order { IfOk result (λ due. IsStrictlySortedBy timer_cmp due.items) }
         ensures stays { self.new ≡ self.old }
     {
         self.agenda.due(alloc, moment)

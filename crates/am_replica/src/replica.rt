@@ -62,6 +62,15 @@ impl Replica {
         self.counts.used(tenant)
     }
 
+    /// What is held of a tenant, in the order of keys.
+    #[tactic(auto, unfolding(crate::specs::Holds::holds_of))]
+    pub fn held(&self, tenant: &TenantName) -> &Held
+        ensures held { result.now ≡ (holds_of tenant.now self.now).held }
+        ensures rising { IsRising result.now }
+    {
+        self.holdings.held(tenant)
+    }
+
     /// What is held of a tenant, and the configuration in use for it.
     ///
     /// An error is out of memory; nothing changes then.

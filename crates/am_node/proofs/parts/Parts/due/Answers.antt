@@ -10,8 +10,8 @@ use Rattle.am_node.proofs.Ticks.{flush_among}
 use Rattle.am_node.proofs.parts.Parts.due.Goals as goal
 
 pub returns-clause-due : goal.returns-clause-due
-unfolding keys_for timers_of local_of
-returns-clause-due c = λ t. ap (map (λ (x : Timer). x.name.key)) (c.in_ok-due.ensures.due t)
+unfolding local_of
+returns-clause-due c = c.in_ok-due.ensures.due
 
 pub returns-in_err-muted-clause-fault : goal.returns-in_err-muted-clause-fault
 unfolding keys_for timers_of local_of
