@@ -9,19 +9,20 @@ use Rattle.am_quorum.specs.Operations.{acked_by, acked_with, first_ack as first_
 use Rattle.am_quorum.specs.declared.operation.Operation.{Operation}
 use Rattle.am_quorum.specs.declared.operation.Stage.{Stage}
 use Rattle.am_quorum.specs.declared.operation.Stage.TheVariants.{Undecided, Decided}
+use Rattle.am_transfer.specs.Settling.{Settling}
 use Rattle.am_site.specs.Locals.{from_rooms}
 use Rattle.am_site.specs.Reacting.{replied}
 
-module _ (node : NodeLocal) (d : Docket) (sent from : ℕ) where
+module _ (node : NodeLocal) (d : Docket) (sent : ℕ) (settling : Settling) (from : ℕ) where
   abbrev l : Local
-  l = from_rooms node d sent
+  l = from_rooms node d sent settling
 
-  kept : (o : Operation) (stage : Stage) → first_ack o stage from l ≡ from_rooms node (with_operations (first_ack_there o stage from) d) sent
+  kept : (o : Operation) (stage : Stage) → first_ack o stage from l ≡ from_rooms node (with_operations (first_ack_there o stage from) d) sent settling
   kept o (Undecided first) = refl
   kept o (Decided reply None) = refl
   kept o (Decided reply (Some first)) = refl
 
-  one_local : (o : Operation) (reply : Option (List ℕ)) → (ack_by o from reply l).local ≡ from_rooms node (with_operations (acked_with from o reply) d) sent
+  one_local : (o : Operation) (reply : Option (List ℕ)) → (ack_by o from reply l).local ≡ from_rooms node (with_operations (acked_with from o reply) d) sent settling
   unfolding finish
   one_local o None = kept o o.stage
   one_local o (Some reply) = refl
@@ -39,7 +40,7 @@ module _ (node : NodeLocal) (d : Docket) (sent from : ℕ) where
   abbrev reaction : Option Operation → Reaction
   reaction found = where_some (λ (o : Operation). ack_by o from (reply_for o.stage from)) found l
 
-  local_by : (found : Option Operation) → (reaction found).local ≡ from_rooms node (with_operations (acked_by from found) d) sent
+  local_by : (found : Option Operation) → (reaction found).local ≡ from_rooms node (with_operations (acked_by from found) d) sent settling
   local_by None = refl
   local_by (Some o) = one_local o (reply_for o.stage from)
 
@@ -52,7 +53,7 @@ module _ (node : NodeLocal) (d : Docket) (sent from : ℕ) where
   fits_by (Some o) = one_fits o (reply_for o.stage from)
 
   module _ (number epoch : ℕ) where
-    pub acked_local : (acked number epoch from l).local ≡ from_rooms node (with_operations (acked_by from (operation_of number epoch d.operations)) d) sent
+    pub acked_local : (acked number epoch from l).local ≡ from_rooms node (with_operations (acked_by from (operation_of number epoch d.operations)) d) sent settling
     unfolding acked
     acked_local = local_by (operation_of number epoch d.operations)
 

@@ -1,5 +1,16 @@
 pub mod Acks
+pub mod Answered
 pub mod Answers
 pub mod Begun
+pub mod CarriedOut
+pub mod Carrying
+pub mod Decided
+pub mod Delivered
 pub mod Lengths
+pub mod Noticed
+pub mod Positioned
+pub mod Positions
+pub mod Put
 pub mod Reacting
+pub mod Retired
+pub mod Talking

@@ -8,13 +8,13 @@ use Rattle.am_context.proofs.Changes.{one_changes, other, own}
 use Rattle.am_item.specs.declared.fault.Fault.{Fault}
 use Rattle.am_item.specs.declared.fault.Fault.TheVariants.{OutOfMemory, CountsExhausted, PatternNotBuilt, StoreRefused}
 use Rattle.am_site.specs.Locals.{local_of}
-use Rattle.am_site.specs.Reacting.{Does, Reacts, StopsReacting, said_in}
+use Rattle.am_site.specs.Reacting.{Does, Keeps, Reacts, StopsReacting, said_in}
 use Rattle.am_site.specs.declared.said.Said.{Said as Spoken}
 use Rattle.am_site.specs.declared.site.Site.{Site}
 
 -- ---- reactions
 
-and_true : (b : Bool) → (b && true) ≡ b
+pub and_true : (b : Bool) → (b && true) ≡ b
 and_true true = refl
 and_true false = refl
 
@@ -45,6 +45,18 @@ each_more f xs x l =
     ∙ ap (λ said. let r : Reaction = record { local = last.local; said = mid.said ++ said; fits = mid.fits && (last.fits && true) } in r) (append-nil last.said)
     ∙ ap (λ b. let r : Reaction = record { local = last.local; said = mid.said ++ last.said; fits = mid.fits && b } in r) (and_true last.fits)
 
+-- ---- what is left
+
+pub keeps_all : (site : Site) → Keeps site site
+keeps_all site = record { incarnation = refl; positions = λ t. refl; timed = λ timed. timed }
+
+pub keeps_both : (a b c : Site) → Keeps a b → Keeps b c → Keeps a c
+keeps_both a b c one two = record {
+  incarnation = two.incarnation ∙ one.incarnation;
+  positions = λ t. two.positions t ∙ one.positions t;
+  timed = λ timed. two.timed (one.timed timed);
+}
+
 -- ---- of all tenants
 
 module _ (tenant : List ℕ) where
@@ -56,6 +68,7 @@ module _ (tenant : List ℕ) where
         (λ t apart. other t tenant _ _ _ apart (one.local t));
     said = one.said ∙ ap (λ (r : Reaction). map said_in x ++ r.said) (same (local_of tenant a));
     fits = sym (ap (λ (r : Reaction). r.fits) (same (local_of tenant a))) ∙ one.fits;
+    keeps = one.keeps;
   }
 
   pub stops_as : (f g : Local → Reaction) (a : Site) (fault : Fault) → ((l : Local) → f l ≡ g l) → StopsReacting tenant f a fault → StopsReacting tenant g a fault
@@ -64,22 +77,51 @@ module _ (tenant : List ℕ) where
   stops_as f g a PatternNotBuilt same stops = stops
   stops_as f g a StoreRefused same stops = stops
 
-  -- .. from where all have what they had
-  module _ (f g : Local → Reaction) (a b : Site) (same : (t : List ℕ) → local_of t b ≡ local_of t a) (is : f (local_of tenant a) ≡ g (local_of tenant a)) where
-    pub reacts_from : (c : Site) (x y : List Spoken) → Reacts tenant f b c x y → Reacts tenant g a c x y
+  -- .. by what it comes to where it happens
+  module _ (f g : Local → Reaction) (a : Site) (is : f (local_of tenant a) ≡ g (local_of tenant a)) where
+    pub reacts_from : (c : Site) (x y : List Spoken) → Reacts tenant f a c x y → Reacts tenant g a c x y
     reacts_from c x y one = record {
       local = one_changes tenant (λ l. (g l).local) (λ t. local_of t a) (λ t. local_of t c)
-          (own tenant _ _ _ (one.local tenant) ∙ ap (λ l. (f l).local) (same tenant) ∙ ap (λ (r : Reaction). r.local) is)
-          (λ t apart. other t tenant _ _ _ apart (one.local t) ∙ same t);
-      said = one.said ∙ ap (λ l. map said_in x ++ (f l).said) (same tenant) ∙ ap (λ (r : Reaction). map said_in x ++ r.said) is;
-      fits = sym (ap (λ l. (f l).fits) (same tenant) ∙ ap (λ (r : Reaction). r.fits) is) ∙ one.fits;
+          (own tenant _ _ _ (one.local tenant) ∙ ap (λ (r : Reaction). r.local) is)
+          (λ t apart. other t tenant _ _ _ apart (one.local t));
+      said = one.said ∙ ap (λ (r : Reaction). map said_in x ++ r.said) is;
+      fits = sym (ap (λ (r : Reaction). r.fits) is) ∙ one.fits;
+      keeps = one.keeps;
     }
 
-    pub stops_from : (fault : Fault) → StopsReacting tenant f b fault → StopsReacting tenant g a fault
+    pub does_from : (c : Site) → Does tenant f a c → Does tenant g a c
+    does_from c one = record {
+      local = one_changes tenant (λ l. (g l).local) (λ t. local_of t a) (λ t. local_of t c)
+          (own tenant _ _ _ (one.local tenant) ∙ ap (λ (r : Reaction). r.local) is)
+          (λ t apart. other t tenant _ _ _ apart (one.local t));
+      said = sym (ap (λ (r : Reaction). r.said) is) ∙ one.said;
+      fits = sym (ap (λ (r : Reaction). r.fits) is) ∙ one.fits;
+      keeps = one.keeps;
+    }
+
+    pub stops_from : (fault : Fault) → StopsReacting tenant f a fault → StopsReacting tenant g a fault
     stops_from OutOfMemory stops = tt
-    stops_from CountsExhausted stops = sym (ap (λ l. (f l).fits) (same tenant) ∙ ap (λ (r : Reaction). r.fits) is) ∙ stops
+    stops_from CountsExhausted stops = sym (ap (λ (r : Reaction). r.fits) is) ∙ stops
     stops_from PatternNotBuilt stops = stops
     stops_from StoreRefused stops = stops
+
+  -- .. since all have what they had
+  module _ (f : Local → Reaction) (a b : Site) (same : (t : List ℕ) → local_of t b ≡ local_of t a) where
+    pub reacts_since : (c : Site) (x y : List Spoken) → Keeps a b → Reacts tenant f b c x y → Reacts tenant f a c x y
+    reacts_since c x y kept one = record {
+      local = one_changes tenant (λ l. (f l).local) (λ t. local_of t a) (λ t. local_of t c)
+          (own tenant _ _ _ (one.local tenant) ∙ ap (λ l. (f l).local) (same tenant))
+          (λ t apart. other t tenant _ _ _ apart (one.local t) ∙ same t);
+      said = one.said ∙ ap (λ l. map said_in x ++ (f l).said) (same tenant);
+      fits = sym (ap (λ l. (f l).fits) (same tenant)) ∙ one.fits;
+      keeps = keeps_both a b c kept one.keeps;
+    }
+
+    pub stops_since : (fault : Fault) → StopsReacting tenant f b fault → StopsReacting tenant f a fault
+    stops_since OutOfMemory stops = tt
+    stops_since CountsExhausted stops = sym (ap (λ l. (f l).fits) (same tenant)) ∙ stops
+    stops_since PatternNotBuilt stops = stops
+    stops_since StoreRefused stops = stops
 
   -- nothing is done
   pub nothing : (f : Local → Reaction) (a : Site) (x : List Spoken) → f (local_of tenant a) ≡ stays (local_of tenant a) → Reacts tenant f a a x x
@@ -87,6 +129,7 @@ module _ (tenant : List ℕ) where
     local = one_changes tenant (λ l. (f l).local) (λ t. local_of t a) (λ t. local_of t a) (sym (ap (λ (r : Reaction). r.local) is)) (λ t apart. refl);
     said = sym (append-nil (map said_in x)) ∙ ap (λ (r : Reaction). map said_in x ++ r.said) (sym is);
     fits = ap (λ (r : Reaction). r.fits) is;
+    keeps = keeps_all _;
   }
 
   -- nothing is said
@@ -95,6 +138,7 @@ module _ (tenant : List ℕ) where
     local = does.local;
     said = sym (append-nil (map said_in x)) ∙ ap (λ said. map said_in x ++ said) (sym does.said);
     fits = does.fits;
+    keeps = does.keeps;
   }
 
   module _ (f g : Local → Reaction) (a b : Site) (x y : List Spoken) where
@@ -109,6 +153,7 @@ module _ (tenant : List ℕ) where
           said = two.said ∙ ap (λ l. map said_in y ++ (g l).said) mid ∙ ap (λ said. said ++ (g first.local).said) one.said
               ∙ append_assoc (map said_in x) first.said (g first.local).said;
           fits = ap (λ b. b && (g first.local).fits) one.fits ∙ ap (λ l. (g l).fits) (sym mid) ∙ two.fits;
+          keeps = keeps_both a b c one.keeps two.keeps;
         }
 
     -- what stops the second stops both
@@ -136,6 +181,7 @@ module _ (tenant : List ℕ) where
       local = one_changes tenant (λ l. l) (λ t. local_of t a) (λ t. local_of t a) refl (λ t apart. refl);
       said = sym (append-nil (map said_in x));
       fits = refl;
+      keeps = keeps_all _;
     }
 
     pub one_more : (xs : List A) (item : A) (a b c : Site) (x y z : List Spoken) → Reacts tenant (each f xs) a b x y → Reacts tenant (f item) b c y z

@@ -4,3 +4,9 @@ pub mod Here
 pub mod Locals
 -- what it does where something happens to one
 pub mod Reacting
+-- what it does with answers
+pub mod Deciding
+-- .. and with items that are put to it
+pub mod Putting
+-- .. and for its notices
+pub mod Notices

@@ -1,7 +1,8 @@
 -- What an instance has of each tenant.
 use Rattle.std.specs.Prelude.{ℕ, List}
 use Rattle.am_cluster.specs.Local.{Local}
-use Rattle.am_transfer.specs.Settling.{untouched}
+use Rattle.am_transfer.specs.Settling.{Settling}
+use Rattle.am_transfer.specs.Tenants.{settling_of}
 use Rattle.am_item.specs.Counts.{count_of}
 use Rattle.am_node.specs.Held.{local_of as local_in_node}
 use Rattle.am_node.specs.Local.{Local as NodeLocal}
@@ -9,17 +10,16 @@ use Rattle.am_notifier.specs.Following.{sinces_in}
 use Rattle.am_quorum.specs.Dockets.{Docket, docket_of}
 use Rattle.am_site.specs.declared.site.Site.{Site}
 
--- what it holds and has planned by itself, its operations, and how many messages it sent. (All replicas are settled
--- from the start while the ring stays as it is.)
-abbrev pub from_rooms : NodeLocal → Docket → (sent : ℕ) → Local
-from_rooms node docket sent = record {
+-- what it holds and has planned by itself, its operations, how many messages it sent, and how it settles
+abbrev pub from_rooms : NodeLocal → Docket → (sent : ℕ) → Settling → Local
+from_rooms node docket sent settling = record {
   held = node.held;
   sinces = sinces_in node.plan;
   flushes = node.plan.grouped.flushes;
   noticed = node.noticed;
   desk = node.plan.desk;
   operations = docket.operations;
-  settling = untouched;
+  settling = settling;
   ledger = record {
     stamps = node.ledger.stamps;
     messages = sent;
@@ -29,4 +29,6 @@ from_rooms node docket sent = record {
 }
 
 unfoldable pub local_of : List ℕ → Site → Local
-local_of t site = from_rooms (local_in_node t site.node) (docket_of t site.operations) (count_of t site.sent)
+local_of t site =
+    from_rooms (local_in_node t site.node) (docket_of t site.operations) (count_of t site.sent)
+    (settling_of t site.settling.progress)

@@ -5,7 +5,9 @@ use Rattle.am_cluster.specs.Local.{Local}
 use Rattle.am_cluster.specs.Reactions.{Reaction, Replies, Said, Sends, Tells}
 use Rattle.am_item.specs.declared.fault.Fault.{Fault}
 use Rattle.am_item.specs.declared.fault.Fault.TheVariants.{OutOfMemory, CountsExhausted, PatternNotBuilt, StoreRefused}
+use Rattle.am_node.specs.Held.{local_of as local_in_node}
 use Rattle.am_quorum.specs.declared.operation.Ready.{Ready}
+use Rattle.am_transfer.specs.Timers.{AreTimed}
 use Rattle.am_tenant.specs.Names.{same}
 use Rattle.am_site.specs.Locals.{local_of}
 use Rattle.am_site.specs.declared.said.Said.{Said as Spoken}
@@ -28,18 +30,27 @@ abbrev pub Makes : List ℕ → (Local → Local) → Site → Site → Type 0
 Makes tenant change old new =
     (t : List ℕ) → local_of t new ≡ (if same t tenant then change (local_of t old) else local_of t old)
 
--- what is said was behind what had been said
+-- what a reaction for one tenant leaves: the incarnation of the instance, the position by which each tenant's groups
+-- wait, and that what is sent again has its timers
+pub record Keeps (old new : Site) : Type 0 where
+  pub incarnation : new.operations.incarnation ≡ old.operations.incarnation
+  pub positions : (t : List ℕ) → (local_in_node t new.node).position ≡ (local_in_node t old.node).position
+  pub timed : AreTimed old.settling → AreTimed new.settling
+
+-- what is said stands behind what had been said
 pub record Reacts (tenant : List ℕ) (react : Local → Reaction) (old new : Site) (before after : List Spoken) :
     Type 0 where
   pub local : Makes tenant (λ l. (react l).local) old new
   pub said : map said_in after ≡ map said_in before ++ (react (local_of tenant old)).said
   pub fits : (react (local_of tenant old)).fits ≡ true
+  pub keeps : Keeps old new
 
 -- .. where nothing is said
 pub record Does (tenant : List ℕ) (react : Local → Reaction) (old new : Site) : Type 0 where
   pub local : Makes tenant (λ l. (react l).local) old new
   pub said : (react (local_of tenant old)).said ≡ []
   pub fits : (react (local_of tenant old)).fits ≡ true
+  pub keeps : Keeps old new
 
 -- why it stops: a count would have passed the greatest, or a message the greatest length; or memory ran out
 abbrev pub StopsReacting : List ℕ → (Local → Reaction) → Site → Fault → Type 0

@@ -37,10 +37,10 @@ impl Site {
         ensures fault { IfErr result (StopsReacting here.now.tenant.now
             (answer_get (here_of here.now) (peer asker incarnation) operation) self.old) }
     {
-        if !here.has_stayed {
+        if !self.settling.is_settled(here.tenant, here.has_stayed) {
             return Ok(());
         }
-        let items = self.snapshot(alloc, here.tenant)?;
+        let items = self.snapshot(here.tenant)?;
         let body = Body::Answer {
             operation,
             incarnation,
@@ -50,12 +50,11 @@ impl Site {
     }
 
     // All that is held of a tenant, as the items of a message.
-    fn snapshot(&mut self, alloc: Global, tenant: &TenantName) -> Result<Items, AllocError>
-        ensures items { IfOk result (λ items. items ≡ (local_of tenant.now self.old).held) }
-        ensures stays { OnOk result ((t : List ℕ) → local_of t self.new ≡ local_of t self.old) }
+    #[tactic(auto, unfolding(crate::specs::Locals::local_of))]
+    fn snapshot(&self, tenant: &TenantName) -> Result<Items, AllocError>
+        ensures { IfOk result (λ items. items ≡ (local_of tenant.now self.now).held) }
     {
-        let (held, _config) = self.node.in_use(alloc, tenant)?;
-        let held = held.snapshot()?;
+        let held = self.node.held(tenant).snapshot()?;
         Ok(Items::from_held(held))
     }
 }

@@ -1,3 +1,8 @@
+ghost use Rattle.std.specs.Prelude.{◌≡◌};
+ghost use Rattle.am_cluster.specs.Here.{replica_here};
+ghost use Rattle.am_site.specs.Here.{here_of};
+
+use am_context::Context;
 use am_limit::Limits;
 use am_ring::Instance;
 use am_tenant::TenantName;
@@ -14,6 +19,8 @@ pub struct Here<'a> {
     pub incarnation: u32,
     /// The moment at which it happens.
     pub moment: Moment,
+    /// The key of the service, of which the words of all tenants are made.
+    pub service_key: &'a [u8; 32],
     /// The tenant's limits.
     pub limits: Limits,
     /// The epoch of the ring that the instance knows.
@@ -24,4 +31,18 @@ pub struct Here<'a> {
     pub has_stayed: bool,
     /// The present incarnations of the instances 1 to 8, in their order.
     pub incarnations: &'a [u32],
+}
+
+impl<'a> Here<'a> {
+    // What a node goes by.
+    pub(crate) fn context(&self) -> Context
+        ensures { result ≡ replica_here (here_of self.now) }
+    {
+        Context {
+            instance: self.instance.number(),
+            incarnation: self.incarnation,
+            moment: self.moment,
+            limits: self.limits,
+        }
+    }
 }

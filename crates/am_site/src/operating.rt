@@ -56,7 +56,7 @@ impl Site {
             self.old self.new outbox.old.items outbox.new.items) }
     {
         let ready = self.operations.ack(here.tenant, target, from);
-        put_reply(outbox, ready)
+        push_reply(outbox, ready)
     }
 
     // Opens the operation of a request, and gives its number.
@@ -83,7 +83,7 @@ impl Site {
 }
 
 // Puts out the reply of an operation that is over, where one is.
-fn put_reply(outbox: &mut Vec<Said>, ready: Option<Ready>) -> Result<(), AllocError>
+fn push_reply(outbox: &mut Vec<Said>, ready: Option<Ready>) -> Result<(), AllocError>
     ensures { OnOk result (map said_in outbox.new.items ≡ map said_in outbox.old.items ++ replied ready) }
 {
     if let Some(ready) = ready {

@@ -1,6 +1,6 @@
 //! Messages that an instance sends.
 
-ghost use Rattle.std.specs.Prelude.{IfErr, OnOk};
+ghost use Rattle.std.specs.Prelude.{◌≡◌, IfErr, OnOk};
 ghost use Rattle.am_cluster.specs.Sending.{send_all, send_in};
 ghost use Rattle.am_site.specs.Here.{here_of};
 ghost use Rattle.am_site.specs.Reacting.{Reacts, StopsReacting};
@@ -31,6 +31,7 @@ impl Site {
             self.old self.new outbox.old.items outbox.new.items) }
         ensures fault { IfErr result
             (StopsReacting here.now.tenant.now (send_in epoch (here_of here.now) to body) self.old) }
+        ensures node { self.new.node ≡ self.old.node }
     {
         let used = self.sent.used(here.tenant);
         if used >= GREATEST_COUNT {
@@ -70,6 +71,7 @@ impl Site {
             self.old self.new outbox.old.items outbox.new.items) }
         ensures fault { IfErr result
             (StopsReacting here.now.tenant.now (send_all epoch (here_of here.now) to.now body.now) self.old) }
+        ensures node { self.new.node ≡ self.old.node }
     {
         for instance in to {
             let body = body.share()?;

@@ -1,21 +1,28 @@
 //! What an instance has of all tenants.
 
-ghost use Rattle.std.specs.Prelude.{◌≡◌, ℕ, List, IfOk};
+ghost use Rattle.std.specs.Prelude.{◌≡◌, ℕ, List, Some, IfOk};
 ghost use Rattle.am_cluster.specs.Local.{blank};
+ghost use Rattle.am_node.specs.Held.{local_of as local_in_node};
+ghost use Rattle.am_transfer.specs.Timers.{AreTimed};
 ghost use Rattle.am_site.specs.Locals.{local_of};
 
+use am_current::Elsewhere;
 use am_item::Counts;
 use am_node::Node;
 use am_quorum::Ops;
+use am_transfer::Settling;
 use std::alloc::{AllocError, Global};
 
-/// What an instance has of all tenants: what it holds and has planned, the operations that are open, and how many
-/// messages it sent. A call for one tenant leaves what it has of the others as it was; after a call that failed it is
-/// of use only to be cleared.
+/// What an instance has of all tenants: what it holds and has planned, the operations that are open, how many messages
+/// it sent, and how it settles. A call for one tenant leaves what it has of the others as it was; after a call that
+/// failed it is of use only to be cleared.
 pub struct Site {
     pub(crate) node: Node,
     pub(crate) operations: Ops,
     pub(crate) sent: Counts,
+    pub(crate) settling: Settling,
+    // the configurations of lists that answers were merged into
+    pub(crate) elsewhere: Elsewhere,
 }
 
 // Written out, so that a crate which owns one has no need to prove anew how each of its parts is dropped.
@@ -25,10 +32,14 @@ impl Drop for Site {
             node,
             operations,
             sent,
+            settling,
+            elsewhere,
         } = self;
         drop(node);
         drop(operations);
         drop(sent);
+        drop(settling);
+        drop(elsewhere);
     }
 }
 
@@ -39,11 +50,30 @@ impl Site {
     pub fn new(alloc: Global, incarnation: u32) -> Result<Site, AllocError>
         ensures blank { IfOk result (λ site. (t : List ℕ) → local_of t site ≡ blank) }
         ensures incarnation { IfOk result (λ site. site.operations.incarnation ≡ incarnation) }
+        ensures positions { IfOk result (λ site. (t : List ℕ) → (local_in_node t site.node).position ≡ Some 0) }
+        ensures timed { IfOk result (λ site. AreTimed site.settling) }
     {
         Ok(Site {
             node: Node::new(alloc)?,
             operations: Ops::new(alloc, incarnation),
             sent: Counts::new(alloc),
+            settling: Settling::new(alloc),
+            elsewhere: Elsewhere::new(alloc)?,
         })
+    }
+
+    /// Forgets all that it has of all tenants, as a crash does; from now on it is in this incarnation. It takes no
+    /// memory.
+    pub fn clear(&mut self, alloc: Global, incarnation: u32)
+        ensures blank { (t : List ℕ) → local_of t self.new ≡ blank }
+        ensures incarnation { self.new.operations.incarnation ≡ incarnation }
+        ensures positions { (t : List ℕ) → (local_in_node t self.new.node).position ≡ Some 0 }
+        ensures timed { AreTimed self.new.settling }
+    {
+        self.node.clear(alloc);
+        self.operations = Ops::new(alloc, incarnation);
+        self.sent = Counts::new(alloc);
+        self.settling = Settling::new(alloc);
+        self.elsewhere.clear();
     }
 }

@@ -1,4 +1,4 @@
-use Rattle.std.proofs.Common.{◌∙◌, ◌++◌, map, ap, sym}
+use Rattle.std.proofs.Common.{◌∙◌, ◌++◌, map, ap, sym, refl}
 use Rattle.std.proofs.lemmas.Result.{on_ok_weaker}
 use Rattle.am_cluster.specs.Operating.{acked}
 use Rattle.am_context.proofs.Changes.{one_changes, other, own}
@@ -7,6 +7,7 @@ use Rattle.am_node.specs.Held.{local_of as local_in_node}
 use Rattle.am_quorum.proofs.Seen.{target_here}
 use Rattle.am_quorum.specs.Dockets.{docket_of, with_operations}
 use Rattle.am_quorum.specs.Operations.{acked_by, ready_by}
+use Rattle.am_transfer.specs.Tenants.{settling_of}
 use Rattle.am_site.specs.Locals.{from_rooms, local_of}
 use Rattle.am_site.specs.Reacting.{replied, said_in}
 use Rattle.am_site.proofs.Acks.{acked_fits, acked_local, acked_said}
@@ -21,16 +22,18 @@ returns c =
     let node = local_in_node s r.node in
     let d = docket_of s r.operations in
     let n = count_of s r.sent in
+    let g = settling_of s r.settling.progress in
     let here = target_here r.operations.incarnation target d.operations (sym c.requires) in
-    on_ok_weaker c.put_reply.result
+    on_ok_weaker c.push_reply.result
     (λ puts. record {
       local = one_changes s (λ l. (acked target.number target.epoch c.args.from l).local) (λ t. local_of t r) _
-          (ap (λ docket. from_rooms node docket n) (own s _ _ _ (c.ack-ready.ensures.each s))
-          ∙ ap (λ found. from_rooms node (with_operations (acked_by c.args.from found) d) n) here
-          ∙ sym (acked_local node d n c.args.from target.number target.epoch))
-          (λ t apart. ap (λ docket. from_rooms (local_in_node t r.node) docket (count_of t r.sent)) (other t s _ _ _ apart (c.ack-ready.ensures.each t)));
+          (ap (λ docket. from_rooms node docket n g) (own s _ _ _ (c.ack-ready.ensures.each s))
+          ∙ ap (λ found. from_rooms node (with_operations (acked_by c.args.from found) d) n g) here
+          ∙ sym (acked_local node d n g c.args.from target.number target.epoch))
+          (λ t apart. ap (λ docket. from_rooms (local_in_node t r.node) docket (count_of t r.sent) (settling_of t r.settling.progress)) (other t s _ _ _ apart (c.ack-ready.ensures.each t)));
       said = puts ∙ ap (λ ready. map said_in c.args.outbox.now.items ++ replied ready) (c.ack-ready.ensures.ready ∙ ap (ready_by c.args.from) here)
-          ∙ ap (λ said. map said_in c.args.outbox.now.items ++ said) (sym (acked_said node d n c.args.from target.number target.epoch));
-      fits = acked_fits node d n c.args.from target.number target.epoch;
+          ∙ ap (λ said. map said_in c.args.outbox.now.items ++ said) (sym (acked_said node d n g c.args.from target.number target.epoch));
+      fits = acked_fits node d n g c.args.from target.number target.epoch;
+      keeps = record { incarnation = c.ack-ready.ensures.incarnation; positions = λ t. refl; timed = λ timed. timed };
     })
-    c.put_reply.ensures
+    c.push_reply.ensures

@@ -1,4 +1,4 @@
-use Rattle.std.proofs.Common.{refl}
+use Rattle.std.proofs.Common.{sym, ◌∙◌}
 use Rattle.std.proofs.lemmas.Result.{IfErr-weaker, on_ok_weaker}
 use Rattle.am_transfer.specs.Peers.{peer}
 use Rattle.am_cluster.specs.Arriving.{answer_get}
@@ -10,34 +10,36 @@ use Rattle.am_site.proofs.Answers.{answers, answers_not}
 use Rattle.am_site.proofs.Reacting.{nothing, reacts_from, stops_from}
 use Rattle.am_site.proofs.site.Site.answer_get.Goals as goal
 
-pub returns-then-not-here-clause-reacts : goal.returns-then-not-here-clause-reacts
+pub returns-then-not-is_settled-clause-reacts : goal.returns-then-not-is_settled-clause-reacts
 unfolding local_of
-returns-then-not-here-clause-reacts c =
+returns-then-not-is_settled-clause-reacts c =
     let s = c.args.here.now.tenant.now in
     let here = here_of c.args.here.now in
     let asker = peer c.args.asker c.args.incarnation in
     nothing s (answer_get here asker c.args.operation) c.args.self.now c.args.outbox.now.items
-    (answers_not here asker c.args.operation (local_of s c.args.self.now) c.if-not-here.true refl)
+    (answers_not here asker c.args.operation (local_of s c.args.self.now) (sym c.is_settled.ensures ∙ c.if-not-is_settled.true))
 
 pub returns-clause-reacts : goal.returns-clause-reacts
+unfolding local_of
 returns-clause-reacts c =
     let s = c.args.here.now.tenant.now in
     let here = here_of c.args.here.now in
     let asker = peer c.args.asker c.args.incarnation in
     on_ok_weaker c.send_in.result
     (λ reacts. reacts_from s (send_in here.epoch here c.args.asker (Answer c.args.operation c.args.incarnation c.in_ok-items.items)) (answer_get here asker c.args.operation)
-    c.args.self.now c.snapshot.new.self c.in_ok-items.ensures.stays
-    (answers here asker c.args.operation c.in_ok-items.items (local_of s c.args.self.now) c.if-not-here.false c.in_ok-items.ensures.items)
+    c.args.self.now
+    (answers here asker c.args.operation c.in_ok-items.items (local_of s c.args.self.now) (sym c.is_settled.ensures ∙ c.if-not-is_settled.false) c.in_ok-items.ensures)
     c.send_in.new.self c.args.outbox.now.items c.send_in.new.outbox.items reacts)
     c.send_in.ensures.reacts
 
 pub returns-clause-fault : goal.returns-clause-fault
+unfolding local_of
 returns-clause-fault c =
     let s = c.args.here.now.tenant.now in
     let here = here_of c.args.here.now in
     let asker = peer c.args.asker c.args.incarnation in
     IfErr-weaker c.send_in.result _ _
     (λ fault stops. stops_from s (send_in here.epoch here c.args.asker (Answer c.args.operation c.args.incarnation c.in_ok-items.items)) (answer_get here asker c.args.operation)
-    c.args.self.now c.snapshot.new.self c.in_ok-items.ensures.stays
-    (answers here asker c.args.operation c.in_ok-items.items (local_of s c.args.self.now) c.if-not-here.false c.in_ok-items.ensures.items) fault stops)
+    c.args.self.now
+    (answers here asker c.args.operation c.in_ok-items.items (local_of s c.args.self.now) (sym c.is_settled.ensures ∙ c.if-not-is_settled.false) c.in_ok-items.ensures) fault stops)
     c.send_in.ensures.fault

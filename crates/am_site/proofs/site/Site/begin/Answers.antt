@@ -13,7 +13,7 @@ returns-clause-number c = rw c.requires at c.start.ensures.number
 pub returns-clause-does : goal.returns-clause-does
 returns-clause-does c =
     begins (here_of c.args.here.now) c.args.connection c.args.request c.args.here.now.tenant.now c.args.self.now c.start.new.self c.start.result
-    (rw c.requires at c.start.ensures.number)
+    c.start.ensures.incarnation (rw c.requires at c.start.ensures.number)
     (subst (λ t. OnOk c.start.result (Changes t (started (opened c.args.connection c.args.request c.args.here.now.moment c.args.here.now.epoch)) c.args.self.now.operations c.start.new.self)) c.requires c.start.ensures.each)
     (rw c.requires at c.start.ensures.fault)
 

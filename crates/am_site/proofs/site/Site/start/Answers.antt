@@ -21,7 +21,7 @@ returns-clause-reacts c =
     let l = local_of s c.args.self.now in
     let is : (opens n >> asks n) l ≡ start here c.args.connection c.args.request l = ap (λ m. (opens m >> asks m) l) c.in_ok-operation.ensures.number in
     on_ok_weaker c.send_all.result
-    (λ reacts. reacts_from s (opens n >> asks n) (start here c.args.connection c.args.request) c.args.self.now c.args.self.now (λ t. refl) is c.send_all.new.self c.args.outbox.now.items c.send_all.new.outbox.items
+    (λ reacts. reacts_from s (opens n >> asks n) (start here c.args.connection c.args.request) c.args.self.now is c.send_all.new.self c.args.outbox.now.items c.send_all.new.outbox.items
     (in_turn_reacts s (opens n) (asks n) c.args.self.now c.begin.new.self c.args.outbox.now.items c.args.outbox.now.items c.send_all.new.self c.send_all.new.outbox.items
     (quiet s (opens n) c.args.self.now c.begin.new.self c.args.outbox.now.items c.in_ok-operation.ensures.does) reacts))
     c.send_all.ensures.reacts
@@ -37,7 +37,7 @@ returns-clause-fault c =
     let l = local_of s c.args.self.now in
     let is : (opens n >> asks n) l ≡ start here c.args.connection c.args.request l = ap (λ m. (opens m >> asks m) l) c.in_ok-operation.ensures.number in
     IfErr-weaker c.send_all.result _ _
-    (λ fault stops. stops_from s (opens n >> asks n) (start here c.args.connection c.args.request) c.args.self.now c.args.self.now (λ t. refl) is fault
+    (λ fault stops. stops_from s (opens n >> asks n) (start here c.args.connection c.args.request) c.args.self.now is fault
     (stops_second s (opens n) (asks n) c.args.self.now c.begin.new.self c.args.outbox.now.items c.args.outbox.now.items fault
     (quiet s (opens n) c.args.self.now c.begin.new.self c.args.outbox.now.items c.in_ok-operation.ensures.does) stops))
     c.send_all.ensures.fault
@@ -51,5 +51,5 @@ returns-in_err-operation-clause-fault c =
     let opens : Local → Reaction = begin (operation_for here c.args.connection c.args.request n) in
     let asks : Local → Reaction = send_all here.epoch here here.three (Get n) in
     let p = err_from_is_err_and c.from_residual.result c.from_residual.ensures.1 in
-    rw (p.1, p.2) (stops_from s (opens >> asks) (start here c.args.connection c.args.request) c.args.self.now c.args.self.now (λ t. refl) refl _
+    rw (p.1, p.2) (stops_from s (opens >> asks) (start here c.args.connection c.args.request) c.args.self.now refl _
     (stops_first s opens asks c.args.self.now _ c.in_err-operation.ensures.fault))
