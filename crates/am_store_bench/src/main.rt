@@ -1,0 +1,89 @@
+//! Puts silences into a store, so many as its arguments say, for `bench/store`, which times it.
+//!
+//! `put COUNT` puts them into a store in memory, `put COUNT FILE` into one in a file; `read COUNT`, or `read COUNT
+//! FILE`, then reads all rows as well, as an opening does. Each is one commit.
+#![tactic(auto)]
+
+use am_item::{Item, Matchers, SharedItem, Silence, SilenceId, Stamp, Thing};
+use am_rows::Rows;
+use am_store::Shelf;
+use am_tenant::TenantName;
+use am_text::{Moment, Text};
+use anyhow::{Context, Result, bail};
+use std::alloc::Global;
+use std::env;
+
+/// What a silence has as its comment, so that a row has some 200 bytes.
+const COMMENT: &str =
+    "The cluster is moved to other machines, which takes the weekend; ada and bob know more of that.";
+
+/// When all silences start.
+const START: u64 = 1_750_000_000_000;
+
+fn main(rt: HostRuntime) -> Result<()> {
+    let alloc = rt.alloc();
+    let words: Vec<String> = env::args(&rt)?.skip(1).collect(alloc)?;
+    let (Some(task), Some(count)) = (words.first(), words.get(1)) else {
+        bail!("put COUNT [FILE], or read COUNT [FILE]");
+    };
+    let count = count.as_str().parse::<u32>()?;
+    let is_read = task.as_str() == "read";
+    let rows = match words.get(2) {
+        None => work(alloc, Shelf::in_memory(alloc)?, count, is_read)?,
+        Some(path) => match Shelf::in_file(&rt, path.as_str()) {
+            Ok(shelf) => work(alloc, shelf, count, is_read)?,
+            Err(_) => bail!("the file is no store"),
+        },
+    };
+    println!(rt; "{rows}")?;
+    Ok(())
+}
+
+/// Puts so many silences, and reads all rows where that is asked for. Gives how many were read, or put.
+fn work<R: Rows + Drop>(alloc: Global, mut store: R, count: u32, is_read: bool) -> Result<usize> {
+    match store.open(alloc) {
+        Ok(()) => {}
+        Err(_) => bail!("the store is refused"),
+    }
+    let tenant = TenantName::read(b"a").ok().context("no tenant")?;
+    for number in 0..count {
+        let item = silence(alloc, number)?;
+        match store.put(alloc, &tenant, &[item]) {
+            Ok(()) => {}
+            Err(_) => bail!("a put is refused"),
+        }
+    }
+    if !is_read {
+        return Ok(usize::try_from(count)?);
+    }
+    match store.rows_of(alloc, &tenant) {
+        Ok(rows) => Ok(rows.len()),
+        Err(_) => bail!("the rows are refused"),
+    }
+}
+
+/// A silence of this number.
+fn silence(alloc: Global, number: u32) -> Result<SharedItem> {
+    let start = Moment::from_milliseconds(START).context("no moment")?;
+    let end = start.plus(3_600_000);
+    let [first, second, third, fourth] = number.to_be_bytes();
+    let id = [
+        first, second, third, fourth, 0, 0, 0, 0, 0, 0, 0, 0, 0, 0, 0, 0,
+    ];
+    let stamp = Stamp {
+        moment: start,
+        instance: 1,
+        incarnation: 1,
+        count: u64::from(number) + 1,
+    };
+    let thing = Thing::Silence(Silence {
+        id: SilenceId::from_bytes(id),
+        starts_at: start,
+        ends_at: end,
+        kept_until: end,
+        created_by: Text::read(alloc, "ada")?,
+        comment: Text::read(alloc, COMMENT)?,
+        matchers: Matchers::from_vec(Vec::new(alloc)),
+    });
+    Ok(SharedItem::new(alloc, Item { stamp, thing })?)
+}
