@@ -44,7 +44,7 @@ use Rattle.am_cluster.specs.RingChanges.{are_same, dropped, end_push, go_on, go_
 use Rattle.am_cluster.specs.Sending.{send, send_all, send_in}
 use Rattle.am_transfer.specs.Settling.{Push, in_new_epoch, lacking, list_for as sent_list_for, now_settled, to_push, with_list, with_push}
 use Rattle.am_cluster.specs.Ticking.{due_keys, handled, is_flush_due, muted_of, send_again, ticked}
-use Rattle.am_cluster.specs.Transfers.{answer_ask, ask, asked, asks_first, begin_push, forced, push, send_state, take_got, take_state}
+use Rattle.am_cluster.specs.Transfers.{answer_ask, ask, asked, asks_first, begin_push, forced, push, send_piece, send_state, take_got, take_state}
 
 -- ---- counts
 
@@ -241,8 +241,7 @@ send_state_counted : (here : Here) (is_asked : Bool) (receiver : Peer) → AreCo
 unfolding send_state
 send_state_counted here is_asked receiver l =
     let list : SentList = sent_list_for receiver l.held l.settling in
-    each_counted here (λ (p : Piece). send here receiver.instance (State receiver.incarnation p.place p.is_last p.items))
-    (pieces_to_send is_asked list)
+    each_counted here (send_piece here receiver) (pieces_to_send is_asked list)
     (λ p. send_in_counted here.epoch here receiver.instance (State receiver.incarnation p.place p.is_last p.items))
     (with_settling (with_list receiver list l.settling) l)
 

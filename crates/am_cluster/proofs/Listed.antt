@@ -47,7 +47,7 @@ use Rattle.am_cluster.specs.RingChanges.{are_same, dropped, end_push, go_on, go_
 use Rattle.am_cluster.specs.Sending.{message_to, send, send_all, send_in}
 use Rattle.am_transfer.specs.Settling.{Push, Settling, ended_by, in_new_epoch, is_merged, lacking, list_for as sent_list_for, now_settled, settled_by, spans_from, to_push, with_list, with_push, with_span, without_push}
 use Rattle.am_cluster.specs.Ticking.{due_keys, handled, is_flush_due, muted_of, send_again, ticked}
-use Rattle.am_cluster.specs.Transfers.{answer_ask, ask, asked, asks_first, begin_push, forced, push, send_state, take_got, take_state}
+use Rattle.am_cluster.specs.Transfers.{answer_ask, ask, asked, asks_first, begin_push, forced, push, send_piece, send_state, take_got, take_state}
 use Rattle.am_cluster.proofs.ListsKept.{AllWithin, AreCut, AreListed, IsListed, Within, all_later, chosen_listed, cut-append, cut_in, each_listed, from_within, if_listed, list_at, none_some, only_if_listed, seq, stays_listed, still, where_some_listed}
 
 -- ---- sending
@@ -202,7 +202,7 @@ asks_first_listed here l =
 
 -- the pieces that go out are of the list that is kept
 piece_sent : (here : Here) (receiver : Peer) (list : List Item) (p : Piece) (l : Local) → list_at receiver l ≡ Some list → Within p (cut list)
-    → IsListed here l (send here receiver.instance (State receiver.incarnation p.place p.is_last p.items) l)
+    → IsListed here l (send_piece here receiver p l)
 unfolding send_in
 piece_sent here receiver list p l kept within = (
   λ q other e. e,
@@ -211,12 +211,11 @@ piece_sent here receiver list p l kept within = (
 
 pieces_sent_listed : (here : Here) (receiver : Peer) (list : List Item) (ps : List Piece) (l : Local) → list_at receiver l ≡ Some list
     → AllWithin ps (cut list)
-    → IsListed here l (each (λ (p : Piece). send here receiver.instance (State receiver.incarnation p.place p.is_last p.items)) ps l)
+    → IsListed here l (each (send_piece here receiver) ps l)
 pieces_sent_listed here receiver list [] l kept within = still here l (stays l) refl refl
 pieces_sent_listed here receiver list (p ∷ ps) l kept within =
-    let one : Local → Reaction = send here receiver.instance (State receiver.incarnation p.place p.is_last p.items) in
-    let more : Local → Reaction =
-    each (λ (x : Piece). send here receiver.instance (State receiver.incarnation x.place x.is_last x.items)) ps in
+    let one : Local → Reaction = send_piece here receiver p in
+    let more : Local → Reaction = each (send_piece here receiver) ps in
     let first = piece_sent here receiver list p l kept within.0 in
     let next = pieces_sent_listed here receiver list ps (one l).local (first.0 receiver list kept) within.1 in (
       λ q other e. next.0 q other (first.0 q other e),

@@ -51,6 +51,10 @@ abbrev pub each : {A : Type 0} → (A → Local → Reaction) → List A → Loc
 each react [] local = stays local
 each react (x ∷ xs) local = in_turn (react x local) (each react xs)
 
+-- .. which fits only where something is so
+abbrev pub provided : Bool → (Local → Reaction) → Local → Reaction
+provided is_so react local = let r : Reaction = react local in record r { fits = is_so && r.fits }
+
 abbrev pub only_if : Bool → (Local → Reaction) → Local → Reaction
 only_if test react local = if test then react local else stays local
 

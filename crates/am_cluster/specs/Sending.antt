@@ -11,6 +11,10 @@ use Rattle.am_cluster.specs.Reactions.{Reaction, Sends, each}
 abbrev pub longest_message : ℕ
 longest_message = 2 ^ 32 - 1
 
+-- a place in a list, and how many items a piece has, are told in four bytes
+abbrev pub greatest_place : ℕ
+greatest_place = 2 ^ 32 - 1
+
 abbrev pub message_to : Here → (epoch to count : ℕ) → Body → Message
 message_to here epoch to count body = record {
   tenant = here.tenant;

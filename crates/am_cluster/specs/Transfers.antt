@@ -1,5 +1,6 @@
 -- How an instance settles: the Asks, States and Gots that it sends, and what they do where they come.
-use Rattle.std.specs.Prelude.{ℕ, Bool, true, false, ◌&&◌, not, List, [], length, Some, is_none, is_some, if◌then◌else◌}
+use Rattle.std.specs.Prelude.{ℕ, Bool, true, false, ◌&&◌, not, nat_le, List, [], length, Some, is_none, is_some}
+use Rattle.std.specs.Prelude.{if◌then◌else◌}
 use Rattle.am_item.specs.declared.item.Item.{Item}
 use Rattle.am_cluster.specs.Accepting.{accepted}
 use Rattle.am_cluster.specs.Here.{Here, is_replica_here, others, peer_now}
@@ -7,8 +8,8 @@ use Rattle.am_cluster.specs.Local.{Local, is_settled, with_settling}
 use Rattle.am_cluster.specs.Messages.{Ask, Got, State}
 use Rattle.am_transfer.specs.Peers.{Peer}
 use Rattle.am_transfer.specs.Pieces.{Piece, SentList, pieces_to_send, reach_of}
-use Rattle.am_cluster.specs.Reactions.{Reaction, each, only_if, stays}
-use Rattle.am_cluster.specs.Sending.{send}
+use Rattle.am_cluster.specs.Reactions.{Reaction, each, only_if, provided, stays}
+use Rattle.am_cluster.specs.Sending.{greatest_place, send}
 use Rattle.am_transfer.specs.Settling.{Settling, lacking, named_in, now_settled, list_for as sent_list_for, settled_by, spans_from, with_list, with_push, with_span}
 
 -- ---- Asks
@@ -31,12 +32,17 @@ asks_first here local =
 
 -- ---- States
 
+-- a piece of the State goes out to a receiver
+abbrev pub send_piece : Here → (receiver : Peer) → Piece → Local → Reaction
+send_piece here receiver p local =
+    provided (nat_le p.place greatest_place)
+    (send here receiver.instance (State receiver.incarnation p.place p.is_last p.items)) local
+
 -- what is left of the State goes out to a receiver; its list is what is held when it first does
 unfoldable pub send_state : Here → (is_asked : Bool) → (receiver : Peer) → Local → Reaction
 send_state here is_asked receiver local =
     let list : SentList = sent_list_for receiver local.held local.settling in
-    each (λ (p : Piece). send here receiver.instance (State receiver.incarnation p.place p.is_last p.items))
-    (pieces_to_send is_asked list)
+    each (send_piece here receiver) (pieces_to_send is_asked list)
     (with_settling (with_list receiver list local.settling) local)
 
 -- a State is pushed: now, and again until a Got ends that
@@ -51,12 +57,16 @@ begin_push here to local = push here (peer_now here to) local
 
 -- ---- what a State, an Ask and a Got do
 
--- a piece of a State is accepted as it comes; perhaps it settles the instance; and a Got tells up to which place all
--- came
+-- a Got tells up to which place all of a State came
+abbrev pub send_got : Here → (sender : Peer) → (place : ℕ) → Local → Reaction
+send_got here sender place local =
+    provided (nat_le place greatest_place) (send here sender.instance (Got sender.incarnation place)) local
+
+-- a piece of a State is accepted as it comes; perhaps it settles the instance; and a Got tells how far all came
 unfoldable pub take_state : Here → (sender : Peer) → (place : ℕ) → (is_last : Bool) → List Item → Local → Reaction
 take_state here sender place is_last items local =
     let s : Settling = with_span sender place (record { count = length items; is_last = is_last }) local.settling in
-    send here sender.instance (Got sender.incarnation (reach_of (spans_from sender s)).place)
+    provided (nat_le (length items) greatest_place) (send_got here sender (reach_of (spans_from sender s)).place)
     (with_settling (settled_by (others here) s) (accepted here.moment items local))
 
 -- an Ask is answered by a settled replica, with the State to the incarnation that it names; that is no push

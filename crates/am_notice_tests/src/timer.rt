@@ -1,5 +1,6 @@
 use am_expect::{equal, holds};
 use am_labels::{Label, LabelSet};
+use am_ring::Instance;
 use am_share::Shared;
 use am_tenant::TenantName;
 use am_text::{Moment, Text};
@@ -48,7 +49,7 @@ fn key_of(alloc: Global, key: Key) -> Result<TimerKey, Fail> {
     match key {
         Key::Group(receiver, value, route) => group(alloc, receiver, value, route),
         Key::Operation(number) => Ok(TimerKey::Operation(number)),
-        Key::Push(number) => Ok(TimerKey::Push(number)),
+        Key::Push(number) => Ok(TimerKey::Push(Instance::new(number).ok_or("no instance")?)),
         Key::Retry(number) => Ok(TimerKey::Retry(number)),
     }
 }

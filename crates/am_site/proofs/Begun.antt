@@ -39,7 +39,7 @@ module _ (here : Here) (connection : ℕ) (request : Request) (tenant : List ℕ
             (λ t apart. ap (λ docket. from_rooms (local_in_node t old.node) docket (count_of t old.sent) (settling_of t old.settling.progress)) (other t tenant _ _ _ apart (each t)));
         said = refl;
         fits = ap (λ m. nat_le m 4611686018427387904) number ∙ fits used (λ le. no_error n CountsExhausted (past.1 le));
-        keeps = record { incarnation = kept; positions = λ t. refl; timed = λ timed. timed };
+        keeps = record { incarnation = kept; positions = λ t. refl; asked = λ t. refl; timed = λ timed. timed };
       }
 
   pub stops : (r : Result ℕ Fault) → (IsErrOf r CountsExhausted ↔ (4611686018427387904 ≤ used)) → (IsErrOf r PatternNotBuilt → ⊥) → (IsErrOf r StoreRefused → ⊥)

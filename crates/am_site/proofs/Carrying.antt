@@ -1,5 +1,5 @@
 -- What was decided on an operation is carried out.
-use Rattle.std.proofs.Common.{◌≡◌, ℕ, ◌+◌, ◌==◌, Bool, true, false, List, [], ◌∷◌, ◌++◌, length, map, Option, Some, None, ap, refl, sym, ◌∙◌, if◌then◌else◌}
+use Rattle.std.proofs.Common.{◌≡◌, ℕ, ◌==◌, Bool, true, false, List, [], ◌∷◌, ◌++◌, length, map, Option, Some, None, ap, refl, sym, ◌∙◌, if◌then◌else◌}
 use Rattle.am_alert.specs.Made.{counts_fit}
 use Rattle.am_api.specs.Replied.{Decision}
 use Rattle.am_cluster.specs.Here.{Here}
@@ -40,10 +40,10 @@ abbrev pub with_node : Site → Parts → Site
 with_node site node = record { node = node; operations = site.operations; sent = site.sent; settling = site.settling; elsewhere = site.elsewhere }
 
 pub keeps_ops : (old : Site) (ops : Ops) → ops.incarnation ≡ old.operations.incarnation → Keeps old (with_ops old ops)
-keeps_ops old ops kept = record { incarnation = kept; positions = λ t. refl; timed = λ timed. timed }
+keeps_ops old ops kept = record { incarnation = kept; positions = λ t. refl; asked = λ t. refl; timed = λ timed. timed }
 
 pub keeps_node : (old : Site) (node : Parts) → ((t : List ℕ) → (local_in_node t node).position ≡ (local_in_node t old.node).position) → Keeps old (with_node old node)
-keeps_node old node positions = record { incarnation = refl; positions = positions; timed = λ timed. timed }
+keeps_node old node positions = record { incarnation = refl; positions = positions; asked = λ t. refl; timed = λ timed. timed }
 
 -- what leaves the position of its tenant leaves that of all
 pub position_made : (tenant : List ℕ) (change : NodeLocal → NodeLocal) (old new : Parts) → ((l : NodeLocal) → (change l).position ≡ l.position)

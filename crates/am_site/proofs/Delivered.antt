@@ -1,7 +1,7 @@
 -- What becomes of the outcome of a try: what the node does of its own, and the record that is put to the others.
 use Rattle.std.proofs.Common.{◌≡◌, ℕ, true, false, List, [], Option, Some, None, ap, refl}
 use Rattle.am_cluster.specs.Delivery.{concluded, outcome, recorded}
-use Rattle.am_cluster.specs.Here.{Here, others, replica_here}
+use Rattle.am_cluster.specs.Here.{Here, replica_here}
 use Rattle.am_cluster.specs.Local.{Local}
 use Rattle.am_cluster.specs.Plans.{grouped_of, plan_of}
 use Rattle.am_cluster.specs.Reactions.{Reaction, ◌>>◌}

@@ -1,5 +1,5 @@
 -- What an instance does for its notices is what its node does of its own, and what is said of that.
-use Rattle.std.proofs.Common.{◌≡◌, ℕ, Bool, ◌&&◌, true, false, List, [], ◌∷◌, ◌++◌, map, Option, Some, None, ap, append-nil, refl, sym, ◌∙◌}
+use Rattle.std.proofs.Common.{◌≡◌, ℕ, ◌<◌, Bool, ◌&&◌, true, false, List, [], ◌∷◌, ◌++◌, length, map, Option, Some, None, ap, append-nil, refl, sym, ◌∙◌}
 use Rattle.std.specs.List.{filter_map}
 use Rattle.am_agenda.specs.Plan.{Plan, flush_due, group_in}
 use Rattle.am_cluster.specs.Delivery.{recorded, told}
@@ -21,7 +21,6 @@ use Rattle.am_node.specs.Local.{Local as NodeLocal, Reaction as NodeReaction, sa
 use Rattle.am_node.specs.Plans.{IsPlanned}
 use Rattle.am_node.specs.Ticking.{flushed_if, handled}
 use Rattle.am_node.specs.declared.report.Report.{Report}
-use Rattle.am_notifier.specs.Following.{paces_at}
 use Rattle.am_notifier.specs.Flushing.{sent_among}
 use Rattle.am_outlet.specs.Attempts.{after_tick, is_due, next_of}
 use Rattle.am_outlet.specs.declared.attempt.Sending.{Sending}
@@ -36,6 +35,7 @@ use Rattle.am_telling.specs.Tellings.{tellings}
 use Rattle.am_telling.specs.declared.telling.Telling.{Telling}
 use Rattle.am_telling.specs.declared.telling.Telling.TheVariants.{Notify, Keep}
 use Rattle.am_timer.specs.Timer.{Key}
+use Rattle.am_timer.specs.declared.key.FlushKey.{FlushKey}
 use Rattle.am_timer.specs.declared.key.TimerKey.TheVariants.{Operation as OperationKey, Group as GroupKey, Retry as RetryKey, Push as PushKey}
 use Rattle.am_transfer.specs.Settling.{Settling}
 use Rattle.am_transfer.specs.Tenants.{settling_of}
@@ -45,6 +45,7 @@ use Rattle.am_site.specs.Reacting.{Does, Reacts, StopsReacting}
 use Rattle.am_site.specs.declared.said.Said.{Said as Spoken}
 use Rattle.am_site.specs.declared.site.Site.{Site}
 use Rattle.am_site.proofs.Carrying.{with_node}
+use Rattle.am_site.proofs.Planned.{by_alerts, none_planned, not_due, same_plan}
 use Rattle.am_site.proofs.Delivered.{by_node, node_does, node_reaction}
 use Rattle.am_site.proofs.Positions.{handled_stays}
 use Rattle.am_site.proofs.Reacting.{and_true, in_turn_reacts, quiet, reacts_from, stops_from, stops_second}
@@ -90,39 +91,47 @@ module _ (here : Here) (d : Docket) (g : Settling) where
 
   -- ---- what is planned here is what the node has planned
 
-  module _ (node : NodeLocal) (n : ℕ) (planned : IsPlanned node) (positioned : node.position ≡ position_of here (from_rooms node d n g)) where
+  module _ (node : NodeLocal) (n : ℕ) (planned : IsPlanned node) where
     abbrev l : Local
     l = from_rooms node d n g
 
-    same_plan : plan_of here l ≡ node.plan
-    unfolding plan_of grouped_of
-    same_plan =
-        ap (λ alerts. let plan : Plan = record {
-          paces = paces_at (configuration_in node.held) (position_of here l);
-          grouped = record { alerts = alerts; flushes = node.plan.grouped.flushes };
-          desk = node.plan.desk;
-        } in plan) (sym planned.groups)
-        ∙ ap (λ paces. let plan : Plan = record { paces = paces; grouped = node.plan.grouped; desk = node.plan.desk } in plan)
-        (ap (paces_at (configuration_in node.held)) (sym positioned) ∙ sym planned.paces)
+    abbrev lifted_node : (muted : List (List Label)) → Key → Reaction
+    lifted_node muted key = lifted here d g (handled (replica_here here) muted key node) n
 
-    same_replica : replica_local here l ≡ node
-    same_replica =
-        ap (λ plan. let local : NodeLocal = record { held = node.held; plan = plan; noticed = node.noticed; position = position_of here l; ledger = node.ledger } in local) same_plan
-        ∙ ap (λ position. let local : NodeLocal = record { held = node.held; plan = node.plan; noticed = node.noticed; position = position; ledger = node.ledger } in local) (sym positioned)
+    -- .. where groups wait by its position
+    module _ (positioned : node.position ≡ position_of here l) where
+      same_replica : replica_local here l ≡ node
+      same_replica =
+          ap (λ plan. let local : NodeLocal = record { held = node.held; plan = plan; noticed = node.noticed; position = position_of here l; ledger = node.ledger } in local)
+          (same_plan here node d n g planned positioned)
+          ∙ ap (λ position. let local : NodeLocal = record { held = node.held; plan = node.plan; noticed = node.noticed; position = position; ledger = node.ledger } in local) (sym positioned)
 
-    flushed_lifted : (muted : List (List Label)) (group : Group) → flushed here muted group l ≡ lifted here d g (flushed_in_node (replica_here here) muted group node) n
-    unfolding flushed flushed_in_node
-    flushed_lifted muted group =
-        ap (λ (r : NodeLocal). each (told here) (tellings (configuration_in node.held) group (sent_among node.held) (members_but muted group r) here.moment)
-        (with_replica (begun_in_node (replica_here here) group r) l)) same_replica
-        ∙ each_lifted here d g (told here) (told_in_node (replica_here here)) told_lifted
-        (tellings (configuration_in node.held) group (sent_among node.held) (members_but muted group node) here.moment)
-        (begun_in_node (replica_here here) group node) n
+      flushed_lifted : (muted : List (List Label)) (group : Group) → flushed here muted group l ≡ lifted here d g (flushed_in_node (replica_here here) muted group node) n
+      unfolding flushed flushed_in_node
+      flushed_lifted muted group =
+          ap (λ (r : NodeLocal). each (told here) (tellings (configuration_in node.held) group (sent_among node.held) (members_but muted group r) here.moment)
+          (with_replica (begun_in_node (replica_here here) group r) l)) same_replica
+          ∙ each_lifted here d g (told here) (told_in_node (replica_here here)) told_lifted
+          (tellings (configuration_in node.held) group (sent_among node.held) (members_but muted group node) here.moment)
+          (begun_in_node (replica_here here) group node) n
 
-    flush_lifted : (muted : List (List Label)) (group : Group) (b : Bool)
-        → only_if b (flushed here muted group) l ≡ lifted here d g (flushed_if b (replica_here here) muted group node) n
-    flush_lifted muted group true = flushed_lifted muted group
-    flush_lifted muted group false = refl
+      flush_lifted : (muted : List (List Label)) (group : Group) (b : Bool)
+          → only_if b (flushed here muted group) l ≡ lifted here d g (flushed_if b (replica_here here) muted group node) n
+      flush_lifted muted group true = flushed_lifted muted group
+      flush_lifted muted group false = refl
+
+      group_lifted : (muted : List (List Label)) (key : FlushKey) → notified_for here muted (GroupKey key) l ≡ lifted_node muted (GroupKey key)
+      unfolding handled
+      group_lifted muted key =
+          ap (λ (plan : Plan). only_if (is_due here.moment (flush_due plan.paces plan.grouped key)) (flushed here muted (group_in key)) l) (same_plan here node d n g planned positioned)
+          ∙ flush_lifted muted (group_in key) (is_due here.moment (flush_due node.plan.paces node.plan.grouped key))
+
+    -- .. where no alert is held, so that no flush is due
+    no_flush : (muted : List (List Label)) (key : FlushKey) → node.plan.grouped.alerts ≡ [] → notified_for here muted (GroupKey key) l ≡ lifted_node muted (GroupKey key)
+    unfolding handled
+    no_flush muted key none =
+        ap (λ due. only_if (is_due here.moment due) (flushed here muted (group_in key)) l) (not_due (plan_of here l) key (none_planned here node d n g planned none))
+        ∙ sym (ap (λ due. lifted here d g (flushed_if (is_due here.moment due) (replica_here here) muted (group_in key) node) n) (not_due node.plan key none))
 
     abbrev next : (number : ℕ) → NodeLocal
     next number = at_desk (after_tick number here.moment node.plan.desk) node
@@ -133,32 +142,33 @@ module _ (here : Here) (d : Docket) (g : Settling) where
     retried_lifted number None = refl
     retried_lifted number (Some sending) = refl
 
-    pub notified_as : (muted : List (List Label)) (key : Key) → notified_for here muted key l ≡ lifted here d g (handled (replica_here here) muted key node) n
-    unfolding handled retried_in_node plan_of grouped_of
-    notified_as muted (OperationKey number) = refl
-    notified_as muted (GroupKey key) =
-        ap (λ (plan : Plan). only_if (is_due here.moment (flush_due plan.paces plan.grouped key)) (flushed here muted (group_in key)) l) same_plan
-        ∙ flush_lifted muted (group_in key) (is_due here.moment (flush_due node.plan.paces node.plan.grouped key))
-    notified_as muted (RetryKey number) = retried_lifted number (next_of number here.moment node.plan.desk)
-    notified_as muted (PushKey to) = refl
-
     abbrev pub node_first : NodeReaction → Local → Reaction
     node_first r _ = by_node r d n g
 
-    -- what comes of the node's part, and of what is reported of it
-    pub notices_as : (muted : List (List Label)) (key : Key) (reports : List Report) → map said_in reports ≡ (handled (replica_here here) muted key node).said
-        → (node_first (handled (replica_here here) muted key node) >> each (reported here) reports) l ≡ notified_for here muted key l
-    notices_as muted key reports is =
-        let r = handled (replica_here here) muted key node in
-        ap (λ (said : Reaction). let whole : Reaction = record { local = said.local; said = said.said; fits = r.fits && said.fits } in whole) (reported_spoken here reports (from_rooms r.local d n g)
-        ∙ ap (λ said. each (spoken here) said (from_rooms r.local d n g)) is
-        ∙ all_spoken here d g r.said r.local n)
-        ∙ sym (notified_as muted key)
+    module _ (waits : 0 < length l.sinces → node.position ≡ position_of here l) where
+      pub notified_as : (muted : List (List Label)) (key : Key) → notified_for here muted key l ≡ lifted_node muted key
+      unfolding handled retried_in_node plan_of grouped_of
+      notified_as muted (OperationKey number) = refl
+      notified_as muted (GroupKey key) =
+          by_alerts here node d n g planned waits (notified_for here muted (GroupKey key) l ≡ lifted_node muted (GroupKey key)) (no_flush muted key)
+          (λ positioned. group_lifted positioned muted key)
+      notified_as muted (RetryKey number) = retried_lifted number (next_of number here.moment node.plan.desk)
+      notified_as muted (PushKey to) = refl
+
+      -- what comes of the node's part, and of what is reported of it
+      pub notices_as : (muted : List (List Label)) (key : Key) (reports : List Report) → map said_in reports ≡ (handled (replica_here here) muted key node).said
+          → (node_first (handled (replica_here here) muted key node) >> each (reported here) reports) l ≡ notified_for here muted key l
+      notices_as muted key reports is =
+          let r = handled (replica_here here) muted key node in
+          ap (λ (said : Reaction). let whole : Reaction = record { local = said.local; said = said.said; fits = r.fits && said.fits } in whole) (reported_spoken here reports (from_rooms r.local d n g)
+          ∙ ap (λ said. each (spoken here) said (from_rooms r.local d n g)) is
+          ∙ all_spoken here d g r.said r.local n)
+          ∙ sym (notified_as muted key)
 
 -- ---- of all tenants
 
 module _ (tenant : List ℕ) (here : Here) (muted : List (List Label)) (key : Key) (old : Site) (planned : IsPlanned (local_in_node tenant old.node))
-    (positioned : (local_in_node tenant old.node).position ≡ position_of here (local_of tenant old)) where
+    (waits : 0 < length (local_of tenant old).sinces → (local_in_node tenant old.node).position ≡ position_of here (local_of tenant old)) where
   abbrev own_part : NodeReaction
   own_part = handled (replica_here here) muted key (local_in_node tenant old.node)
 
@@ -169,7 +179,7 @@ module _ (tenant : List ℕ) (here : Here) (muted : List (List Label)) (key : Ke
   notice_fault CountsExhausted stops =
       let n = count_of tenant old.sent in
       ap (λ (r : Reaction). r.fits)
-      (notified_as here (docket_of tenant old.operations) (settling_of tenant old.settling.progress) (local_in_node tenant old.node) n planned positioned muted key)
+      (notified_as here (docket_of tenant old.operations) (settling_of tenant old.settling.progress) (local_in_node tenant old.node) n planned waits muted key)
       ∙ ap (λ b. b && (talk here own_part.said n).fits) stops
   notice_fault PatternNotBuilt stops = stops
   notice_fault StoreRefused stops = stops
@@ -185,7 +195,7 @@ module _ (tenant : List ℕ) (here : Here) (muted : List (List Label)) (key : Ke
     both_as : (first >> each (reported here) reports) (local_of tenant old) ≡ notified_for here muted key (local_of tenant old)
     unfolding local_of
     both_as = notices_as here (docket_of tenant old.operations) (settling_of tenant old.settling.progress) (local_in_node tenant old.node) (count_of tenant old.sent)
-        planned positioned muted key reports is
+        planned waits muted key reports is
 
     pub notice_done : (new : Site) (y : List Spoken) → Reacts tenant (each (reported here) reports) (with_node old node) new x y
         → Reacts tenant (notified_for here muted key) old new x y

@@ -1,5 +1,5 @@
 -- The position by which groups wait changes nothing else that an instance has.
-use Rattle.std.proofs.Common.{◌≡◌, ℕ, ◌==◌, Bool, true, false, List, Option, Some, None, arith, ap, refl, ◌∙◌, if◌then◌else◌}
+use Rattle.std.proofs.Common.{◌≡◌, ℕ, ◌==◌, Bool, true, false, List, Option, Some, None, arith, ap, refl, sym, ◌∙◌, if◌then◌else◌}
 use Rattle.std.proofs.lemmas.Bool.{false≢true}
 use Rattle.std.proofs.lemmas.Bool.Decides.{nat_tests}
 use Rattle.am_cluster.specs.Here.{Here, position_here}
@@ -8,7 +8,9 @@ use Rattle.am_cluster.specs.Plans.{position_of}
 use Rattle.am_context.proofs.Changes.{other, own}
 use Rattle.am_current.specs.Current.{configuration_in}
 use Rattle.am_item.specs.Counts.{count_of}
-use Rattle.am_node.specs.Accepting.{positioned}
+use Rattle.am_item.specs.declared.fault.Fault.{Fault}
+use Rattle.am_item.specs.declared.fault.Fault.TheVariants.{OutOfMemory, CountsExhausted, PatternNotBuilt, StoreRefused}
+use Rattle.am_node.specs.Accepting.{StopsPositioning, positioned}
 use Rattle.am_node.specs.Held.{Makes as NodeMakes, local_of as local_in_node}
 use Rattle.am_node.specs.Local.{Local as NodeLocal}
 use Rattle.am_node.specs.declared.parts.Parts.{Parts}
@@ -19,7 +21,10 @@ use Rattle.am_quorum.specs.Dockets.{Docket, docket_of}
 use Rattle.am_tenant.specs.Names.{same}
 use Rattle.am_transfer.specs.Settling.{Settling}
 use Rattle.am_transfer.specs.Tenants.{settling_of}
+use Rattle.am_site.specs.Here.{here_of}
+use Rattle.am_site.specs.InOrder.{IsAtPosition, StopsMoving}
 use Rattle.am_site.specs.Locals.{from_rooms, local_of}
+use Rattle.am_site.specs.declared.here.Here.{Here as Given}
 use Rattle.am_site.specs.declared.site.Site.{Site}
 use Rattle.am_site.proofs.Carrying.{with_node}
 
@@ -56,6 +61,25 @@ one_position (Some a) (Some b) is = ap Some (equal a b is)
   where
     equal : (a b : ℕ) → (a == b) ≡ true → a ≡ b
     equal a b h = grind (arith, nat_tests)
+
+-- .. and what isn't, isn't
+pub not_there : (a b c : Option ℕ) → is_same_position a b ≡ false → b ≡ c → a ≡ c → ⊥
+not_there a b c apart is same = false≢true (sym apart ∙ ap (is_same_position a) (is ∙ sym same) ∙ itself a)
+  where
+    equal : (n : ℕ) → (n == n) ≡ true
+    equal n = grind (arith, nat_tests)
+
+    itself : (a : Option ℕ) → is_same_position a a ≡ true
+    itself None = refl
+    itself (Some n) = equal n
+
+-- why it stops where it doesn't wait so
+pub stops_moving : (refused : List (List ℕ)) (given : Given) (site : Site) (fault : Fault) → (IsAtPosition (here_of given) site → ⊥)
+    → StopsPositioning refused (local_in_node given.tenant.now site.node) fault → StopsMoving refused given site fault
+stops_moving refused given site OutOfMemory apart stops = tt
+stops_moving refused given site CountsExhausted apart stops = stops
+stops_moving refused given site PatternNotBuilt apart stops = (apart, stops)
+stops_moving refused given site StoreRefused apart stops = stops
 
 -- ---- which it is
 

@@ -24,13 +24,12 @@ use Rattle.am_notifier.specs.Following.{all_came, sinces_in}
 use Rattle.am_notifier.proofs.ByRoutes.{sinces_planned}
 use Rattle.am_quorum.specs.Dockets.{Docket, docket_of}
 use Rattle.am_replica.specs.Storing.{fault_in}
-use Rattle.am_transfer.specs.Peers.{Peer, peer}
+use Rattle.am_transfer.specs.Peers.{Peer}
 use Rattle.am_transfer.specs.Settling.{Settling}
 use Rattle.am_transfer.specs.Tenants.{settling_of}
 use Rattle.am_site.specs.Here.{here_of}
 use Rattle.am_site.specs.Locals.{from_rooms, local_of}
 use Rattle.am_site.specs.Putting.{StopsPutting}
-use Rattle.am_site.specs.declared.accepting.PutItems.{PutItems}
 use Rattle.am_site.specs.declared.here.Here.{Here as Given}
 use Rattle.am_site.specs.Reacting.{Does, Keeps, Makes, Reacts, StopsReacting}
 use Rattle.am_site.specs.declared.said.Said.{Said as Spoken}
@@ -104,13 +103,13 @@ never_sending (Err PatternNotBuilt) tenant react site stops is = let clash = is 
 never_sending (Err StoreRefused) tenant react site stops is = stops
 
 -- why it stops that way
-pub stops_put : (refused : List (List ℕ)) (given : Given) (put : PutItems) (site : Site) (fault : Fault)
-    → StopsReacting given.tenant.now (take_put (here_of given) (peer put.from put.incarnation) put.operation put.items.now) site fault
-    → StopsPutting refused given put site fault
-stops_put refused given put site OutOfMemory stops = tt
-stops_put refused given put site CountsExhausted stops = stops
-stops_put refused given put site PatternNotBuilt stops = absurd stops
-stops_put refused given put site StoreRefused stops = absurd stops
+pub stops_put : (refused : List (List ℕ)) (given : Given) (sender : Peer) (operation : ℕ) (items : List Item) (site : Site) (fault : Fault)
+    → StopsReacting given.tenant.now (take_put (here_of given) sender operation items) site fault
+    → StopsPutting refused given sender operation items site fault
+stops_put refused given sender operation items site OutOfMemory stops = tt
+stops_put refused given sender operation items site CountsExhausted stops = stops
+stops_put refused given sender operation items site PatternNotBuilt stops = absurd stops
+stops_put refused given sender operation items site StoreRefused stops = absurd stops
 
 pub eq_zero : (n : ℕ) → n ≡ 0 → (n == 0) ≡ true
 eq_zero n is = grind (arith, nat_tests)

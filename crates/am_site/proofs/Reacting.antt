@@ -48,12 +48,13 @@ each_more f xs x l =
 -- ---- what is left
 
 pub keeps_all : (site : Site) → Keeps site site
-keeps_all site = record { incarnation = refl; positions = λ t. refl; timed = λ timed. timed }
+keeps_all site = record { incarnation = refl; positions = λ t. refl; asked = λ t. refl; timed = λ timed. timed }
 
 pub keeps_both : (a b c : Site) → Keeps a b → Keeps b c → Keeps a c
 keeps_both a b c one two = record {
   incarnation = two.incarnation ∙ one.incarnation;
   positions = λ t. two.positions t ∙ one.positions t;
+  asked = λ t. two.asked t ∙ one.asked t;
   timed = λ timed. two.timed (one.timed timed);
 }
 

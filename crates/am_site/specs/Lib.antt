@@ -10,3 +10,9 @@ pub mod Deciding
 pub mod Putting
 -- .. and for its notices
 pub mod Notices
+-- what is due at a tick
+pub mod Due
+-- what is so of each tenant between calls
+pub mod InOrder
+-- what it does with messages that come
+pub mod Arriving

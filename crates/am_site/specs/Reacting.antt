@@ -7,6 +7,7 @@ use Rattle.am_item.specs.declared.fault.Fault.{Fault}
 use Rattle.am_item.specs.declared.fault.Fault.TheVariants.{OutOfMemory, CountsExhausted, PatternNotBuilt, StoreRefused}
 use Rattle.am_node.specs.Held.{local_of as local_in_node}
 use Rattle.am_quorum.specs.declared.operation.Ready.{Ready}
+use Rattle.am_transfer.specs.Tenants.{progress_of}
 use Rattle.am_transfer.specs.Timers.{AreTimed}
 use Rattle.am_tenant.specs.Names.{same}
 use Rattle.am_site.specs.Locals.{local_of}
@@ -30,11 +31,26 @@ abbrev pub Makes : List ℕ → (Local → Local) → Site → Site → Type 0
 Makes tenant change old new =
     (t : List ℕ) → local_of t new ≡ (if same t tenant then change (local_of t old) else local_of t old)
 
--- what a reaction for one tenant leaves: the incarnation of the instance, the position by which each tenant's groups
--- wait, and that what is sent again has its timers
+-- the position by which a tenant's groups wait, and whom the instance asked for the tenant's State
+abbrev pub position_in : List ℕ → Site → Option ℕ
+position_in t site = (local_in_node t site.node).position
+
+abbrev pub asked_in : List ℕ → Site → List ℕ
+asked_in t site = (progress_of t site.settling.progress).asked
+
+-- what a reaction for one tenant leaves: the incarnation of the instance, the positions of all tenants' groups, whom it
+-- asked, and that what is sent again has its timers
 pub record Keeps (old new : Site) : Type 0 where
   pub incarnation : new.operations.incarnation ≡ old.operations.incarnation
-  pub positions : (t : List ℕ) → (local_in_node t new.node).position ≡ (local_in_node t old.node).position
+  pub positions : (t : List ℕ) → position_in t new ≡ position_in t old
+  pub asked : (t : List ℕ) → asked_in t new ≡ asked_in t old
+  pub timed : AreTimed old.settling → AreTimed new.settling
+
+-- .. one that may move the tenant's groups, or ask others: the same of the other tenants
+pub record KeepsOthers (tenant : List ℕ) (old new : Site) : Type 0 where
+  pub incarnation : new.operations.incarnation ≡ old.operations.incarnation
+  pub positions : (t : List ℕ) → same t tenant ≡ false → position_in t new ≡ position_in t old
+  pub asked : (t : List ℕ) → same t tenant ≡ false → asked_in t new ≡ asked_in t old
   pub timed : AreTimed old.settling → AreTimed new.settling
 
 -- what is said stands behind what had been said
@@ -44,6 +60,14 @@ pub record Reacts (tenant : List ℕ) (react : Local → Reaction) (old new : Si
   pub said : map said_in after ≡ map said_in before ++ (react (local_of tenant old)).said
   pub fits : (react (local_of tenant old)).fits ≡ true
   pub keeps : Keeps old new
+
+-- .. where the tenant's groups may wait by another position then, and others be asked
+pub record Moves (tenant : List ℕ) (react : Local → Reaction) (old new : Site) (before after : List Spoken) :
+    Type 0 where
+  pub local : Makes tenant (λ l. (react l).local) old new
+  pub said : map said_in after ≡ map said_in before ++ (react (local_of tenant old)).said
+  pub fits : (react (local_of tenant old)).fits ≡ true
+  pub keeps : KeepsOthers tenant old new
 
 -- .. where nothing is said
 pub record Does (tenant : List ℕ) (react : Local → Reaction) (old new : Site) : Type 0 where

@@ -8,7 +8,6 @@ ghost use Rattle.am_node.specs.Held.{local_of as local_in_node};
 ghost use Rattle.am_node.specs.Storing.{AreStored, LeavesStore};
 ghost use Rattle.am_pattern.specs.Asking.{Asked};
 ghost use Rattle.am_replica.specs.Storing.{fault_in};
-ghost use Rattle.am_transfer.specs.Peers.{peer};
 ghost use Rattle.am_site.specs.Here.{here_of};
 ghost use Rattle.am_site.specs.Putting.{StopsPutting};
 ghost use Rattle.am_site.specs.Reacting.{Keeps, Makes, Reacts};
@@ -18,18 +17,16 @@ use crate::said::Said;
 use crate::site::Site;
 use am_item::{Fault, SharedItem};
 use am_pattern::PatternCache;
-use am_ring::Instance;
 use am_rows::Rows;
+use am_transfer::Peer;
 use am_wire::{Body, Items};
 use std::alloc::Global;
 
 /// Items that an instance puts to a replica.
 #[derive(Drop)]
 pub struct PutItems<'a> {
-    /// The instance.
-    pub from: Instance,
-    /// Which start of it this is.
-    pub incarnation: u32,
+    /// The instance, in its incarnation.
+    pub from: Peer,
     /// The operation for which it does; 0 wants no Ack.
     pub operation: u64,
     /// The items.
@@ -55,10 +52,11 @@ impl Site {
     ) -> Result<(), Fault>
         requires { R.is_open store.old ≡ true }
         ensures reacts { OnOk result (Reacts here.now.tenant.now
-            (take_put (here_of here.now) (peer put.now.from put.now.incarnation) put.now.operation put.now.items.now)
+            (take_put (here_of here.now) put.now.from put.now.operation put.now.items.now)
             self.old self.new outbox.old.items outbox.new.items) }
         ensures asked { Asked result cache.old cache.new }
-        ensures fault { IfErr result (StopsPutting cache.new.refused here.now put.now self.old) }
+        ensures fault { IfErr result (StopsPutting cache.new.refused here.now
+            put.now.from put.now.operation put.now.items.now self.old) }
         ensures clean { R.is_clean store.new ≡ true → R.is_clean store.old ≡ true }
         ensures open { OnOk result (R.is_open store.new ≡ true) }
         ensures stores { R.is_clean store.new ≡ true → AreStored self.old.node (R.pairs store.old)
@@ -73,15 +71,16 @@ impl Site {
         if put.operation == 0 {
             return Ok(());
         }
+        let to = put.from.instance;
         let body = Body::Ack {
             operation: put.operation,
-            incarnation: put.incarnation,
+            incarnation: put.from.incarnation,
         };
-        self.send_in(alloc, here, here.epoch, put.from, body, outbox)
+        self.send_in(alloc, here, here.epoch, to, body, outbox)
     }
 
     // Commits items to the store, and accepts them.
-    fn accept<R: Rows>(
+    pub(crate) fn accept<R: Rows>(
         &mut self,
         alloc: Global,
         here: &Here,

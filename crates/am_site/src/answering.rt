@@ -2,8 +2,8 @@
 
 ghost use Rattle.std.specs.Prelude.{◌≡◌, ℕ, List, IfErr, IfOk, OnOk};
 ghost use Rattle.am_cluster.specs.Arriving.{answer_get};
-ghost use Rattle.am_transfer.specs.Peers.{peer};
 ghost use Rattle.am_site.specs.Here.{here_of};
+ghost use Rattle.am_site.specs.InOrder.{IsInOrder};
 ghost use Rattle.am_site.specs.Locals.{local_of};
 ghost use Rattle.am_site.specs.Reacting.{Reacts, StopsReacting};
 
@@ -11,8 +11,8 @@ use crate::here::Here;
 use crate::said::Said;
 use crate::site::Site;
 use am_item::Fault;
-use am_ring::Instance;
 use am_tenant::TenantName;
+use am_transfer::Peer;
 use am_wire::{Body, Items};
 use std::alloc::{AllocError, Global};
 
@@ -26,27 +26,29 @@ impl Site {
         &mut self,
         alloc: Global,
         here: &Here,
-        asker: Instance,
-        incarnation: u32,
+        asker: &Peer,
         operation: u64,
         outbox: &mut Vec<Said>,
     ) -> Result<(), Fault>
         ensures reacts { OnOk result (Reacts here.now.tenant.now
-            (answer_get (here_of here.now) (peer asker incarnation) operation)
+            (answer_get (here_of here.now) asker.now operation)
             self.old self.new outbox.old.items outbox.new.items) }
         ensures fault { IfErr result (StopsReacting here.now.tenant.now
-            (answer_get (here_of here.now) (peer asker incarnation) operation) self.old) }
+            (answer_get (here_of here.now) asker.now operation) self.old) }
+        ensures order { IsInOrder (here_of here.now) self.old → OnOk result (IsInOrder (here_of here.now) self.new) }
+        ensures node { self.new.node ≡ self.old.node }
     {
-        if !self.settling.is_settled(here.tenant, here.has_stayed) {
+        if !self.is_settled(here) {
             return Ok(());
         }
+        let to = asker.instance;
         let items = self.snapshot(here.tenant)?;
         let body = Body::Answer {
             operation,
-            incarnation,
+            incarnation: asker.incarnation,
             items,
         };
-        self.send_in(alloc, here, here.epoch, asker, body, outbox)
+        self.send_in(alloc, here, here.epoch, to, body, outbox)
     }
 
     // All that is held of a tenant, as the items of a message.

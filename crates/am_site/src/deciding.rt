@@ -16,6 +16,7 @@ ghost use Rattle.am_transfer.specs.Settling.{Settling};
 ghost use Rattle.am_site.specs.Deciding.{Answers, IsDecided, StopsAnswering, StopsDeciding, asked_by, asked_on};
 ghost use Rattle.am_site.specs.Deciding.{decides_on};
 ghost use Rattle.am_site.specs.Here.{here_of};
+ghost use Rattle.am_site.specs.InOrder.{IsInOrder};
 ghost use Rattle.am_site.specs.Locals.{from_rooms, local_of};
 ghost use Rattle.am_site.specs.Reacting.{Does, Reacts, StopsReacting};
 
@@ -59,6 +60,7 @@ impl Site {
         ensures asks { AddsAmong (asked_by here.now (decides_on target.number target.epoch answered
             (local_of here.now.tenant.now self.old).operations)) cache.old.refused cache.new.refused }
         ensures asked { Grows cache.old cache.new }
+        ensures order { IsInOrder (here_of here.now) self.old → OnOk result (IsInOrder (here_of here.now) self.new) }
     {
         let lists = match self.operations.answer(here.tenant, target, answered)? {
             Some(lists) => lists,

@@ -1,11 +1,11 @@
 //! Notices on their way.
 
-ghost use Rattle.std.specs.Prelude.{◌≡◌, ℕ, List, IfErr, IfOk, OnOk};
+ghost use Rattle.std.specs.Prelude.{◌≡◌, ℕ, List, IfErr, OnOk};
 ghost use Rattle.am_cluster.specs.Delivery.{outcome};
-ghost use Rattle.am_cluster.specs.Here.{others};
 ghost use Rattle.am_node.specs.Held.{local_of as local_in_node};
 ghost use Rattle.am_rows.specs.Rows.{stored_in};
 ghost use Rattle.am_site.specs.Here.{here_of};
+ghost use Rattle.am_site.specs.InOrder.{IsInOrder};
 ghost use Rattle.am_site.specs.Notices.{put_to_others};
 ghost use Rattle.am_site.specs.Reacting.{Reacts, StopsReacting};
 
@@ -13,9 +13,8 @@ use crate::here::Here;
 use crate::said::Said;
 use crate::site::Site;
 use am_item::{Fault, SharedItem};
-use am_ring::Instance;
 use am_wire::{Body, Items};
-use std::alloc::{AllocError, Global};
+use std::alloc::Global;
 
 impl Site {
     /// Takes the outcome of a try of a tenant's attempt at a notice: the status of the webhook's answer, or `None`
@@ -37,6 +36,7 @@ impl Site {
             self.old self.new outbox.old.items outbox.new.items) }
         ensures fault { IfErr result
             (StopsReacting here.now.tenant.now (outcome (here_of here.now) number tries status) self.old) }
+        ensures order { IsInOrder (here_of here.now) self.old → OnOk result (IsInOrder (here_of here.now) self.new) }
         ensures stored { OnOk result ((t : List ℕ) → stored_in (local_in_node t self.new.node).held
             ≡ stored_in (local_in_node t self.old.node).held) }
     {
@@ -70,20 +70,7 @@ impl Site {
             operation: 0,
             items: Items::from_vec(alloc, items)?,
         };
-        let others = others_of(alloc, here)?;
+        let others = here.others(alloc)?;
         self.send_all(alloc, here, here.epoch, others.as_slice(), &body, outbox)
     }
-}
-
-// The other two replicas, in order of position.
-fn others_of(alloc: Global, here: &Here) -> Result<Vec<Instance>, AllocError>
-    ensures { IfOk result (λ found. found.items ≡ others (here_of here.now)) }
-{
-    let mut others = Vec::new(alloc);
-    for instance in here.three {
-        if *instance != here.instance {
-            others.push(*instance)?;
-        }
-    }
-    Ok(others)
 }

@@ -4,6 +4,8 @@ ghost use Rattle.std.specs.Prelude.{OnOk};
 ghost use Rattle.am_cluster.specs.Operating.{timed_out};
 ghost use Rattle.am_cluster.specs.Reactions.{where_some};
 ghost use Rattle.am_quorum.specs.Operations.{operation_at};
+ghost use Rattle.am_site.specs.Here.{here_of};
+ghost use Rattle.am_site.specs.InOrder.{IsInOrder};
 ghost use Rattle.am_site.specs.Reacting.{Reacts};
 
 use crate::here::Here;
@@ -28,9 +30,10 @@ impl Site {
         number: u64,
         outbox: &mut Vec<Said>,
     ) -> Result<(), AllocError>
-        ensures { OnOk result (Reacts here.now.tenant.now
+        ensures reacts { OnOk result (Reacts here.now.tenant.now
             (λ l. where_some timed_out (operation_at number l.operations) l)
             self.old self.new outbox.old.items outbox.new.items) }
+        ensures order { IsInOrder (here_of here.now) self.old → OnOk result (IsInOrder (here_of here.now) self.new) }
     {
         let body = refusal_body(alloc, TIMED_OUT)?;
         let reply = reply_bytes(alloc, UNAVAILABLE, body.as_slice())?;

@@ -1,5 +1,7 @@
-ghost use Rattle.std.specs.Prelude.{◌≡◌};
-ghost use Rattle.am_cluster.specs.Here.{replica_here};
+//! What an instance goes by.
+
+ghost use Rattle.std.specs.Prelude.{◌≡◌, IfOk};
+ghost use Rattle.am_cluster.specs.Here.{is_replica_here, others, replica_here};
 ghost use Rattle.am_site.specs.Here.{here_of};
 
 use am_context::Context;
@@ -7,6 +9,7 @@ use am_limit::Limits;
 use am_ring::Instance;
 use am_tenant::TenantName;
 use am_text::Moment;
+use std::alloc::{AllocError, Global};
 
 /// What an instance goes by where something happens to a tenant, beside what it has of the tenant.
 #[derive(Drop)]
@@ -44,5 +47,32 @@ impl<'a> Here<'a> {
             moment: self.moment,
             limits: self.limits,
         }
+    }
+    // The present incarnation of an instance.
+    pub(crate) fn present(&self, instance: Instance) -> u32
+        ensures { result ≡ (here_of self.now).incarnations instance }
+    {
+        let index = usize::from(instance.number()) - 1;
+        self.incarnations.get(index).copied().unwrap_or(0)
+    }
+
+    // Whether the instance is one of the tenant's three replicas.
+    pub(crate) fn is_replica(&self) -> bool
+        ensures { result ≡ is_replica_here (here_of self.now) }
+    {
+        self.three.iter().any(|replica| self.instance == *replica)
+    }
+
+    // The other two replicas, in order of position.
+    pub(crate) fn others(&self, alloc: Global) -> Result<Vec<Instance>, AllocError>
+        ensures { IfOk result (λ found. found.items ≡ others (here_of self.now)) }
+    {
+        let mut others = Vec::new(alloc);
+        for instance in self.three {
+            if *instance != self.instance {
+                others.push(*instance)?;
+            }
+        }
+        Ok(others)
     }
 }

@@ -3,19 +3,28 @@
 #![tactic(auto)]
 
 mod accepting;
+mod again;
 mod answering;
+mod arriving;
+mod asking;
 mod deciding;
 mod delivery;
+mod due;
 mod expiring;
+mod handling;
 mod here;
+mod messages;
 mod operating;
+mod pieces;
 mod position;
 mod said;
 mod sending;
 mod site;
+mod taking;
 mod ticking;
 
 pub use accepting::PutItems;
 pub use here::Here;
 pub use said::Said;
 pub use site::Site;
+pub use taking::StatePiece;

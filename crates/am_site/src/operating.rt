@@ -3,6 +3,7 @@
 ghost use Rattle.std.specs.Prelude.{◌≡◌, ◌+◌, ◌++◌, IfErr, IfOk, OnOk, map};
 ghost use Rattle.am_cluster.specs.Operating.{acked, begin, operation_for, start};
 ghost use Rattle.am_site.specs.Here.{here_of};
+ghost use Rattle.am_site.specs.InOrder.{IsInOrder};
 ghost use Rattle.am_site.specs.Locals.{local_of};
 ghost use Rattle.am_site.specs.Reacting.{Does, Reacts, StopsReacting, replied, said_in};
 
@@ -35,6 +36,7 @@ impl Site {
             self.old self.new outbox.old.items outbox.new.items) }
         ensures fault { IfErr result
             (StopsReacting here.now.tenant.now (start (here_of here.now) connection request) self.old) }
+        ensures order { IsInOrder (here_of here.now) self.old → OnOk result (IsInOrder (here_of here.now) self.new) }
     {
         let operation = self.begin(alloc, here, connection, request)?;
         let body = Body::Get { operation };
@@ -52,8 +54,10 @@ impl Site {
         outbox: &mut Vec<Said>,
     ) -> Result<(), AllocError>
         requires { self.old.operations.incarnation ≡ target.incarnation }
-        ensures { OnOk result (Reacts here.now.tenant.now (acked target.number target.epoch from)
+        ensures reacts { OnOk result (Reacts here.now.tenant.now (acked target.number target.epoch from)
             self.old self.new outbox.old.items outbox.new.items) }
+        ensures order { IsInOrder (here_of here.now) self.old → OnOk result (IsInOrder (here_of here.now) self.new) }
+        ensures node { self.new.node ≡ self.old.node }
     {
         let ready = self.operations.ack(here.tenant, target, from);
         push_reply(outbox, ready)

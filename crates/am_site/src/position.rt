@@ -3,12 +3,12 @@
 ghost use Rattle.std.specs.Prelude.{◌≡◌, ◌==◌, ◌<◌, ◌≤◌, ℕ, List, IfErr, IfSome, OnOk, false, length, option_map};
 ghost use Rattle.std.specs.Prelude.{position};
 ghost use Rattle.am_cluster.specs.Plans.{position_of};
-ghost use Rattle.am_node.specs.Accepting.{StopsPositioning};
 ghost use Rattle.am_node.specs.Held.{local_of as local_in_node};
 ghost use Rattle.am_notifier.specs.Positions.{number_of};
 ghost use Rattle.am_pattern.specs.Asking.{Asked};
 ghost use Rattle.am_tenant.specs.Names.{same};
 ghost use Rattle.am_site.specs.Here.{here_of};
+ghost use Rattle.am_site.specs.InOrder.{IsAtPosition, StopsMoving};
 ghost use Rattle.am_site.specs.Locals.{local_of};
 
 use crate::here::Here;
@@ -24,8 +24,8 @@ impl Site {
     /// of them is flushed here. Where they do so already, it costs next to nothing.
     ///
     /// # Errors
-    /// `PatternNotBuilt` where there are alerts, and a pattern of the routes that are in use gives no answer; or out of
-    /// memory.
+    /// `PatternNotBuilt` where they don't, and there are alerts, and a pattern of the routes that are in use gives no
+    /// answer; or out of memory.
     pub fn take_position(
         &mut self,
         alloc: Global,
@@ -34,15 +34,13 @@ impl Site {
     ) -> Result<(), Fault>
         requires { length here.now.three.now ≤ 3 }
         ensures stays { OnOk result ((t : List ℕ) → local_of t self.new ≡ local_of t self.old) }
-        ensures position { OnOk result ((local_in_node here.now.tenant.now self.new.node).position
-            ≡ position_of (here_of here.now) (local_of here.now.tenant.now self.old)) }
+        ensures position { OnOk result (IsAtPosition (here_of here.now) self.new) }
         ensures others { OnOk result ((t : List ℕ) → same t here.now.tenant.now ≡ false →
             (local_in_node t self.new.node).position ≡ (local_in_node t self.old.node).position) }
         ensures operations { self.new.operations ≡ self.old.operations }
         ensures settling { self.new.settling ≡ self.old.settling }
         ensures asked { Asked result cache.old cache.new }
-        ensures fault { IfErr result
-            (StopsPositioning cache.new.refused (local_in_node here.now.tenant.now self.old.node)) }
+        ensures fault { IfErr result (StopsMoving cache.new.refused here.now self.old) }
     {
         let position = self.position(here);
         if self.node.is_at(here.tenant, position) {
@@ -56,7 +54,7 @@ impl Site {
         requires { length here.now.three.now ≤ 3 }
         ensures { option_map number_of result ≡ position_of (here_of here.now) (local_of here.now.tenant.now self.now) }
     {
-        if !self.settling.is_settled(here.tenant, here.has_stayed) {
+        if !self.is_settled(here) {
             return None;
         }
         match place_of(here.three, here.instance) {

@@ -32,6 +32,7 @@ impl Site {
         ensures fault { IfErr result
             (StopsReacting here.now.tenant.now (send_in epoch (here_of here.now) to body) self.old) }
         ensures node { self.new.node ≡ self.old.node }
+        ensures settling { self.new.settling ≡ self.old.settling }
     {
         let used = self.sent.used(here.tenant);
         if used >= GREATEST_COUNT {
@@ -72,6 +73,7 @@ impl Site {
         ensures fault { IfErr result
             (StopsReacting here.now.tenant.now (send_all epoch (here_of here.now) to.now body.now) self.old) }
         ensures node { self.new.node ≡ self.old.node }
+        ensures settling { self.new.settling ≡ self.old.settling }
     {
         for instance in to {
             let body = body.share()?;

@@ -1,10 +1,10 @@
 //! Ticks, in steps: what is retired goes, and then a group is flushed or an attempt tried again for a timer of notices.
 
 ghost use Rattle.std.specs.Prelude.{◌≡◌, ℕ, List, IfErr, OnOk, true};
-ghost use Rattle.am_cluster.specs.Plans.{position_of};
 ghost use Rattle.am_cluster.specs.Reactions.{each};
 ghost use Rattle.am_cluster.specs.Retiring.{retired};
 ghost use Rattle.am_node.specs.Held.{local_of as local_in_node};
+ghost use Rattle.am_node.specs.Plans.{IsPlanned};
 ghost use Rattle.am_node.specs.Retiring.{retired as retired_in_node};
 ghost use Rattle.am_node.specs.Storing.{AreStored, LeavesStore};
 ghost use Rattle.am_node.specs.Ticks.{muted_for};
@@ -12,6 +12,7 @@ ghost use Rattle.am_replica.specs.Retiring.{StopsRetiring};
 ghost use Rattle.am_replica.specs.Storing.{fault_in};
 ghost use Rattle.am_rows.specs.Rows.{stored_in};
 ghost use Rattle.am_site.specs.Here.{here_of};
+ghost use Rattle.am_site.specs.InOrder.{IsInOrder};
 ghost use Rattle.am_site.specs.Locals.{local_of};
 ghost use Rattle.am_site.specs.Notices.{notified_for, reported};
 ghost use Rattle.am_site.specs.Reacting.{Keeps, Reacts, StopsReacting};
@@ -42,6 +43,7 @@ impl Site {
         requires { R.is_open store.old ≡ true }
         ensures retired { OnOk result ((t : List ℕ) → local_of t self.new ≡ retired moment (local_of t self.old)) }
         ensures keeps { OnOk result (Keeps self.old self.new) }
+        ensures planned { OnOk result ((t : List ℕ) → IsPlanned (local_in_node t self.new.node)) }
         ensures fault { IfErr result (StopsRetiring moment (λ t. (local_of t self.old).held)) }
         ensures clean { R.is_clean store.new ≡ true → R.is_clean store.old ≡ true }
         ensures open { OnOk result (R.is_open store.new ≡ true) }
@@ -67,8 +69,7 @@ impl Site {
         muted: &Muted,
         outbox: &mut Vec<Said>,
     ) -> Result<(), Fault>
-        requires { (local_in_node here.now.tenant.now self.old.node).position
-            ≡ position_of (here_of here.now) (local_of here.now.tenant.now self.old) }
+        requires { IsInOrder (here_of here.now) self.old }
         ensures reacts { OnOk result (Reacts here.now.tenant.now
             (notified_for (here_of here.now) (muted_for here.now.tenant.now muted.now) key.now)
             self.old self.new outbox.old.items outbox.new.items) }

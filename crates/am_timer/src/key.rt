@@ -3,6 +3,7 @@ ghost use Rattle.std.specs.Cmp.{partial_equiv_from_equiv, eq_by_cmp_equiv, po};
 ghost use Rattle.std.specs.Ordering.{eq_by_cmp};
 
 use am_labels::LabelSet;
+use am_ring::Instance;
 use am_text::Text;
 use std::alloc::{AllocError, Global};
 use std::cmp::Ordering;
@@ -40,8 +41,8 @@ pub enum TimerKey {
     Group(FlushKey),
     /// The next try of the attempt with this number.
     Retry(u64),
-    /// The next message to the instance with this number, to which a state is pushed or which is asked for one.
-    Push(u8),
+    /// The next message to this instance, to which a state is pushed or which is asked for one.
+    Push(Instance),
 }
 
 impl TimerKey {
@@ -123,7 +124,9 @@ impl Ord for TimerKey {
             (TimerKey::Operation(own), TimerKey::Operation(number)) => own.cmp(number),
             (TimerKey::Group(own), TimerKey::Group(group)) => own.cmp(group),
             (TimerKey::Retry(own), TimerKey::Retry(number)) => own.cmp(number),
-            (TimerKey::Push(own), TimerKey::Push(instance)) => own.cmp(instance),
+            (TimerKey::Push(own), TimerKey::Push(instance)) => {
+                own.number().cmp(&instance.number())
+            }
             _ => self.kind().cmp(&other.kind()),
         }
     }

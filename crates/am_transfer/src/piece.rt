@@ -3,16 +3,16 @@
 ghost use Rattle.std.specs.Prelude.{◌≡◌, IfOk};
 
 use am_item::SharedItem;
+use am_wire::Items;
 use std::alloc::{AllocError, Global};
 use std::marker::Model;
-use std::rc::Rc;
 
 /// A piece of a list that is sent as a State. Its items are shared by all that hold it.
 #[derive(Drop)]
 pub struct Piece {
     place: usize,
     is_last: bool,
-    items: Rc<Vec<SharedItem>>,
+    items: Items,
 }
 
 impl Model for Piece {
@@ -20,7 +20,7 @@ impl Model for Piece {
 
     ghost Value = { Piece };
 
-    ghost view = { λ piece. record { place = piece.place; is_last = piece.is_last; items = piece.items.value.items } };
+    ghost view = { λ piece. record { place = piece.place; is_last = piece.is_last; items = piece.items } };
 }
 
 impl Piece {
@@ -36,7 +36,7 @@ impl Piece {
         Ok(Piece {
             place,
             is_last,
-            items: Rc::new(alloc, items)?,
+            items: Items::from_vec(alloc, items)?,
         })
     }
 
@@ -55,20 +55,20 @@ impl Piece {
     }
 
     /// Its items.
-    pub fn items(&self) -> &[SharedItem]
+    pub fn items(&self) -> &Items
         ensures { result.now ≡ self.now.items }
     {
-        self.items.as_slice()
+        &self.items
     }
 
-    /// The same piece once more. It takes no memory.
+    /// The same piece once more. It takes no memory; an error says that its items are held as often as can be counted.
     pub fn share(&self) -> Result<Piece, AllocError>
         ensures { IfOk result (λ piece. piece ≡ self.now) }
     {
         Ok(Piece {
             place: self.place,
             is_last: self.is_last,
-            items: self.items.clone()?,
+            items: self.items.share()?,
         })
     }
 }

@@ -21,6 +21,7 @@ use crate::refresh::{cancel, cancel_all};
 use crate::sent_list::SentList;
 use crate::spans::{Span, Spans};
 use am_item::SharedItem;
+use am_ring::Instance;
 use am_tenant::TenantName;
 use am_text::{Listed, Moment};
 use am_timer::TimerQueue;
@@ -46,9 +47,9 @@ pub struct Progress {
     has_settled: bool,
     came: BTreeMap<Peer, Spans>,
     lists: BTreeMap<Peer, SentList>,
-    pushes: BTreeMap<u8, Push>,
+    pushes: BTreeMap<Instance, Push>,
     asked_at: Option<Moment>,
-    asked: Vec<u8>,
+    asked: Vec<Instance>,
 }
 
 impl Model for Progress {
@@ -114,7 +115,7 @@ impl Progress {
     }
 
     /// To which incarnation of an instance the State now goes, whose present one is this.
-    pub fn goes_to(&self, to: u8, present: u32) -> u32
+    pub fn goes_to(&self, to: Instance, present: u32) -> u32
         ensures { result ≡ goes_to to present self.now.settling }
     {
         match self.pushes.get(&to) {
@@ -125,14 +126,14 @@ impl Progress {
 
     // Whether a State is pushed to an instance.
     #[tactic(auto, using(crate::proofs::Maps::number_found))]
-    fn has_push(&self, to: u8) -> bool
+    fn has_push(&self, to: Instance) -> bool
         ensures { result ≡ has_push to self.now.settling }
     {
         self.pushes.contains_key(&to)
     }
 
     /// No State is pushed to the instance any more.
-    pub fn end_push(&mut self, to: u8)
+    pub fn end_push(&mut self, to: Instance)
         ensures { self.new ≡ on (without_push to) self.old }
     {
         self.pushes.remove(&to);
@@ -150,12 +151,13 @@ impl Progress {
         ensures pieces { IfOk result (λ pieces. pieces.items
             ≡ pieces_to_send false (list_for receiver held.now self.old.settling)) }
     {
-        let pieces = send(alloc, &mut self.lists, receiver, false, held)?;
+        let to = receiver.instance;
         let push = Push {
             incarnation: receiver.incarnation,
             last: moment,
         };
-        self.pushes.insert(receiver.instance, push)?;
+        let pieces = send(alloc, receiver, &mut self.lists, false, held)?;
+        self.pushes.insert(to, push)?;
         Ok(pieces)
     }
 
@@ -170,15 +172,16 @@ impl Progress {
         ensures pieces { IfOk result (λ pieces. pieces.items
             ≡ pieces_to_send true (list_for asker held.now self.old.settling)) }
     {
-        send(alloc, &mut self.lists, asker, true, held)
+        send(alloc, asker, &mut self.lists, true, held)
     }
 
     /// A Got named a place of the list that was sent to a receiver; the end ends the push. It takes no memory.
     pub fn name(&mut self, receiver: Peer, place: usize)
         ensures { self.new ≡ on (named_in receiver place) self.old }
     {
+        let to = receiver.instance;
         if name_in(&mut self.lists, receiver, place) {
-            self.end_push(receiver.instance);
+            self.end_push(to);
         }
     }
 
@@ -203,7 +206,7 @@ impl Progress {
         sender: Peer,
         place: u32,
         span: Span,
-        others: &[u8],
+        others: &[Instance],
     ) -> Result<u64, AllocError>
         ensures settling { OnOk result (self.new ≡ on (taken sender place span others.now) self.old) }
         ensures place { IfOk result (λ behind. behind ≡ place_behind sender place span self.old.settling) }
@@ -232,14 +235,14 @@ impl Progress {
     }
 
     // Whether the States of all these instances came.
-    fn has_all(&self, others: &[u8]) -> bool
+    fn has_all(&self, others: &[Instance]) -> bool
         ensures { result ≡ list_all (is_merged self.now.settling) others.now }
     {
         others.iter().all(|other| self.is_merged(*other))
     }
 
     /// Whether the complete State of an instance was merged, in whichever incarnation it sent that.
-    pub fn is_merged(&self, instance: u8) -> bool
+    pub fn is_merged(&self, instance: Instance) -> bool
         ensures { result ≡ is_merged self.now.settling instance }
     {
         self.came.iter().any(|(sender, spans)| sender.instance == instance
@@ -247,7 +250,7 @@ impl Progress {
     }
 
     /// The instances of these whose State is lacking.
-    pub fn lacking(&self, alloc: Global, others: &[u8]) -> Result<Vec<u8>, AllocError>
+    pub fn lacking(&self, alloc: Global, others: &[Instance]) -> Result<Vec<Instance>, AllocError>
         ensures { IfOk result (λ left. left.items ≡ lacking others.now self.now.settling) }
     {
         let mut left = Vec::new(alloc);
@@ -264,8 +267,8 @@ impl Progress {
         &mut self,
         alloc: Global,
         moment: Moment,
-        others: &[u8],
-    ) -> Result<Vec<u8>, AllocError>
+        others: &[Instance],
+    ) -> Result<Vec<Instance>, AllocError>
         ensures receivers { IfOk result (λ receivers. receivers.items ≡ to_ask others.now self.old.settling) }
         ensures asked { OnOk result (self.new ≡ first_asked moment others.now self.old) }
     {
@@ -285,7 +288,7 @@ impl Progress {
     pub fn tick(
         &mut self,
         alloc: Global,
-        to: u8,
+        to: Instance,
         moment: Moment,
         held: &[SharedItem],
     ) -> Result<Again, AllocError>
@@ -309,7 +312,7 @@ impl Progress {
 
     // To which incarnation of an instance a State is pushed.
     #[tactic(auto, using(crate::proofs::Maps::number_found))]
-    fn pushed_to(&self, to: u8) -> Option<u32>
+    fn pushed_to(&self, to: Instance) -> Option<u32>
         ensures { result ≡ option_map (λ (push : Pushed). push.incarnation) (at_number to self.now.settling.pushes) }
     {
         let push = self.pushes.get(&to)?;
@@ -317,14 +320,14 @@ impl Progress {
     }
 
     // Whether an Ask is sent again to an instance.
-    fn is_asking(&self, to: u8) -> bool
+    fn is_asking(&self, to: Instance) -> bool
         ensures { result ≡ is_asking to self.now }
     {
         self.asked_at.is_some() && is_among(to, &self.asked) && !self.is_merged(to)
     }
 
     /// Whom it asked when it last asked.
-    pub fn asked(&self, alloc: Global) -> Result<Vec<u8>, AllocError>
+    pub fn asked(&self, alloc: Global) -> Result<Vec<Instance>, AllocError>
         ensures { IfOk result (λ asked. asked.items ≡ self.now.asked) }
     {
         let asked = Vec::from_slice(alloc, &self.asked)?;
@@ -343,7 +346,7 @@ impl Progress {
 
     /// When a State, or an Ask, is sent again to an instance, if it is.
     #[tactic(auto, using(crate::proofs::Maps::number_found), unfolding(crate::specs::Progress::due_of))]
-    pub fn due_of(&self, instance: u8) -> Option<Moment>
+    pub fn due_of(&self, instance: Instance) -> Option<Moment>
         ensures { result ≡ due_of instance self.now }
     {
         match self.pushes.get(&instance) {
@@ -353,7 +356,7 @@ impl Progress {
     }
 
     // When an Ask is sent again to an instance, as long as its State is lacking.
-    fn ask_due(&self, instance: u8) -> Option<Moment>
+    fn ask_due(&self, instance: Instance) -> Option<Moment>
         ensures { result ≡ ask_due self.now.settling.asked_at (is_among instance self.now.asked)
             (is_merged self.now.settling instance) }
     {
@@ -370,9 +373,9 @@ impl Progress {
     pub fn to_push(
         &self,
         alloc: Global,
-        others: &[u8],
-        before: &[u8],
-    ) -> Result<Vec<u8>, AllocError>
+        others: &[Instance],
+        before: &[Instance],
+    ) -> Result<Vec<Instance>, AllocError>
         ensures { IfOk result (λ receivers. receivers.items ≡ to_push others.now before.now self.now.settling) }
     {
         let mut receivers = Vec::new(alloc);
@@ -386,7 +389,7 @@ impl Progress {
 }
 
 // Whether the instance is one of these.
-fn is_among(instance: u8, others: &[u8]) -> bool
+fn is_among(instance: Instance, others: &[Instance]) -> bool
     ensures { result ≡ is_among instance others.now }
 {
     others.iter().any(|other| instance == *other)
@@ -395,8 +398,8 @@ fn is_among(instance: u8, others: &[u8]) -> bool
 // What goes out to a receiver of the list that was sent to it, or else of what is held now.
 fn send(
     alloc: Global,
-    lists: &mut BTreeMap<Peer, SentList>,
     receiver: Peer,
+    lists: &mut BTreeMap<Peer, SentList>,
     is_asked: bool,
     held: &[SharedItem],
 ) -> Result<Vec<Piece>, AllocError>

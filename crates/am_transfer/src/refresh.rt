@@ -4,6 +4,7 @@ ghost use Rattle.std.specs.Prelude.{◌≡◌, ◌∷◌, [], false, OnOk, if◌
 ghost use Rattle.am_transfer.specs.Timers.{AreCancelled, AreRefreshed, name_of};
 
 use crate::tenants::Tenants;
+use am_ring::Instance;
 use am_tenant::TenantName;
 use am_timer::{Timer, TimerKey, TimerName, TimerQueue};
 use std::alloc::{AllocError, Global};
@@ -14,7 +15,7 @@ pub fn refresh_all(
     timers: &mut TimerQueue,
     tenants: &Tenants,
     tenant: &TenantName,
-    instances: &[u8],
+    instances: &[Instance],
 ) -> Result<(), AllocError>
     ensures { OnOk result (AreRefreshed tenant.now instances.now tenants.now timers.old.timers timers.new.timers) }
 {
@@ -30,7 +31,7 @@ pub fn refresh(
     timers: &mut TimerQueue,
     tenants: &Tenants,
     tenant: &TenantName,
-    instance: u8,
+    instance: Instance,
 ) -> Result<(), AllocError>
     ensures { OnOk result (AreRefreshed tenant.now (instance ∷ []) tenants.now timers.old.timers timers.new.timers) }
 {
@@ -45,7 +46,7 @@ pub fn refresh(
 }
 
 /// Cancels the timers of what is sent again to these instances for a tenant. It takes no memory.
-pub fn cancel_all(timers: &mut TimerQueue, tenant: &TenantName, instances: &[u8])
+pub fn cancel_all(timers: &mut TimerQueue, tenant: &TenantName, instances: &[Instance])
     ensures { AreCancelled tenant.now instances.now timers.old.timers timers.new.timers }
 {
     for instance in instances {
@@ -54,14 +55,14 @@ pub fn cancel_all(timers: &mut TimerQueue, tenant: &TenantName, instances: &[u8]
 }
 
 /// Cancels the timer of what is sent again to an instance for a tenant. It takes no memory.
-pub fn cancel(timers: &mut TimerQueue, tenant: &TenantName, instance: u8)
+pub fn cancel(timers: &mut TimerQueue, tenant: &TenantName, instance: Instance)
     ensures { AreCancelled tenant.now (instance ∷ []) timers.old.timers timers.new.timers }
 {
     timers.cancel(&name_of(tenant, instance));
 }
 
 // What names the timer of what is sent again to an instance for a tenant.
-fn name_of(tenant: &TenantName, instance: u8) -> TimerName
+fn name_of(tenant: &TenantName, instance: Instance) -> TimerName
     ensures { result ≡ name_of tenant.now instance }
 {
     TimerName {

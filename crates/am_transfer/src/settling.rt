@@ -10,8 +10,8 @@ ghost use Rattle.am_timer.specs.Timer.{Timer as Timed, timer_cmp};
 ghost use Rattle.am_transfer.specs.Pieces.{pieces_to_send};
 ghost use Rattle.am_transfer.specs.Progress.{after_got, again_to, first_asked, is_got, nothing_yet, on, sent_again};
 ghost use Rattle.am_transfer.specs.Progress.{to_ask};
-ghost use Rattle.am_transfer.specs.Settling.{answered, in_new_epoch, list_for, now_settled, place_behind, pushed};
-ghost use Rattle.am_transfer.specs.Settling.{taken, to_push, without_push};
+ghost use Rattle.am_transfer.specs.Settling.{answered, goes_to, in_new_epoch, list_for, now_settled, place_behind};
+ghost use Rattle.am_transfer.specs.Settling.{pushed, taken, to_push, without_push};
 ghost use Rattle.am_transfer.specs.Tenants.{Becomes, progress_of, settling_of};
 ghost use Rattle.am_transfer.specs.Timers.{AreTimed, is_told};
 
@@ -22,6 +22,7 @@ use crate::refresh::{refresh, refresh_all};
 use crate::spans::Span;
 use crate::tenants::Tenants;
 use am_item::SharedItem;
+use am_ring::Instance;
 use am_share::{ShareRefusal, Shared};
 use am_tenant::TenantName;
 use am_text::{Failure, Moment};
@@ -75,6 +76,14 @@ impl Settling {
         self.tenants.is_settled(tenant, has_stayed)
     }
 
+    /// To which incarnation of an instance a tenant's State now goes, whose present one is this: that of the push that
+    /// runs, or else the present one.
+    pub fn goes_to(&self, tenant: &TenantName, to: Instance, present: u32) -> u32
+        ensures { result ≡ goes_to to present (settling_of tenant.now self.now.progress) }
+    {
+        self.tenants.goes_to(tenant, to, present)
+    }
+
     /// A ring is learned of which the instance is a tenant's replica: what came of the others' States, what was sent
     /// and asked is forgotten. Answers to whom it begins to push the tenant's State, where it is settled and holds an
     /// item: to those of the others that weren't among the three before, and to those to whom a push ran that no Got
@@ -83,9 +92,9 @@ impl Settling {
         &mut self,
         alloc: Global,
         tenant: &TenantName,
-        others: &[u8],
-        before: &[u8],
-    ) -> Result<Vec<u8>, AllocError>
+        others: &[Instance],
+        before: &[Instance],
+    ) -> Result<Vec<Instance>, AllocError>
         ensures receivers { IfOk result (λ receivers. receivers.items
             ≡ to_push others.now before.now (settling_of tenant.now self.old.progress)) }
         ensures each { OnOk result (Becomes tenant.now (on in_new_epoch) self.old.progress self.new.progress) }
@@ -115,19 +124,19 @@ impl Settling {
         ensures others { LeavesOthers tenant.now self.old.progress self.new.progress }
         ensures timed { AreTimed self.old → OnOk result (AreTimed self.new) }
     {
+        let to = receiver.instance;
         let pieces = self.tenants.push(alloc, tenant, receiver, moment, held)?;
-        refresh(
-            alloc,
-            &mut self.timers,
-            &self.tenants,
-            tenant,
-            receiver.instance,
-        )?;
+        refresh(alloc, &mut self.timers, &self.tenants, tenant, to)?;
         Ok(pieces)
     }
 
     /// No State is pushed to an instance any more, as it was restarted.
-    pub fn end_push(&mut self, alloc: Global, tenant: &TenantName, to: u8) -> Result<(), AllocError>
+    pub fn end_push(
+        &mut self,
+        alloc: Global,
+        tenant: &TenantName,
+        to: Instance,
+    ) -> Result<(), AllocError>
         ensures each { OnOk result (Becomes tenant.now (on (without_push to)) self.old.progress self.new.progress) }
         ensures others { LeavesOthers tenant.now self.old.progress self.new.progress }
         ensures timed { AreTimed self.old → OnOk result (AreTimed self.new) }
@@ -175,14 +184,9 @@ impl Settling {
         ensures others { LeavesOthers tenant.now self.old.progress self.new.progress }
         ensures timed { AreTimed self.old → OnOk result (AreTimed self.new) }
     {
+        let receiver = from.instance;
         let counts = self.tenants.got(tenant, from, present, place);
-        refresh(
-            alloc,
-            &mut self.timers,
-            &self.tenants,
-            tenant,
-            from.instance,
-        )?;
+        refresh(alloc, &mut self.timers, &self.tenants, tenant, receiver)?;
         Ok(counts)
     }
 
@@ -195,7 +199,7 @@ impl Settling {
         sender: Peer,
         place: u32,
         span: Span,
-        others: &[u8],
+        others: &[Instance],
     ) -> Result<u64, AllocError>
         ensures place { IfOk result (λ behind. behind
             ≡ place_behind sender place span (settling_of tenant.now self.old.progress)) }
@@ -231,8 +235,8 @@ impl Settling {
         alloc: Global,
         tenant: &TenantName,
         moment: Moment,
-        others: &[u8],
-    ) -> Result<Vec<u8>, AllocError>
+        others: &[Instance],
+    ) -> Result<Vec<Instance>, AllocError>
         ensures receivers { IfOk result (λ receivers. receivers.items
             ≡ to_ask others.now (settling_of tenant.now self.old.progress)) }
         ensures each { OnOk result (Becomes tenant.now
@@ -264,7 +268,7 @@ impl Settling {
         &mut self,
         alloc: Global,
         tenant: &TenantName,
-        to: u8,
+        to: Instance,
         moment: Moment,
         held: &[SharedItem],
     ) -> Result<Again, AllocError>

@@ -4,7 +4,7 @@ ghost use Rattle.std.specs.Prelude.{◌≡◌};
 ghost use Rattle.std.specs.List.{list_all};
 ghost use Rattle.am_transfer.specs.Stayed.{has_stayed, serves};
 
-use am_ring::Ring;
+use am_ring::{Instance, Ring};
 use am_tenant::TenantName;
 
 /// Whether an instance has been a tenant's replica under each of the rings that it has known, from that of the opening
@@ -13,7 +13,7 @@ use am_tenant::TenantName;
 pub fn has_stayed(
     tenant: &TenantName,
     rings: &[Ring],
-    instance: u8,
+    instance: Instance,
     incarnation: u32,
     first: u32,
 ) -> bool
@@ -23,17 +23,17 @@ pub fn has_stayed(
 }
 
 // Whether an instance is one of a tenant's replicas by each of these rings.
-fn serves_always(tenant: &TenantName, rings: &[Ring], instance: u8) -> bool
+fn serves_always(tenant: &TenantName, rings: &[Ring], instance: Instance) -> bool
     ensures { result ≡ list_all (serves tenant.now instance) rings.now }
 {
     rings.iter().all(|ring| serves(tenant, instance, ring))
 }
 
 // Whether an instance is one of a tenant's replicas by a ring.
-fn serves(tenant: &TenantName, instance: u8, ring: &Ring) -> bool
+fn serves(tenant: &TenantName, instance: Instance, ring: &Ring) -> bool
     ensures { result ≡ serves tenant.now instance ring.now }
 {
     ring.replicas(tenant)
         .iter()
-        .any(|replica| instance == replica.number())
+        .any(|replica| instance == *replica)
 }

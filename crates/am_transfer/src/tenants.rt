@@ -6,8 +6,8 @@ ghost use Rattle.am_tenant.specs.Names.{same};
 ghost use Rattle.am_transfer.specs.Pieces.{pieces_to_send};
 ghost use Rattle.am_transfer.specs.Progress.{after_got, again_to, due_of, first_asked, is_got, nothing_yet, on};
 ghost use Rattle.am_transfer.specs.Progress.{sent_again, to_ask};
-ghost use Rattle.am_transfer.specs.Settling.{answered, in_new_epoch, list_for, now_settled, place_behind, pushed};
-ghost use Rattle.am_transfer.specs.Settling.{taken, to_push, without_push};
+ghost use Rattle.am_transfer.specs.Settling.{answered, goes_to, in_new_epoch, list_for, now_settled, place_behind};
+ghost use Rattle.am_transfer.specs.Settling.{pushed, taken, to_push, without_push};
 ghost use Rattle.am_transfer.specs.Tenants.{Becomes, progress_of, settling_of};
 ghost use Rattle.am_transfer.specs.Timers.{AreCancelled, told_to};
 
@@ -17,6 +17,7 @@ use crate::piece::Piece;
 use crate::progress::Progress;
 use crate::spans::Span;
 use am_item::SharedItem;
+use am_ring::Instance;
 use am_tenant::TenantName;
 use am_text::Moment;
 use am_timer::TimerQueue;
@@ -75,6 +76,16 @@ impl Tenants {
             }
     }
 
+    /// To which incarnation of an instance a tenant's State now goes, whose present one is this.
+    pub fn goes_to(&self, tenant: &TenantName, to: Instance, present: u32) -> u32
+        ensures { result ≡ goes_to to present (settling_of tenant.now self.now) }
+    {
+        match self.by_name.get(tenant) {
+            Some(progress) => progress.goes_to(to, present),
+            None => present,
+        }
+    }
+
     /// Drops all that is kept of a tenant. It takes no memory.
     pub fn drop_entry(&mut self, tenant: &TenantName)
         ensures each { Becomes tenant.now (λ _. nothing_yet) self.old self.new }
@@ -84,7 +95,7 @@ impl Tenants {
     }
 
     /// When a tenant's State, or an Ask for one, is sent again to an instance, if it is.
-    pub fn due_of(&self, tenant: &TenantName, instance: u8) -> Option<Moment>
+    pub fn due_of(&self, tenant: &TenantName, instance: Instance) -> Option<Moment>
         ensures { result ≡ due_of instance (progress_of tenant.now self.now) }
     {
         self.by_name.get(tenant)?.due_of(instance)
@@ -102,7 +113,7 @@ impl Tenants {
     }
 
     /// Whom the instance asked for a tenant's State when it last asked.
-    pub fn asked(&self, alloc: Global, tenant: &TenantName) -> Result<Vec<u8>, AllocError>
+    pub fn asked(&self, alloc: Global, tenant: &TenantName) -> Result<Vec<Instance>, AllocError>
         ensures { IfOk result (λ asked. asked.items ≡ (progress_of tenant.now self.now).asked) }
     {
         match self.by_name.get(tenant) {
@@ -120,8 +131,8 @@ impl Tenants {
         alloc: Global,
         tenant: &TenantName,
         moment: Moment,
-        others: &[u8],
-    ) -> Result<Vec<u8>, AllocError>
+        others: &[Instance],
+    ) -> Result<Vec<Instance>, AllocError>
         ensures receivers { IfOk result (λ receivers. receivers.items
             ≡ to_ask others.now (settling_of tenant.now self.old)) }
         ensures each { OnOk result (Becomes tenant.now (first_asked moment others.now) self.old self.new) }
@@ -138,7 +149,7 @@ impl Tenants {
         &mut self,
         alloc: Global,
         tenant: &TenantName,
-        to: u8,
+        to: Instance,
         moment: Moment,
         held: &[SharedItem],
     ) -> Result<Again, AllocError>
@@ -171,9 +182,9 @@ impl Tenants {
         &mut self,
         alloc: Global,
         tenant: &TenantName,
-        others: &[u8],
-        before: &[u8],
-    ) -> Result<Vec<u8>, AllocError>
+        others: &[Instance],
+        before: &[Instance],
+    ) -> Result<Vec<Instance>, AllocError>
         ensures receivers { IfOk result (λ receivers. receivers.items
             ≡ to_push others.now before.now (settling_of tenant.now self.old)) }
         ensures each { OnOk result (Becomes tenant.now (on in_new_epoch) self.old self.new) }
@@ -189,7 +200,7 @@ impl Tenants {
     }
 
     /// No State of a tenant is pushed to the instance any more. It takes no memory.
-    pub fn end_push(&mut self, tenant: &TenantName, to: u8)
+    pub fn end_push(&mut self, tenant: &TenantName, to: Instance)
         ensures each { Becomes tenant.now (on (without_push to)) self.old self.new }
         ensures others { LeavesOthers tenant.now self.old self.new }
     {
@@ -264,7 +275,7 @@ impl Tenants {
         sender: Peer,
         place: u32,
         span: Span,
-        others: &[u8],
+        others: &[Instance],
     ) -> Result<u64, AllocError>
         ensures place { IfOk result (λ behind. behind
             ≡ place_behind sender place span (settling_of tenant.now self.old)) }

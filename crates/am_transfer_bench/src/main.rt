@@ -7,6 +7,7 @@
 #![tactic(auto)]
 
 use am_item::{Item, SharedItem, Stamp, Thing};
+use am_ring::Instance;
 use am_tenant::TenantName;
 use am_text::{Moment, Text};
 use am_transfer::{Peer, Settling, Span};
@@ -14,22 +15,18 @@ use anyhow::{Context, Result, bail};
 use std::alloc::Global;
 use std::env;
 
-/// The instance whose States are sent.
-const SENDER: Peer = Peer {
-    instance: 2,
-    incarnation: 1,
-};
+/// The instance whose States are sent, the one that is new among a tenant's three, and the third.
+const SENDER: u8 = 2;
 
-/// The instance that is new among a tenant's three.
-const RECEIVER: Peer = Peer {
-    instance: 4,
-    incarnation: 1,
-};
+const RECEIVER: u8 = 4;
 
-/// The other two of the sender's three once the ring is learned, and the three before.
-const OTHERS: [u8; 2] = [1, 4];
+const THIRD: u8 = 1;
 
-const BEFORE: [u8; 3] = [1, 2, 3];
+/// The one that was among the three before.
+const LEFT: u8 = 3;
+
+/// The incarnation of each.
+const INCARNATION: u32 = 1;
 
 /// What is known of a configuration's text, so that an item has some 200 bytes.
 const TEXT_LENGTH: usize = 170;
@@ -69,13 +66,24 @@ fn moment(milliseconds: u64) -> Result<Moment> {
     Moment::from_milliseconds(milliseconds).context("no moment")
 }
 
+fn instance(number: u8) -> Result<Instance> {
+    Instance::new(number).context("no instance")
+}
+
+fn peer(number: u8) -> Result<Peer> {
+    Ok(Peer {
+        instance: instance(number)?,
+        incarnation: INCARNATION,
+    })
+}
+
 /// An item of some 200 bytes.
 fn item(alloc: Global, count: u32) -> Result<SharedItem> {
     let text = String::from_utf8(vec![in alloc; b'x'; TEXT_LENGTH]?)?;
     let stamp = Stamp {
         moment: moment(0)?,
-        instance: SENDER.instance,
-        incarnation: SENDER.incarnation,
+        instance: SENDER,
+        incarnation: INCARNATION,
         count: u64::from(count),
     };
     let thing = Thing::Configuration(Some(Text::from_string(text)));
@@ -109,12 +117,14 @@ fn holdings(alloc: Global, tenants: u32, count: u32) -> Result<Vec<Holding>> {
 /// A ring is learned under which another instance is a tenant's replica, and its State begins to be pushed there.
 fn learn(alloc: Global, settling: &mut Settling, holding: &Holding) -> Result<usize> {
     let tenant = &holding.tenant;
-    let receivers = settling.changed(alloc, tenant, &OTHERS, &BEFORE)?;
+    let others = [instance(THIRD)?, instance(RECEIVER)?];
+    let before = [instance(THIRD)?, instance(SENDER)?, instance(LEFT)?];
+    let receivers = settling.changed(alloc, tenant, &others, &before)?;
     let mut pieces = 0;
     for instance in receivers {
         let receiver = Peer {
             instance,
-            incarnation: RECEIVER.incarnation,
+            incarnation: INCARNATION,
         };
         let pushed = settling.push(alloc, tenant, receiver, moment(0)?, &holding.held)?;
         pieces = pushed.len();
@@ -138,16 +148,18 @@ fn change(alloc: Global, tenants: u32, count: u32) -> Result<usize> {
 fn hand_over(alloc: Global, count: u32) -> Result<usize> {
     let Holding { tenant, held } = holding_of(alloc, 0, count)?;
     let (mut sender, mut receiver) = (Settling::new(alloc), Settling::new(alloc));
+    let (from, to) = (peer(SENDER)?, peer(RECEIVER)?);
+    let others = [instance(THIRD)?, from.instance];
     let mut behind = 0;
-    for piece in sender.push(alloc, &tenant, RECEIVER, moment(0)?, &held)? {
+    for piece in sender.push(alloc, &tenant, to, moment(0)?, &held)? {
         let place = u32::try_from(piece.place())?;
         let span = Span {
-            count: u32::try_from(piece.items().len())?,
+            count: u32::try_from(piece.items().list(alloc)?.len())?,
             is_last: piece.is_last(),
         };
-        let told = receiver.state(alloc, &tenant, SENDER, place, span, &OTHERS)?;
+        let told = receiver.state(alloc, &tenant, from, place, span, &others)?;
         behind = usize::try_from(told)?;
-        sender.got(alloc, &tenant, RECEIVER, RECEIVER.incarnation, behind)?;
+        sender.got(alloc, &tenant, to, INCARNATION, behind)?;
     }
     Ok(behind)
 }

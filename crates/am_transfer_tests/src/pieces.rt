@@ -2,6 +2,7 @@
 
 use am_expect::equal;
 use am_item::{Item, SharedItem, Stamp, Thing};
+use am_ring::Instance;
 use am_tenant::TenantName;
 use am_text::{Moment, Text};
 use am_transfer::{Peer, Piece, Settling};
@@ -37,14 +38,17 @@ pub fn list_of(alloc: Global, lengths: &[usize]) -> Result<Vec<SharedItem>, Fail
     Ok(list)
 }
 
-fn told_at(pieces: &[Piece], index: usize) -> Option<Told> {
-    let piece = pieces.get(index)?;
-    Some((piece.place(), piece.items().len(), piece.is_last()))
+fn told_at(alloc: Global, pieces: &[Piece], index: usize) -> Result<Option<Told>, Fail> {
+    let Some(piece) = pieces.get(index) else {
+        return Ok(None);
+    };
+    let items = piece.items().list(alloc)?;
+    Ok(Some((piece.place(), items.len(), piece.is_last())))
 }
 
 /// The first two pieces, as they are told.
-pub fn told(pieces: &[Piece]) -> [Option<Told>; 2] {
-    [told_at(pieces, 0), told_at(pieces, 1)]
+pub fn told(alloc: Global, pieces: &[Piece]) -> Result<[Option<Told>; 2], Fail> {
+    Ok([told_at(alloc, pieces, 0)?, told_at(alloc, pieces, 1)?])
 }
 
 // Lists by the lengths of their items' texts, and the first two pieces of each.
@@ -82,13 +86,13 @@ fn cut(alloc: Global, lengths: &[usize]) -> Result<[Option<Told>; 2], Fail> {
     let tenant = TenantName::read(b"a").ok().ok_or("no tenant")?;
     let moment = Moment::from_milliseconds(0).ok_or("no moment")?;
     let receiver = Peer {
-        instance: 4,
+        instance: Instance::new(4).ok_or("no instance")?,
         incarnation: 1,
     };
     let held = list_of(alloc, lengths)?;
     let mut settling = Settling::new(alloc);
     let pieces = settling.push(alloc, &tenant, receiver, moment, &held)?;
-    Ok(told(&pieces))
+    told(alloc, &pieces)
 }
 
 #[test]

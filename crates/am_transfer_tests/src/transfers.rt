@@ -3,21 +3,12 @@
 use crate::pieces::{Told, list_of, told};
 use am_expect::equal;
 use am_item::SharedItem;
+use am_ring::Instance;
 use am_tenant::TenantName;
 use am_text::Moment;
 use am_transfer::{Again, Peer, Piece, Settling, Span};
 use std::alloc::Global;
 use std::test::Fail;
-
-const SENDER: Peer = Peer {
-    instance: 2,
-    incarnation: 1,
-};
-
-const RECEIVER: Peer = Peer {
-    instance: 4,
-    incarnation: 2,
-};
 
 // Which of the two pieces is lost, the place that the last Got tells, and what is sent again 10 seconds after the push.
 const LOSSES: &[(&str, usize, u64, [Option<Told>; 2])] = &[
@@ -31,11 +22,21 @@ const LOSSES: &[(&str, usize, u64, [Option<Told>; 2])] = &[
     ),
 ];
 
+// A sender and a receiver of a tenant's State, and what they keep.
 #[derive(Drop)]
 struct Pair {
     tenant: TenantName,
+    from: Peer,
+    to: Peer,
+    // The receiver's others.
+    others: [Instance; 2],
     sender: Settling,
     receiver: Settling,
+}
+
+fn instance(number: u8) -> Result<Instance, Fail> {
+    let instance = Instance::new(number).ok_or("no instance")?;
+    Ok(instance)
 }
 
 fn moment(milliseconds: u64) -> Result<Moment, Fail> {
@@ -47,15 +48,15 @@ fn moment(milliseconds: u64) -> Result<Moment, Fail> {
 fn deliver(alloc: Global, pair: &mut Pair, piece: &Piece) -> Result<u64, Fail> {
     let place = u32::try_from(piece.place())?;
     let span = Span {
-        count: u32::try_from(piece.items().len())?,
+        count: u32::try_from(piece.items().list(alloc)?.len())?,
         is_last: piece.is_last(),
     };
     let behind = pair
         .receiver
-        .state(alloc, &pair.tenant, SENDER, place, span, &[2, 1])?;
+        .state(alloc, &pair.tenant, pair.from, place, span, &pair.others)?;
     let named = usize::try_from(behind)?;
     pair.sender
-        .got(alloc, &pair.tenant, RECEIVER, RECEIVER.incarnation, named)?;
+        .got(alloc, &pair.tenant, pair.to, pair.to.incarnation, named)?;
     Ok(behind)
 }
 
@@ -70,8 +71,11 @@ fn sent_again(
     if due.is_empty() {
         return Ok([None, None]);
     }
-    match pair.sender.tick(alloc, &pair.tenant, 4, now, held)? {
-        Again::State(2, pieces) => Ok(told(pieces.as_slice())),
+    match pair
+        .sender
+        .tick(alloc, &pair.tenant, pair.to.instance, now, held)?
+    {
+        Again::State(2, pieces) => told(alloc, pieces.as_slice()),
         _ => Err(Fail::new("something else is sent again")),
     }
 }
@@ -80,7 +84,7 @@ fn exchange(alloc: Global, pair: &mut Pair, lost: usize) -> Result<(u64, [Option
     let held = list_of(alloc, &[0; 65])?;
     let pieces = pair
         .sender
-        .push(alloc, &pair.tenant, RECEIVER, moment(0)?, &held)?;
+        .push(alloc, &pair.tenant, pair.to, moment(0)?, &held)?;
     let mut behind = 0;
     for (index, piece) in pieces.iter().enumerate() {
         if index != lost {
@@ -95,8 +99,19 @@ fn exchange(alloc: Global, pair: &mut Pair, lost: usize) -> Result<(u64, [Option
 
 fn new_pair(alloc: Global) -> Result<Pair, Fail> {
     let tenant = TenantName::read(b"a").ok().ok_or("no tenant")?;
+    let from = Peer {
+        instance: instance(2)?,
+        incarnation: 1,
+    };
+    let to = Peer {
+        instance: instance(4)?,
+        incarnation: 2,
+    };
     Ok(Pair {
         tenant,
+        from,
+        to,
+        others: [from.instance, instance(1)?],
         sender: Settling::new(alloc),
         receiver: Settling::new(alloc),
     })
@@ -122,9 +137,9 @@ const SETTLED: &[(&str, &[u8], bool)] = &[
 
 fn is_settled_by(alloc: Global, senders: &[u8]) -> Result<bool, Fail> {
     let mut pair = new_pair(alloc)?;
-    for instance in senders {
+    for number in senders {
         let sender = Peer {
-            instance: *instance,
+            instance: instance(*number)?,
             incarnation: 1,
         };
         let span = Span {
@@ -132,7 +147,7 @@ fn is_settled_by(alloc: Global, senders: &[u8]) -> Result<bool, Fail> {
             is_last: true,
         };
         pair.receiver
-            .state(alloc, &pair.tenant, sender, 0, span, &[2, 1])?;
+            .state(alloc, &pair.tenant, sender, 0, span, &pair.others)?;
     }
     Ok(pair.receiver.is_settled(&pair.tenant, false))
 }

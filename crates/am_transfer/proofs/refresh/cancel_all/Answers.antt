@@ -1,4 +1,4 @@
-use Rattle.std.proofs.Common.{false, refl, get_or}
+use Rattle.std.proofs.Common.{false}
 use Rattle.am_timer.specs.Tied.{has_timer}
 use Rattle.am_transfer.proofs.Timed.{next_for}
 use Rattle.am_transfer.proofs.refresh.cancel_all.Goals as goal
@@ -6,5 +6,5 @@ use Rattle.am_transfer.proofs.refresh.cancel_all.Goals as goal
 pub loop-instance-preserved : goal.loop-instance-preserved
 loop-instance-preserved c x =
     let i = c.loop-instance.instance-index in
-    next_for c.args.tenant.now c.args.instances.now i (get_or c.args.instances.now i 0) 0 x false (has_timer c.args.timers.now.timers x)
-    (has_timer c.loop-instance.timers.timers x) (has_timer c.cancel.new.timers.timers x) c.loop-instance-test.true refl (c.loop-instance.invariant x) (c.cancel.ensures x)
+    next_for c.args.tenant.now c.args.instances.now i c.instance-item.result c.instance-item.result x false (has_timer c.args.timers.now.timers x)
+    (has_timer c.loop-instance.timers.timers x) (has_timer c.cancel.new.timers.timers x) c.loop-instance-test.true c.instance-item.is (c.loop-instance.invariant x) (c.cancel.ensures x)

@@ -11,11 +11,13 @@ use Rattle.am_transfer.specs.Tenants.{settling_of}
 use Rattle.am_site.specs.Locals.{from_rooms, local_of}
 use Rattle.am_site.specs.Reacting.{replied, said_in}
 use Rattle.am_site.proofs.Acks.{acked_fits, acked_local, acked_said}
+use Rattle.am_site.specs.Here.{here_of}
+use Rattle.am_site.proofs.Quiet.{acked_quiet, quiet_in_order}
 use Rattle.am_site.proofs.site.Site.acknowledge.Goals as goal
 
-pub returns : goal.returns
+pub returns-clause-reacts : goal.returns-clause-reacts
 unfolding local_of
-returns c =
+returns-clause-reacts c =
     let s = c.args.here.now.tenant.now in
     let r = c.args.self.now in
     let target = c.args.target in
@@ -34,6 +36,15 @@ returns c =
       said = puts ∙ ap (λ ready. map said_in c.args.outbox.now.items ++ replied ready) (c.ack-ready.ensures.ready ∙ ap (ready_by c.args.from) here)
           ∙ ap (λ said. map said_in c.args.outbox.now.items ++ said) (sym (acked_said node d n g c.args.from target.number target.epoch));
       fits = acked_fits node d n g c.args.from target.number target.epoch;
-      keeps = record { incarnation = c.ack-ready.ensures.incarnation; positions = λ t. refl; timed = λ timed. timed };
+      keeps = record { incarnation = c.ack-ready.ensures.incarnation; positions = λ t. refl; asked = λ t. refl; timed = λ timed. timed };
     })
     c.push_reply.ensures
+
+pub returns-clause-order : goal.returns-clause-order
+returns-clause-order c order =
+    let here = here_of c.args.here.now in
+    let target = c.args.target in
+    on_ok_weaker c.push_reply.result
+    (λ reacts. quiet_in_order here (acked target.number target.epoch c.args.from) c.args.self.now _ c.args.outbox.now.items c.push_reply.new.outbox.items
+    (acked_quiet here target.number target.epoch c.args.from) reacts order)
+    (returns-clause-reacts c)

@@ -12,7 +12,7 @@ use Rattle.am_site.proofs.site.Site.send_all.Goals as goal
 
 pub loop-instance-init : goal.loop-instance-init
 loop-instance-init c =
-    (none_yet c.args.here.now.tenant.now (λ i. send_in c.args.epoch (here_of c.args.here.now) i c.args.body.now) c.args.self.now c.args.outbox.now.items, refl)
+    (none_yet c.args.here.now.tenant.now (λ i. send_in c.args.epoch (here_of c.args.here.now) i c.args.body.now) c.args.self.now c.args.outbox.now.items, (refl, refl))
 
 pub loop-instance-preserved : goal.loop-instance-preserved
 loop-instance-preserved c =
@@ -22,7 +22,7 @@ loop-instance-preserved c =
           (one_more c.args.here.now.tenant.now (λ i. send_in c.args.epoch (here_of c.args.here.now) i c.args.body.now) (take i c.args.to.now) x
           c.args.self.now c.loop-instance.self c.send_in.new.self c.args.outbox.now.items c.loop-instance.outbox.items c.send_in.new.outbox.items
           c.loop-instance.invariant.0 (rw c.in_ok-body.ensures at c.in_ok-send_in.ensures.reacts)),
-      c.send_in.ensures.node ∙ c.loop-instance.invariant.1,
+      (c.send_in.ensures.node ∙ c.loop-instance.invariant.1.0, c.send_in.ensures.settling ∙ c.loop-instance.invariant.1.1),
     )
 
 pub returns-in_err-send_in-clause-fault : goal.returns-in_err-send_in-clause-fault

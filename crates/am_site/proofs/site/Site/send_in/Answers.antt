@@ -34,7 +34,7 @@ returns-clause-reacts c =
           (fits used (λ le. omega (arith, c.if-used-ge-GREATEST_COUNT.false, c.used-used.ensures, le)))
           ∙ ap (λ n. nat_le (length (spelling (message_to here c.args.epoch c.args.to (n + 1) c.args.body))) 4294967295) (sym c.used-used.ensures)
           ∙ short _ (ap is_some (sym c.spelled_len.ensures) ∙ c.is_none.ensures ∙ ap not c.if-is_none.false);
-      keeps = record { incarnation = refl; positions = λ t. refl; timed = λ timed. timed };
+      keeps = record { incarnation = refl; positions = λ t. refl; asked = λ t. refl; timed = λ timed. timed };
     }
 
 pub returns-then-used-ge-GREATEST_COUNT-clause-fault : goal.returns-then-used-ge-GREATEST_COUNT-clause-fault

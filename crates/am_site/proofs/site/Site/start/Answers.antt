@@ -8,6 +8,7 @@ use Rattle.am_cluster.specs.Sending.{send_all}
 use Rattle.am_site.specs.Here.{here_of}
 use Rattle.am_site.specs.Locals.{local_of}
 use Rattle.am_site.proofs.Reacting.{in_turn_reacts, quiet, reacts_from, stops_first, stops_from, stops_second}
+use Rattle.am_site.proofs.Quiet.{start_quiet, quiet_in_order}
 use Rattle.am_site.proofs.site.Site.start.Goals as goal
 
 pub returns-clause-reacts : goal.returns-clause-reacts
@@ -53,3 +54,10 @@ returns-in_err-operation-clause-fault c =
     let p = err_from_is_err_and c.from_residual.result c.from_residual.ensures.1 in
     rw (p.1, p.2) (stops_from s (opens >> asks) (start here c.args.connection c.args.request) c.args.self.now refl _
     (stops_first s opens asks c.args.self.now _ c.in_err-operation.ensures.fault))
+
+pub returns-clause-order : goal.returns-clause-order
+returns-clause-order c order =
+    let here = here_of c.args.here.now in
+    on_ok_weaker c.send_all.result
+    (λ reacts. quiet_in_order here (start here c.args.connection c.args.request) c.args.self.now c.send_all.new.self c.args.outbox.now.items c.send_all.new.outbox.items (start_quiet here c.args.connection c.args.request) reacts order)
+    (returns-clause-reacts c)

@@ -15,6 +15,9 @@ use Rattle.am_site.specs.Deciding.{IsDecided, StopsDeciding, asked_on}
 use Rattle.am_site.specs.Locals.{local_of}
 use Rattle.am_site.specs.declared.site.Site.{Site}
 use Rattle.am_site.proofs.Answered.{answers_decided, answers_nothing, asks_decided, changes_here, same_site, still_here, stops_carrying, stops_deciding}
+use Rattle.am_cluster.specs.Operating.{answered}
+use Rattle.am_site.specs.Here.{here_of}
+use Rattle.am_site.proofs.Quiet.{answered_quiet, quiet_in_order}
 use Rattle.am_site.proofs.site.Site.take_answer.Goals as goal
 
 pub returns-in-None-clause-answers : goal.returns-in-None-clause-answers
@@ -64,7 +67,7 @@ returns-clause-answers c =
     on_ok_weaker c.carry_out.result
     (λ reacts. answers_decided given target.number target.epoch c.args.answered old c.in-Some.lists o mid still.found same
     c.args.cache.now.refused c.decide_on.new.cache.refused c.carry_out.new.self c.args.outbox.now.items c.carry_out.new.outbox.items (decision_of c.in_ok-decided.decided)
-    (record { incarnation = c.answer.ensures.incarnation; positions = λ t. ap (λ (l : NodeLocal). l.position) (c.decide_on.ensures.stays t); timed = λ timed. timed })
+    (record { incarnation = c.answer.ensures.incarnation; positions = λ t. ap (λ (l : NodeLocal). l.position) (c.decide_on.ensures.stays t); asked = λ t. refl; timed = λ timed. timed })
     decided (reacts o (ap (λ (l : Local). operation_at target.number l.operations) (same s) ∙ still.at) still.epoch_is))
     c.carry_out.ensures.reacts
 
@@ -132,3 +135,18 @@ returns-in_err-decided-clause-fault c =
     rw (p.1, p.2) (stops_deciding given target.number target.epoch c.args.answered old c.in-Some.lists o old still.found (λ t. refl) c.decide_on.new.cache.refused c.in_err-decided.field-0.0
     (subst (λ (list : List Item). StopsDeciding c.decide_on.new.cache.refused given o.request list (local_of s old) c.in_err-decided.field-0.0) c.in_ok-list.ensures
     (c.in_err-decided.ensures.fault (docket_of s old.operations) (count_of s old.sent) (settling_of s old.settling.progress))))
+
+pub returns-in-None-clause-order : goal.returns-in-None-clause-order
+returns-in-None-clause-order c order =
+    let given = c.args.here.now in
+    let answers = returns-in-None-clause-answers c in
+    quiet_in_order (here_of given) (answered (λ _ _ _ _. answers.decision) (here_of given) c.args.target.number c.args.target.epoch c.args.answered) c.args.self.now _
+    c.args.outbox.now.items c.args.outbox.now.items (answered_quiet (here_of given) (λ _ _ _ _. answers.decision) c.args.target.number c.args.target.epoch c.args.answered) answers.reacts order
+
+pub returns-clause-order : goal.returns-clause-order
+returns-clause-order c order =
+    let given = c.args.here.now in
+    on_ok_weaker c.carry_out.result
+    (λ answers. quiet_in_order (here_of given) (answered (λ _ _ _ _. answers.decision) (here_of given) c.args.target.number c.args.target.epoch c.args.answered) c.args.self.now _
+    c.args.outbox.now.items c.carry_out.new.outbox.items (answered_quiet (here_of given) (λ _ _ _ _. answers.decision) c.args.target.number c.args.target.epoch c.args.answered) answers.reacts order)
+    (returns-clause-answers c)

@@ -1,5 +1,0 @@
-use Rattle.std.proofs.Common.{◌≡◌, ◌==◌, filter, not, take}
-use Rattle.am_site.proofs.delivery.others_of.Given as goal
-
-abbrev pub invariant-loop-instance : goal.invariant-loop-instance
-invariant-loop-instance l = l.others.items ≡ filter (λ i. not (i == l.here.instance)) (take l.instance-index l.here.three.now)

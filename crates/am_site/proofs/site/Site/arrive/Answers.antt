@@ -1,0 +1,33 @@
+use Rattle.std.proofs.Common.{sym, ◌∙◌}
+use Rattle.std.proofs.lemmas.Result.{err_from_is_err_and}
+use Rattle.am_site.proofs.Arrives.{another_epoch, arrives_counted, arrives_late, arrives_taken, arrives_unmeant, same_epoch, stops_asking}
+use Rattle.am_site.proofs.site.Site.arrive.Goals as goal
+
+pub returns-then-not-is_meant-clause-arrives : goal.returns-then-not-is_meant-clause-arrives
+returns-then-not-is_meant-clause-arrives g c =
+    arrives_unmeant c.args.here.now c.args.cache.now.refused c.args.cache.now.refused c.args.message c.args.self.now c.args.outbox.now.items
+    (sym c.is_meant.ensures ∙ c.if-not-is_meant.true)
+
+pub returns-else-is_answer-clause-arrives : goal.returns-else-is_answer-clause-arrives
+returns-else-is_answer-clause-arrives g c =
+    arrives_late c.args.here.now c.args.cache.now.refused c.args.cache.now.refused c.args.message c.args.self.now c.args.outbox.now.items
+    (sym c.is_meant.ensures ∙ c.if-not-is_meant.false) (another_epoch c.args.message.epoch c.args.here.now.epoch c.if-not-is_current.true) (sym c.is_answer.ensures ∙ c.if-is_answer.false)
+
+pub returns-in_ok-take-clause-arrives : goal.returns-in_ok-take-clause-arrives
+returns-in_ok-take-clause-arrives g c =
+    arrives_counted c.args.here.now c.args.cache.now.refused c.take.new.cache.refused c.args.message c.args.self.now c.take.new.self c.args.outbox.now.items c.take.new.outbox.items
+    (sym c.is_meant.ensures ∙ c.if-not-is_meant.false) c.in_ok-take.ensures.takes (another_epoch c.args.message.epoch c.args.here.now.epoch c.if-not-is_current.true) (sym c.is_answer.ensures ∙ c.if-is_answer.true)
+
+pub returns-clause-arrives : goal.returns-clause-arrives
+returns-clause-arrives g c =
+    arrives_taken c.args.here.now c.args.cache.now.refused c.take-2.new.cache.refused c.args.message c.args.self.now c.take-2.new.self c.args.outbox.now.items c.take-2.new.outbox.items
+    (sym c.is_meant.ensures ∙ c.if-not-is_meant.false) c.in_ok-take-2.ensures.takes c.ask_first.new.self c.ask_first.new.outbox.items
+    (same_epoch c.args.message.epoch c.args.here.now.epoch c.if-not-is_current.false) c.in_ok-ask_first.ensures.reacts
+
+pub returns-in_err-ask_first-clause-fault : goal.returns-in_err-ask_first-clause-fault
+returns-in_err-ask_first-clause-fault g c =
+    let p = err_from_is_err_and c.from_residual-in_err-ask_first.result c.from_residual-in_err-ask_first.ensures.1 in
+    rw (p.1, p.2)
+    (stops_asking c.args.here.now c.args.cache.now.refused c.take-2.new.cache.refused c.args.message c.args.self.now c.take-2.new.self c.args.outbox.now.items c.take-2.new.outbox.items
+    (sym c.is_meant.ensures ∙ c.if-not-is_meant.false) c.in_ok-take-2.ensures.takes c.in_err-ask_first.field-0.0
+    (same_epoch c.args.message.epoch c.args.here.now.epoch c.if-not-is_current.false) c.in_err-ask_first.ensures.fault)
