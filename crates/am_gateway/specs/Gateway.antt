@@ -1,7 +1,8 @@
 -- What a gateway does with its world: each piece that a connection brings is an event of the world, under the connection's own
 -- number and at the gateway's moment, and what the world puts out of it is what the server is given.
-use Rattle.std.specs.Prelude.{ℕ, ◌≡◌, ◌⊎◌, ◌↔◌, ◌+◌, ◌-◌, Bool, true, false, List, ◌∷◌, Option, None, Some, IsSome, Result, OnOk, OnErr, IsTrue, if◌then◌else◌}
+use Rattle.std.specs.Prelude.{ℕ, ◌≡◌, ◌⊎◌, ◌↔◌, ◌+◌, ◌-◌, Bool, true, false, List, ◌∷◌, Option, None, Some, IsSome, Result, OnOk, OnErr, IsTrue, length, if◌then◌else◌}
 use Rattle.am_serve.specs.Lanes.{comes_before, is_ready, under_way_of, waiting_of}
+use Rattle.am_serve.specs.Weights.{IsHeaviest}
 use Rattle.am_serve.specs.declared.host.Verdict.{Verdict}
 use Rattle.am_serve.specs.declared.host.Verdict.TheVariants.{Undecided, Reply, Gone}
 use Rattle.am_server.specs.declared.service.Notice.{Notice}
@@ -113,6 +114,15 @@ pub record BeginsCall {R : Type 0} (free : ℕ) (notice : Notice Try) (old new :
   pub ready : is_ready free tenant old.notices.lanes ≡ true
   pub turn : (t : List ℕ) → comes_before old.notices.last t tenant ≡ true → is_ready free t old.notices.lanes ≡ false
   pub last : new.notices.last ≡ Some tenant
+  pub first : waiting_of tenant old.notices.lanes ≡ notice ∷ waiting_of tenant new.notices.lanes
+  pub others : (t : List ℕ) → same t tenant ≡ false → waiting_of t new.notices.lanes ≡ waiting_of t old.notices.lanes
+  pub under_way : (t : List ℕ) → under_way_of t new.notices.lanes
+      ≡ (if same t tenant then under_way_of t old.notices.lanes + 1 else under_way_of t old.notices.lanes)
+
+-- the notice that waited longest of the tenant of whom most bytes wait is taken as if its call were begun
+pub record GivesUpCall {R : Type 0} (notice : Notice Try) (old new : Gateway R) : Type 0 where
+  pub tenant : List ℕ
+  pub heaviest : IsHeaviest (λ (waiting : Notice Try). length waiting.request) tenant old.notices.lanes
   pub first : waiting_of tenant old.notices.lanes ≡ notice ∷ waiting_of tenant new.notices.lanes
   pub others : (t : List ℕ) → same t tenant ≡ false → waiting_of t new.notices.lanes ≡ waiting_of t old.notices.lanes
   pub under_way : (t : List ℕ) → under_way_of t new.notices.lanes

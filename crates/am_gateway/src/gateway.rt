@@ -183,7 +183,8 @@ impl<R: Rows> Host for Gateway<'_, R> {
 }
 
 impl<R: Rows> Service for Gateway<'_, R> {
-    ghost use Rattle.am_gateway.specs.Gateway.{BeginsCall, EndsCall, IsSameGateway, SameUnderWay, TellsWorld};
+    ghost use Rattle.am_gateway.specs.Gateway.{BeginsCall, EndsCall, GivesUpCall, IsSameGateway, SameUnderWay};
+    ghost use Rattle.am_gateway.specs.Gateway.{TellsWorld};
 
     type Name = Try;
 
@@ -226,6 +227,16 @@ impl<R: Rows> Service for Gateway<'_, R> {
         ensures rest { self.new ≡ record self.old { notices = self.new.notices } }
     {
         let (_, notice) = self.notices.pop(free)?;
+        Some(notice)
+    }
+
+    // Of the tenant of whom most bytes wait, the notice that waited longest.
+    fn next_given_up(&mut self) -> Option<Notice<Try>>
+        ensures gives_up { IfSome result (λ notice. GivesUpCall notice self.old self.new) }
+        ensures stays { IfNone result (self.new ≡ self.old) }
+        ensures rest { self.new ≡ record self.old { notices = self.new.notices } }
+    {
+        let (_, notice) = self.notices.give_up()?;
         Some(notice)
     }
 

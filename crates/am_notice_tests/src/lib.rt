@@ -1,6 +1,8 @@
-//! Worked examples: timers, attempts, clients and calls.
+//! Worked examples: timers, attempts, clients, calls, and what waits of tenants.
 #![tactic(auto)]
 
+#[cfg(test)]
+mod lanes;
 #[cfg(test)]
 mod outlet;
 #[cfg(test)]

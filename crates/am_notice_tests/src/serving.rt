@@ -1,11 +1,10 @@
-//! Clients and calls over sockets in memory, and the turns of tenants.
+//! Clients and calls over sockets in memory, and the clock.
 
 use am_expect::{equal, holds};
 use am_serve::{
-    Calls, Clients, ClockNews, Dialed, Host, Lanes, Moved, Progress, Socket, SteadyClock, Turn,
-    Verdict, read_from,
+    Calls, Clients, ClockNews, Dialed, Host, Moved, Progress, Socket, SteadyClock, Turn, Verdict,
+    read_from,
 };
-use am_tenant::TenantName;
 use std::alloc::Global;
 use std::io;
 use std::test::Fail;
@@ -387,59 +386,6 @@ fn late_calls_are_let_go(rt: HostRuntime) -> Result<(), Fail> {
     let now = Instant::now(&rt)?;
     late_call(rt.alloc(), now, 0, None)?;
     late_call(rt.alloc(), now, 5, Some(7))
-}
-
-// The places that are free, and what begins then.
-type Begin = (usize, Option<u64>);
-
-fn begin(lanes: &mut Lanes<u64>, rows: &[Begin]) -> Result<(), Fail> {
-    for (free, wanted) in rows {
-        equal(lanes.pop(*free).map(|taken| taken.1), *wanted, *free)?;
-    }
-    Ok(())
-}
-
-// Where the items of one tenant wait.
-const ALONE: &[Begin] = &[
-    (8, Some(0)),
-    (7, Some(1)),
-    (6, Some(2)),
-    (5, Some(3)),
-    (4, None),
-];
-
-// Where another tenant's items came.
-const SHARED: &[Begin] = &[(4, Some(300)), (3, Some(301)), (2, None)];
-
-// Where two of the first tenant's items ended.
-const ENDED: &[Begin] = &[(4, Some(4))];
-
-fn push_all(lanes: &mut Lanes<u64>, tenant: TenantName, from: u64, to: u64) -> Result<(), Fail> {
-    for number in from..to {
-        lanes.push(tenant, number)?;
-    }
-    Ok(())
-}
-
-fn leaves_places(
-    lanes: &mut Lanes<u64>,
-    first: TenantName,
-    second: TenantName,
-) -> Result<(), Fail> {
-    push_all(lanes, first, 0, 300)?;
-    begin(lanes, ALONE)?;
-    push_all(lanes, second, 300, 302)?;
-    begin(lanes, SHARED)?;
-    lanes.end(&first);
-    lanes.end(&first);
-    begin(lanes, ENDED)
-}
-
-#[test]
-fn tenants_leave_places(rt: HostRuntime) -> Result<(), Fail> {
-    let first = TenantName::read(b"first")?;
-    let second = TenantName::read(b"second")?;
-    leaves_places(&mut Lanes::new(rt.alloc()), first, second)
 }
 
 /// What the wall clock and the monotonic clock say, the moment then, and what is told.

@@ -1,6 +1,7 @@
 pub mod ActLists
 pub mod Steps
 pub mod Sums
+pub mod CallSums
 pub mod Longest
 pub mod Turns
 pub mod Calling
@@ -10,3 +11,5 @@ pub mod LaneChanges
 pub mod LaneTurns
 pub mod LaneWrites
 pub mod LanePushes
+pub mod LaneSums
+pub mod Heaviest

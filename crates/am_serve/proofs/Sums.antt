@@ -25,7 +25,7 @@ module _ {T : Type 0} (f : Option T → ℕ) (none : f None ≡ 0) where
   Changed xs ys key = (other : ℕ) → other ≢ key → get_or ys other None ≡ get_or xs other None
 
   -- where one value changes, so does the sum
-  sum_changed : (xs ys : List (Option T)) (key : ℕ) → ((other : ℕ) → other ≢ key → get_or ys other None ≡ get_or xs other None)
+  pub sum_changed : (xs ys : List (Option T)) (key : ℕ) → ((other : ℕ) → other ≢ key → get_or ys other None ≡ get_or xs other None)
       → sum_by f ys + f (get_or xs key None) ≡ sum_by f xs + f (get_or ys key None)
   sum_changed [] [] key h = refl
   sum_changed [] (y ∷ ys) zero h = omega (arith, sum_by-cons f y ys, none, same_sums [] ys (λ j. h (suc j) (omega arith)))
@@ -53,7 +53,7 @@ module _ {S : Type 0} where
       omega (arith, held-bound slots, sum_by-cons held_at (Some client) slots, sum_by-cons excess_at (Some client) slots, sum_by-cons (λ (slot : Option (Client S)). cond (is_some slot) 1 0) (Some client) slots)
 
 -- a reply's length is a number of 64 bits
-undelivered-bound : (reply : Outgoing) → undelivered reply ≤ 18446744073709551615
+pub undelivered-bound : (reply : Outgoing) → undelivered reply ≤ 18446744073709551615
 unfolding undelivered
 undelivered-bound reply = omega (arith, at_most (unsent reply) reply.bytes.len, reply.fits)
   where

@@ -1,17 +1,33 @@
 -- What is done to a table of calls.
-use Rattle.std.specs.Prelude.{◌≡◌, ℕ, List, Option, Some, None}
+use Rattle.std.specs.Prelude.{◌≡◌, ℕ, List, Option, Some, None, sum_by}
 use Rattle.std.specs.declared.time.Instant.{Instant}
 use Rattle.slab.specs.Slab.{Slab, get}
 use Rattle.am_serve.specs.Acts.{Act}
 use Rattle.am_serve.specs.Calls.{CallWorks, IsFirstCall}
+use Rattle.am_serve.specs.Outgoings.{undelivered}
 use Rattle.am_serve.specs.Tables.{Others}
 use Rattle.am_serve.specs.declared.call.Call.{Call}
+use Rattle.am_serve.specs.declared.call.CallStage.{CallStage}
+use Rattle.am_serve.specs.declared.call.CallStage.TheVariants.{Asking, Awaiting}
 use Rattle.am_serve.specs.declared.call.Step.{Step}
 use Rattle.am_serve.specs.declared.call.Step.TheVariants.{More as StepMore, Waits as StepWaits, Ended as StepEnded}
 use Rattle.am_serve.specs.declared.calls.Progress.{Progress}
 use Rattle.am_serve.specs.declared.calls.Progress.TheVariants.{More, Waits, Ended}
 
+-- how many bytes a request holds: all of it, until its last byte was sent
+abbrev pub request_bytes : CallStage → ℕ
+request_bytes (Asking request) = undelivered request
+request_bytes (Awaiting _) = 0
+
 module _ {S N : Type 0} where
+  abbrev pub request_bytes_at : Option (Call S N) → ℕ
+  request_bytes_at None = 0
+  request_bytes_at (Some call) = request_bytes call.stage
+
+  -- how many bytes the requests of all calls hold
+  abbrev pub request_bytes_in : List (Option (Call S N)) → ℕ
+  request_bytes_in slots = sum_by request_bytes_at slots
+
   -- a call that sent nothing yet came under the vacant key
   pub record AddsCall (old new : Slab (Call S N)) (key : ℕ) (socket : S) (request : List ℕ) (name : N) (now : Instant) : Type 0 where
     pub call : Call S N

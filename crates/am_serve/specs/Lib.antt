@@ -10,3 +10,4 @@ pub mod Calls
 pub mod CallTables
 pub mod Lanes
 pub mod Clocks
+pub mod Weights

@@ -43,6 +43,7 @@ pub struct Call<S: Dialed, N: Drop> {
 }
 
 impl<S: Dialed, N: Drop> Call<S, N> {
+    ghost use Rattle.am_serve.specs.CallTables.{request_bytes};
     ghost use Rattle.am_serve.specs.Calls.{CallMoves, CallWorks, IsAskingCall, IsAwaitingCall, IsFirstCall, IsOver, unasked};
 
     // A call that sent nothing yet.
@@ -55,6 +56,16 @@ impl<S: Dialed, N: Drop> Call<S, N> {
             is_connected: false,
             stage: CallStage::Asking(Outgoing::new(request)),
             begun: now,
+        }
+    }
+
+    // How many bytes its request holds: the whole, until the last byte was sent.
+    pub fn request_bytes(&self) -> usize
+        ensures { result ≡ request_bytes self.now.stage }
+    {
+        match &self.stage {
+            CallStage::Asking(request) => request.undelivered(),
+            CallStage::Awaiting(_) => 0,
         }
     }
 

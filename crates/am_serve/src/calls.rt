@@ -1,8 +1,9 @@
 //! The table of calls.
-ghost use Rattle.std.specs.Prelude.{◌≡◌, ◌↔◌, ◌<◌, ◌≤◌, ℕ, [], None, Some, IfNone, IfOk, IfSome, IsSomeAnd, IsTrue};
+ghost use Rattle.std.specs.Prelude.{◌≡◌, ◌↔◌, ◌^◌, ◌<◌, ◌≤◌, ℕ, [], None, Some};
+ghost use Rattle.std.specs.Prelude.{IfNone, IfOk, IfSome, IsSomeAnd, IsTrue};
 ghost use Rattle.slab.specs.Slab.{get, slab_len};
 ghost use Rattle.am_serve.specs.Calls.{IsOver};
-ghost use Rattle.am_serve.specs.CallTables.{AddsCall, CallTurnAt};
+ghost use Rattle.am_serve.specs.CallTables.{AddsCall, CallTurnAt, request_bytes_in};
 ghost use Rattle.am_serve.specs.Tables.{Others};
 
 use crate::call::{Call, Step};
@@ -28,11 +29,20 @@ pub enum Progress<N> {
     },
 }
 
+/// Past how many bytes the requests that aren't sent whole hold too much.
+pub const REQUEST_BYTES: usize = 268_435_456;
+
 /// The calls of webhooks that are under way, at most as many as the limit. Each is known by its key.
+///
+/// A request is held whole until its last byte was sent.
 #[derive(Drop)]
 pub struct Calls<S: Dialed, N: Drop> {
     calls: Slab<Call<S, N>>,
     limit: usize,
+    // How many bytes the requests hold. No number of lengths comes to more.
+    asking: u128,
+    ghost few: { limit < 2 ^ 64 },
+    ghost requests: { asking ≡ request_bytes_in calls.slots },
     ghost bounded: { slab_len calls ≤ limit },
     ghost room: { limit ≤ calls.capacity },
 }
@@ -49,6 +59,7 @@ impl<S: Dialed, N: Drop> Calls<S, N> {
         Ok(Calls {
             calls: Slab::with_capacity(alloc, limit)?,
             limit,
+            asking: 0,
         })
     }
 
@@ -73,6 +84,13 @@ impl<S: Dialed, N: Drop> Calls<S, N> {
         self.calls.len() >= self.limit
     }
 
+    /// Whether the requests that aren't sent whole hold too much: over 256 MiB.
+    pub fn is_laden(&self) -> bool
+        ensures { IsTrue result ↔ (268435456 < request_bytes_in self.now.calls.slots) }
+    {
+        self.asking > REQUEST_BYTES as u128
+    }
+
     /// All keys are below this.
     pub fn capacity(&self) -> usize
         ensures value { result ≡ self.now.calls.capacity }
@@ -95,8 +113,9 @@ impl<S: Dialed, N: Drop> Calls<S, N> {
         ensures added { AddsCall self.old.calls self.new.calls result socket request.items name now }
         ensures limit { self.new.limit ≡ self.old.limit }
     {
-        self.calls
-            .insert_reserved(Call::new(socket, request, name, now))
+        let call = Call::new(socket, request, name, now);
+        self.asking += call.request_bytes() as u128;
+        self.calls.insert_reserved(call)
     }
 
     /// Gives the call of this key its turn: at most 16 reads, writes and questions whether its connection stands. Once it
@@ -107,12 +126,17 @@ impl<S: Dialed, N: Drop> Calls<S, N> {
         ensures others { Others self.old.calls self.new.calls key }
         ensures limit { self.new.limit ≡ self.old.limit }
     {
+        let asking = self.asking;
         let call = self.calls.get_mut(key)?;
-        match call.turn(buffer) {
+        let others = asking - call.request_bytes() as u128;
+        let step = call.turn(buffer);
+        self.asking = others + call.request_bytes() as u128;
+        match step {
             Step::More => Some(Progress::More),
             Step::Waits => Some(Progress::Waits),
             Step::Ended(status) => {
                 let ended = self.calls.try_remove(key)?;
+                self.asking = others;
                 let name = ended.into_name();
                 Some(Progress::Ended { name, status })
             }
@@ -131,6 +155,7 @@ impl<S: Dialed, N: Drop> Calls<S, N> {
             return None;
         }
         let call = self.calls.try_remove(key)?;
+        self.asking -= call.request_bytes() as u128;
         Some(call.into_name())
     }
 }

@@ -83,9 +83,27 @@ impl<'s, V: Service> Hall<'s, V> {
         token_of_call(self.calls.next_key())
     }
 
+    /// The next notice whose call is to begin. As long as requests that webhooks don't take hold too much, only who has
+    /// no call under way begins one: nobody waits for what others don't get rid of.
     pub fn next_notice(&mut self) -> Option<Notice<V::Name>> {
         let free = MOST_CALLS.saturating_sub(self.calls.len());
-        self.service.next_notice(free)
+        let places = if self.calls.is_laden() {
+            free.min(1)
+        } else {
+            free
+        };
+        self.service.next_notice(places)
+    }
+
+    /// Ends the calls that give way where the notices that wait hold too much: each is a try without an answer.
+    pub fn relieve(&mut self) -> Result<(), AllocError> {
+        for _ in 0..u64::MAX {
+            let Some(notice) = self.service.next_given_up() else {
+                break;
+            };
+            self.service.end_call(notice.name, None)?;
+        }
+        Ok(())
     }
 
     pub fn set_moment(&mut self, moment: u64) {

@@ -92,9 +92,9 @@ impl<'s, V: Service> Server<'s, V> {
         self.hall.is_up()
     }
 
-    /// Waits a quarter of a second at most, and then does what can be done without waiting: accepts connections, moves the
-    /// bytes of clients and calls that are ready, does what is due, lets go of those that
-    /// are late, and begins the calls of notices. Gives what is to be told of the clock.
+    /// Waits a quarter of a second at most, and then does what can be done without waiting: accepts connections, moves
+    /// the bytes of clients and calls that are ready, does what is due, lets go of those that are late, begins the calls
+    /// of notices, and lets notices give way where too much waits. Gives what is to be told of the clock.
     ///
     /// # Errors
     /// Those of the system's poll and clocks; out of memory. One connection's failure is none.
@@ -115,6 +115,7 @@ impl<'s, V: Service> Server<'s, V> {
         self.hall.tick()?;
         self.sweep(now)?;
         self.call(rt, now)?;
+        self.hall.relieve()?;
         Ok(news)
     }
 

@@ -1,6 +1,6 @@
 //! What a server serves.
 
-use am_serve::Host;
+use am_serve::{Host, Weighs};
 use am_text::{Octets, Text};
 use std::alloc::AllocError;
 
@@ -13,6 +13,17 @@ pub struct Notice<N: Drop> {
     pub url: Text,
     /// The whole request.
     pub request: Octets,
+}
+
+/// It weighs what its request's bytes do.
+impl<N: Drop> Weighs for Notice<N> {
+    ghost use Rattle.std.specs.Prelude.{length};
+
+    ghost weight = { λ notice. length notice.request };
+
+    fn bytes(&self) -> usize {
+        self.request.len()
+    }
 }
 
 /// Who answers a server's clients, is told the time, and has notices that go out.
@@ -34,6 +45,10 @@ pub trait Service: Host {
 
     /// The next notice whose call is to begin, where so many calls more may be under way.
     fn next_notice(&mut self, free: usize) -> Option<Notice<Self::Name>>;
+
+    /// A notice whose call isn't to begin, where those that wait hold too much: it is to be ended as a call that had no
+    /// answer. `None`: they hold no more than they may.
+    fn next_given_up(&mut self) -> Option<Notice<Self::Name>>;
 
     /// Takes what came of a call: the status of the answer, or `None` where there was none.
     ///
