@@ -36,7 +36,7 @@ use Rattle.am_cluster.specs.Messages.{Ack, Answer, Ask, Body, Get, Got, Message,
 use Rattle.am_cluster.specs.Operating.{Decide, ack_by, acked, answer_by, answered, begin, carry_out, finish, first_ack, first_answer, list_for, operation_for, replicas_changed, reply_for, stamp, start, timed_out, unavailable, wait_with}
 use Rattle.am_cluster.specs.Operations.{Answered, Decided, Operation, Stage, Undecided, operation_at, operation_of}
 use Rattle.am_transfer.specs.Peers.{Peer, at_number, peer}
-use Rattle.am_transfer.specs.Pieces.{Piece, SentList, pieces_to_send}
+use Rattle.am_transfer.specs.Pieces.{SentList, pieces_to_send}
 use Rattle.am_cluster.specs.Plans.{by_replica, replica_local, said_by}
 use Rattle.am_cluster.specs.Reactions.{Reaction, Replies, Said, Sends, Tells, each, messages_in, only_if, stays, where_some, ◌>>◌}
 use Rattle.am_cluster.specs.Retiring.{retired}

@@ -13,3 +13,7 @@ pub mod StateTurns
 pub mod OneList
 pub mod Still
 pub mod Steady
+pub mod ReplyPieces
+pub mod ReplyTurns
+pub mod Replied
+pub mod Posted

@@ -25,7 +25,7 @@ use Rattle.am_cluster.specs.Sent.{Sent, is_named, sent_at, with_given_up}
 use Rattle.am_cluster.specs.SentFacts.{AreNamedOnce, has_name_of}
 use Rattle.am_cluster.specs.Ticking.{ticked}
 use Rattle.am_cluster.specs.Transfers.{forced}
-use Rattle.am_cluster.proofs.Counted.{AreCounted, Counts, arrive_counted, forced_counted, just_opened_counted, learned_counted, outcome_counted, restart_counted, start_counted, ticked_counted}
+use Rattle.am_cluster.proofs.Counted.{AreCounted, Counts, IsCounted, arrive_counted, forced_counted, just_opened_counted, learned_counted, outcome_counted, restart_counted, start_counted, ticked_counted}
 use Rattle.am_cluster.proofs.Names.{Each, Each-append, Each-map, IsNew, IsUpTo, all_new, as_sent, counts_grow, more_named}
 
 -- ---- the cluster
@@ -35,21 +35,22 @@ pub record IsPast (p : PrivateCluster) (m : Message) : Type 0 where
   pub incarnation : m.incarnation ≤ p.roster.incarnation m.from
   pub counted : p.roster.up m.from ≡ true → m.incarnation ≡ p.roster.incarnation m.from → m.count ≤ (p.at m.from).ledger.messages
 
-pub record IsKept (p : PrivateCluster) : Type 0 where
+-- what was sent has each name once, and what is sent next has others
+pub record NamesOnce (p : PrivateCluster) : Type 0 where
   pub named : AreNamedOnce p.sent
   pub past : Each (IsPast p) p.sent
 
 -- what was sent of an up instance in its incarnation
-up_to_at : (p : PrivateCluster) (i : ℕ) → p.roster.up i ≡ true → (m : Message) → IsPast p m
+pub up_to_at : (p : PrivateCluster) (i : ℕ) → p.roster.up i ≡ true → (m : Message) → IsPast p m
     → IsUpTo i (p.roster.incarnation i) (p.at i).ledger.messages m
 up_to_at p i up m e from same =
     subst (λ j. m.count ≤ (p.at j).ledger.messages) from
     (e.counted (ap p.roster.up from ∙ up) (same ∙ sym (ap p.roster.incarnation from)))
 
 -- what an instance says at its turn is counted, where it is up; else it says nothing
-record Turn (p : PrivateCluster) (r : ℕ → Reaction) (i : ℕ) : Type 0 where
-  counts : Counts i (p.roster.incarnation i) (p.at i).ledger.messages (messages_in (r i).said) (r i).local.ledger.messages
-  silent : p.roster.up i ≡ false → messages_in (r i).said ≡ []
+pub record Turn (p : PrivateCluster) (r : ℕ → Reaction) (i : ℕ) : Type 0 where
+  pub counts : Counts i (p.roster.incarnation i) (p.at i).ledger.messages (messages_in (r i).said) (r i).local.ledger.messages
+  pub silent : p.roster.up i ≡ false → messages_in (r i).said ≡ []
 
 -- ---- all that several instances say
 
@@ -137,7 +138,7 @@ all_up_to p (i ∷ is) sent e = (
 all_kept : (p : PrivateCluster) (r : ℕ → Reaction) (moment : ℕ) (is : List ℕ) (at : ℕ → Local) → ((i : ℕ) → Turn p r i) → Distinct is
     → ((i : ℕ) → (p.at i).ledger.messages ≤ (at i).ledger.messages)
     → ((m : Message) → IsSaid p r m → m.count ≤ (r m.from).local.ledger.messages → m.count ≤ (at m.from).ledger.messages)
-    → IsKept p → IsKept (said_on moment r is at p)
+    → NamesOnce p → NamesOnce (said_on moment r is at p)
 all_kept p r moment is at turns distinct grows ends k = record {
   named = all_named p r moment is p.sent turns distinct k.named (all_up_to p is p.sent k.past);
   past = Each-append (IsPast (said_on moment r is at p)) p.sent (said_by_all moment r is)
@@ -182,15 +183,18 @@ distinct_by (i ∷ is) e =
     let parts = and_parts (not (list_any (λ j. i == j) is)) (all_differ is) e in
     (apart_by i is (not_false (list_any (λ j. i == j) is) parts.0), distinct_by is parts.1)
 
-pub all_react_kept : (f : ℕ → Here → Local → Reaction) (m : ℕ) (p : PrivateCluster) → ((i : ℕ) (here : Here) → AreCounted here (f i here))
-    → IsKept p → IsKept (react_all f m p).cluster
-unfolding react_all
-all_react_kept f m p c k =
-    let turns : (i : ℕ) → Turn p (reaction_at f m p) i = turns_of f m p c in
-    all_kept p (reaction_at f m p) m all_instances (λ i. (reaction_at f m p i).local) turns (distinct_by all_instances refl)
-    (λ i. counts_grow i (p.roster.incarnation i) (p.at i).ledger.messages (reaction_at f m p i).local.ledger.messages
-    (messages_in (reaction_at f m p i).said) (turns i).counts)
+pub turns_kept : (p : PrivateCluster) (m : ℕ) (r : ℕ → Reaction) → ((i : ℕ) → Turn p r i) → NamesOnce p
+    → NamesOnce (said_on m r all_instances (λ i. (r i).local) p)
+turns_kept p m r turns k =
+    all_kept p r m all_instances (λ i. (r i).local) turns (distinct_by all_instances refl)
+    (λ i. counts_grow i (p.roster.incarnation i) (p.at i).ledger.messages (r i).local.ledger.messages
+    (messages_in (r i).said) (turns i).counts)
     (λ n e up_to. up_to) k
+
+pub all_react_kept : (f : ℕ → Here → Local → Reaction) (m : ℕ) (p : PrivateCluster) → ((i : ℕ) (here : Here) → AreCounted here (f i here))
+    → NamesOnce p → NamesOnce (react_all f m p).cluster
+unfolding react_all
+all_react_kept f m p c k = turns_kept p m (reaction_at f m p) (turns_of f m p c) k
 
 -- ---- one instance has its turn
 
@@ -208,38 +212,53 @@ put_grows f i x more j = elim (cases_eq j i) [
   | inr e ↦ subst (λ (l : Local). (f j).ledger.messages ≤ l.ledger.messages) (sym (put_elsewhere f i x j e)) (le_refl (f j).ledger.messages)
 ]
 
-pub one_kept : (f : Here → Local → Reaction) (m i : ℕ) (p : PrivateCluster) → ((here : Here) → AreCounted here (f here)) → p.roster.up i ≡ true
-    → IsKept p → IsKept (react_one f m i p).cluster
-unfolding react_one here_at as_sent
-one_kept f m i p c up k =
-    let r : Reaction = f (here_at p m i) (p.at i) in
-    let counts : Counts i (p.roster.incarnation i) (p.at i).ledger.messages (messages_in r.said) r.local.ledger.messages = c (here_at p m i) (p.at i) in
+-- what one sends has other names than all that was sent, where it is counted
+pub named_with : (p : PrivateCluster) (m i : ℕ) (r : Reaction) → IsCounted (here_at p m i) (p.at i) r
+    → p.roster.up i ≡ true → NamesOnce p → AreNamedOnce (p.sent ++ sent_at m r.said)
+unfolding here_at as_sent
+named_with p m i r counts up k =
+    let before : ℕ = (p.at i).ledger.messages in
+    more_named i (p.roster.incarnation i) before r.local.ledger.messages m (messages_in r.said) p.sent counts k.named
+    (Each-map (IsPast p) (IsUpTo i (p.roster.incarnation i) before) p.sent (up_to_at p i up) k.past)
+
+pub turn_kept : (p : PrivateCluster) (m i : ℕ) (r : Reaction) → IsCounted (here_at p m i) (p.at i) r
+    → p.roster.up i ≡ true → NamesOnce p
+    → NamesOnce (record p { at = put_at p.at i r.local; sent = p.sent ++ sent_at m r.said })
+unfolding here_at as_sent
+turn_kept p m i r counts up k =
     let q : PrivateCluster = record p { at = put_at p.at i r.local; sent = p.sent ++ sent_at m r.said } in
+    let era : ℕ = p.roster.incarnation i in
+    let before : ℕ = (p.at i).ledger.messages in
+    let now : ℕ = r.local.ledger.messages in
     record {
-      named = more_named i (p.roster.incarnation i) (p.at i).ledger.messages r.local.ledger.messages m (messages_in r.said) p.sent counts k.named
-          (Each-map (IsPast p) (IsUpTo i (p.roster.incarnation i) (p.at i).ledger.messages) p.sent (up_to_at p i up) k.past);
+      named = named_with p m i r counts up k;
       past = Each-append (IsPast q) p.sent (sent_at m r.said)
           (Each-map (IsPast p) (IsPast q) p.sent
           (λ n e. record {
             incarnation = e.incarnation;
             counted = λ is_up same. le_trans (e.counted is_up same)
-                (put_grows p.at i r.local (counts_grow i (p.roster.incarnation i) (p.at i).ledger.messages r.local.ledger.messages
-                (messages_in r.said) counts) n.from);
+                (put_grows p.at i r.local (counts_grow i era before now (messages_in r.said) counts) n.from);
           }) k.past)
-          (Each-map (IsNew i (p.roster.incarnation i) (p.at i).ledger.messages r.local.ledger.messages) (IsPast q) (sent_at m r.said)
+          (Each-map (IsNew i era before now) (IsPast q) (sent_at m r.said)
           (λ n e. record {
             incarnation = subst (λ h. n.incarnation ≤ h) (e.1 ∙ ap p.roster.incarnation (sym e.0)) (le_refl n.incarnation);
-            counted = λ is_up same. subst (λ (l : Local). n.count ≤ l.ledger.messages) (sym (put_here p.at i r.local n.from e.0)) e.3;
+            counted = λ is_up same. subst (λ (l : Local). n.count ≤ l.ledger.messages)
+                (sym (put_here p.at i r.local n.from e.0)) e.3;
           })
-          (all_new i (p.roster.incarnation i) (p.at i).ledger.messages r.local.ledger.messages m (messages_in r.said) counts));
+          (all_new i era before now m (messages_in r.said) counts));
     }
 
-if_kept : (b : Bool) (c d : Course) → (b ≡ true → IsKept c.cluster) → IsKept d.cluster → IsKept (if b then c else d).cluster
+pub one_kept : (f : Here → Local → Reaction) (m i : ℕ) (p : PrivateCluster) → ((here : Here) → AreCounted here (f here)) → p.roster.up i ≡ true
+    → NamesOnce p → NamesOnce (react_one f m i p).cluster
+unfolding react_one
+one_kept f m i p c up k = turn_kept p m i (f (here_at p m i) (p.at i)) (c (here_at p m i) (p.at i)) up k
+
+if_kept : (b : Bool) (c d : Course) → (b ≡ true → NamesOnce c.cluster) → NamesOnce d.cluster → NamesOnce (if b then c else d).cluster
 if_kept true c d e f = e refl
 if_kept false c d e f = f
 
 pub react_kept : (f : Here → Local → Reaction) (m i : ℕ) (p : PrivateCluster) → ((here : Here) → AreCounted here (f here))
-    → IsKept p → IsKept (react f m i p).cluster
+    → NamesOnce p → NamesOnce (react f m i p).cluster
 react_kept f m i p c k = if_kept (p.roster.up i) (react_one f m i p) (unchanged p) (λ up. one_kept f m i p c up k) k
 
 -- ---- the ring and its instances
@@ -248,7 +267,7 @@ react_kept f m i p c k = if_kept (p.roster.up i) (react_one f m i p) (unchanged 
 pub down_kept : (i : ℕ) (left : List Item) (event : RingEvent) (p : PrivateCluster)
     → ((j : ℕ) → (with_event event p).roster.incarnation j ≡ p.roster.incarnation j)
     → ((j : ℕ) → (with_event event p).roster.up j ≡ put_at p.roster.up i false j)
-    → IsKept p → IsKept (stopped i left (with_event event p))
+    → NamesOnce p → NamesOnce (stopped i left (with_event event p))
 down_kept i left event p same_k same_up k = record {
   named = k.named;
   past = Each-map (IsPast p) (IsPast (stopped i left (with_event event p))) p.sent
@@ -270,7 +289,7 @@ down_kept i left event p same_k same_up k = record {
 pub opened_kept : (i : ℕ) (event : RingEvent) (p : PrivateCluster)
     → ((j : ℕ) → (with_event event p).roster.incarnation j ≡ put_at p.roster.incarnation i (p.roster.incarnation i + 1) j)
     → ((j : ℕ) → (with_event event p).roster.up j ≡ put_at p.roster.up i true j)
-    → IsKept p → IsKept (with_opened i (with_event event p))
+    → NamesOnce p → NamesOnce (with_opened i (with_event event p))
 opened_kept i event p next_k next_up k = record {
   named = k.named;
   past = Each-map (IsPast p) (IsPast (with_opened i (with_event event p))) p.sent (λ m e. past m e) k.past;
@@ -299,7 +318,7 @@ opened_kept i event p next_k next_up k = record {
           }
     ]
 
-pub changed_kept : (event : RingEvent) (p : PrivateCluster) → IsKept p → IsKept (changed event p).cluster
+pub changed_kept : (event : RingEvent) (p : PrivateCluster) → NamesOnce p → NamesOnce (changed event p).cluster
 unfolding changed roster_after
 changed_kept (Joins i) p k =
     react_kept just_opened p.clock i (with_opened i (with_event (Joins i) p)) just_opened_counted
@@ -345,12 +364,12 @@ module _ (g : Sent → Sent) (same : (s : Sent) → (g s).message ≡ s.message)
   Each-same P [] e = tt
   Each-same P (x ∷ xs) e = (subst P (sym (same x)) e.0, Each-same P xs e.1)
 
-pub delivered_kept : (decide : Decide) (m : ℕ) (o : Option Message) (p : PrivateCluster) → IsKept p → IsKept (delivered decide m o p).cluster
+pub delivered_kept : (decide : Decide) (m : ℕ) (o : Option Message) (p : PrivateCluster) → NamesOnce p → NamesOnce (delivered decide m o p).cluster
 delivered_kept decide m None p k = k
 delivered_kept decide m (Some message) p k =
     react_kept (λ here local. arrive decide here message local) m message.to p (λ here. arrive_counted decide here message) k
 
-pub handled_kept : (decide : Decide) (p : PrivateCluster) (h : Happening) → IsKept p → IsKept (handled_by decide p h).cluster
+pub handled_kept : (decide : Decide) (p : PrivateCluster) (h : Happening) → NamesOnce p → NamesOnce (handled_by decide p h).cluster
 unfolding handled_by
 handled_kept decide p (Asked connection i moment request) k =
     react_kept (λ here local. start here connection request local) (effective moment p.clock) i p
@@ -383,21 +402,24 @@ handled_kept decide p (Lost from k to count) kept =
 handled_kept decide p (Changed event) k = changed_kept event p k
 handled_kept decide p Forced k = all_react_kept (λ i. forced) p.clock p (λ i. forced_counted) k
 
-pub course_kept : (decide : Decide) (p : PrivateCluster) (h : Happening) → IsKept p → IsKept (course_by decide p h).cluster
+pub course_kept : (decide : Decide) (p : PrivateCluster) (h : Happening) → NamesOnce p → NamesOnce (course_by decide p h).cluster
 unfolding course_by
 course_kept decide p h k = if_kept (is_some (refusal_of p h)) (unchanged p) (handled_by decide p h) (λ refused. k) (handled_kept decide p h k)
 
 -- ---- all that happens
 
-run_kept : (p : PrivateCluster) (hs : List Happening) → IsKept p → IsKept (after_all p hs)
+pub run_kept : (p : PrivateCluster) (hs : List Happening) → NamesOnce p → NamesOnce (after_all p hs)
 run_kept p [] k = k
 run_kept p (h ∷ hs) k = run_kept (after p h) hs (course_kept (decision_on p.service_key) p h k)
 
-pub nothing_sent : (is : List ℕ) (p : PrivateCluster) → p.sent ≡ [] → IsKept (with_all_opened is p)
+pub nothing_sent : (is : List ℕ) (p : PrivateCluster) → p.sent ≡ [] → NamesOnce (with_all_opened is p)
 nothing_sent [] p e = record { named = subst AreNamedOnce (sym e) tt; past = subst (Each (IsPast p)) (sym e) tt }
 nothing_sent (i ∷ is) p e = nothing_sent is (with_opened i p) e
+
+pub first_kept : (origin : Origin) (tenant : List ℕ) (rows : ℕ → List Item) → NamesOnce (opened origin tenant rows)
+first_kept origin tenant rows = nothing_sent origin.setting.ring (unopened (replicas tenant) origin tenant rows) refl
 
 pub names_are_given_once : (origin : Origin) (tenant : List ℕ) (rows : ℕ → List Item) (hs : List Happening)
     → AreNamedOnce (after_all (opened origin tenant rows) hs).sent
 names_are_given_once origin tenant rows hs =
-    (run_kept (opened origin tenant rows) hs (nothing_sent origin.setting.ring (unopened (replicas tenant) origin tenant rows) refl)).named
+    (run_kept (opened origin tenant rows) hs (first_kept origin tenant rows)).named

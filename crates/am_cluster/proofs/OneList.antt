@@ -21,7 +21,7 @@ use Rattle.am_cluster.specs.Transfers.{forced}
 use Rattle.am_cluster.proofs.Counted.{arrive_counted, forced_counted, outcome_counted, start_counted, ticked_counted}
 use Rattle.am_cluster.proofs.Listed.{arrive_listed, forced_listed, outcome_listed, start_listed, ticked_listed}
 use Rattle.am_cluster.proofs.ListsKept.{AllWithin, Within, list_at}
-use Rattle.am_cluster.proofs.Named.{Each-same, IsKept, IsPast, given_up_message, handled_kept, nothing_sent}
+use Rattle.am_cluster.proofs.Named.{Each-same, NamesOnce, IsPast, given_up_message, handled_kept, nothing_sent}
 use Rattle.am_cluster.proofs.Names.{Each, Each-map}
 use Rattle.am_cluster.proofs.StatePieces.{AreOne, IsOf, Not, Of, Timely, receiver_of, timely_same}
 use Rattle.am_cluster.proofs.StateTurns.{all_react_one, changed_one, fewer, if_one, react_keeps}
@@ -31,7 +31,7 @@ use Rattle.am_cluster.proofs.StateTurns.{all_react_one, changed_one, fewer, if_o
 -- the same of a cluster that differs in nothing that is told here
 alike : (p q : PrivateCluster) → q.sent ≡ p.sent → ((j : ℕ) → q.at j ≡ p.at j) → ((j : ℕ) → q.roster.up j ≡ p.roster.up j)
     → ((j : ℕ) → q.roster.incarnation j ≡ p.roster.incarnation j) → ((j : ℕ) → q.roster.known j ≡ p.roster.known j)
-    → IsKept q → AreOne p → AreOne q
+    → NamesOnce q → AreOne p → AreOne q
 alike p q sent at up incarnation known kept a =
     fewer p q sent kept
     (λ m body past t. timely_same p q (λ j u. sym (up j) ∙ u) incarnation
@@ -48,7 +48,7 @@ delivered_one decide m (Some message) p a =
     (λ here. arrive_listed decide here message) a
 
 -- one that was given up
-lost_one : (g : Sent → Sent) (same : (s : Sent) → (g s).message ≡ s.message) (p : PrivateCluster) → IsKept (record p { sent = map g p.sent })
+lost_one : (g : Sent → Sent) (same : (s : Sent) → (g s).message ≡ s.message) (p : PrivateCluster) → NamesOnce (record p { sent = map g p.sent })
     → AreOne p → AreOne (record p { sent = map g p.sent })
 lost_one g same p kept a =
     let q : PrivateCluster = record p { sent = map g p.sent } in
@@ -70,7 +70,7 @@ lost_one g same p kept a =
     still h alike_ r name list (inl e) = inl e
     still h alike_ r name list (inr none) = inr (Each-same h alike_ (Not name) r.sent none)
 
-handled_one : (decide : Decide) (p : PrivateCluster) (h : Happening) → IsKept (handled_by decide p h).cluster → AreOne p
+handled_one : (decide : Decide) (p : PrivateCluster) (h : Happening) → NamesOnce (handled_by decide p h).cluster → AreOne p
     → AreOne (handled_by decide p h).cluster
 unfolding handled_by
 handled_one decide p (Asked connection i moment request) kept a =
@@ -108,7 +108,7 @@ run_one : (p : PrivateCluster) (hs : List Happening) → AreOne p → AreOne (af
 run_one p [] a = a
 run_one p (h ∷ hs) a = run_one (after p h) hs (course_one (decision_on p.service_key) p h a)
 
-none_yet : (p : PrivateCluster) → p.sent ≡ [] → IsKept p → AreOne p
+none_yet : (p : PrivateCluster) → p.sent ≡ [] → NamesOnce p → AreOne p
 none_yet p e kept = record {
   kept = kept;
   timely = subst (Each (Timely p)) (sym e) tt;

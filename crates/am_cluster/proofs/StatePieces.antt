@@ -11,7 +11,7 @@ use Rattle.am_cluster.specs.PrivateCluster.{PrivateCluster}
 use Rattle.am_cluster.specs.Sent.{Sent}
 use Rattle.am_cluster.specs.SentFacts.{StateName, is_of_state}
 use Rattle.am_cluster.proofs.ListsKept.{Within, list_at}
-use Rattle.am_cluster.proofs.Named.{IsKept}
+use Rattle.am_cluster.proofs.Named.{NamesOnce}
 use Rattle.am_cluster.proofs.Names.{Each, Each-append, Each-map}
 
 -- ---- pieces of one State
@@ -111,7 +111,7 @@ abbrev pub Timely : PrivateCluster → Message → Type 0
 Timely p m = timely_in p m m.body
 
 pub record AreOne (p : PrivateCluster) : Type 0 where
-  pub kept : IsKept p
+  pub kept : NamesOnce p
   pub timely : Each (Timely p) p.sent
   pub one : (name : StateName) → IsOne p name
 
@@ -275,7 +275,7 @@ timely_same p q ups incs knows m (Got incarnation place) e = tt
 
 -- the cluster once more was sent
 pub step : (p : PrivateCluster) (at : ℕ → Local) (new : List Sent) → Each (New p at) new → Carries p at
-    → IsKept (record p { at = at; sent = p.sent ++ new }) → Each (Timely p) p.sent → ((name : StateName) → IsOne p name)
+    → NamesOnce (record p { at = at; sent = p.sent ++ new }) → Each (Timely p) p.sent → ((name : StateName) → IsOne p name)
     → AreOne (record p { at = at; sent = p.sent ++ new })
 step p at new is_new carries kept timely one = record {
   kept = kept;

@@ -20,7 +20,7 @@ use Rattle.am_cluster.specs.SentFacts.{StateName, is_of_state}
 use Rattle.am_cluster.proofs.Counted.{AreCounted, Counts, just_opened_counted, learned_counted, restart_counted}
 use Rattle.am_cluster.proofs.Listed.{SendsListed, just_opened_listed, learned_sends, restart_listed}
 use Rattle.am_cluster.proofs.ListsKept.{AreCut, AreListed, cut_in, list_at}
-use Rattle.am_cluster.proofs.Named.{IsKept, IsPast, all_react_kept, down_kept, one_kept, opened_kept, put_elsewhere, put_here, said_by_all}
+use Rattle.am_cluster.proofs.Named.{NamesOnce, IsPast, all_react_kept, down_kept, one_kept, opened_kept, put_elsewhere, put_here, said_by_all}
 use Rattle.am_cluster.proofs.Names.{Each, Each-append, Each-map, as_sent}
 use Rattle.am_cluster.proofs.StatePieces.{AreOne, Carries, IsCurrent, IsNone, IsOne, New, Not, Of, Timely, new_in, receiver_of, refuted, same_state, step, timely_in, timely_same}
 
@@ -153,7 +153,7 @@ by_current p q name one same past timely (inl e) = still_kept p q name one.list 
 by_current p q name one same past timely (inr none) =
     inr (subst (Each (Not name)) (sym same) (each_both p p.sent (Not name) (λ m old t. none m old m.body t) past timely))
 
-pub fewer : (p q : PrivateCluster) → q.sent ≡ p.sent → IsKept q → ((m : Message) (body : Body) → IsPast p m → timely_in p m body → timely_in q m body)
+pub fewer : (p q : PrivateCluster) → q.sent ≡ p.sent → NamesOnce q → ((m : Message) (body : Body) → IsPast p m → timely_in p m body → timely_in q m body)
     → ((name : StateName) → IsCurrent q name → WasCurrent p q name) → AreOne p → AreOne q
 fewer p q same kept timely currents a = record {
   kept = kept;
@@ -304,7 +304,7 @@ goes_fresh i p q g name c same m body t =
     c.epoch ∙ g.known name.from ∙ put_here p.roster.known i (p.roster.known i + 1) name.from same in
     omega (arith, at_i, next, epoch)) t
 
-pub goes_one : (i : ℕ) (p q : PrivateCluster) → GoesOn i p q → IsKept q → AreOne p → AreOne q
+pub goes_one : (i : ℕ) (p q : PrivateCluster) → GoesOn i p q → NamesOnce q → AreOne p → AreOne q
 goes_one i p q g kept a =
     fewer p q g.sent kept
     (λ m body past t. timely_same p q (λ j up. sym (g.up j) ∙ up) g.incarnation (λ j. grows j (cases_eq j i)) m body t)
@@ -329,7 +329,7 @@ goes_one i p q g kept a =
       g.at name.from,
     )
 
-pub learns_one : (i : ℕ) (before : List ℕ) (p q : PrivateCluster) → GoesOn i p q → IsKept q → AreOne p
+pub learns_one : (i : ℕ) (before : List ℕ) (p q : PrivateCluster) → GoesOn i p q → NamesOnce q → AreOne p
     → AreOne (react (λ here local. ring_learned here before local) q.clock i q).cluster
 learns_one i before p q g kept a =
     let b : AreOne q = goes_one i p q g kept a in

@@ -2,7 +2,7 @@
 use Rattle.std.specs.Prelude.{ℕ, Bool, ◌&&◌, not, ◌==◌, List, if◌then◌else◌}
 use Rattle.am_item.specs.declared.item.Item.{Item}
 use Rattle.am_cluster.specs.Accepting.{accepted}
-use Rattle.am_cluster.specs.Here.{Here, is_replica_here}
+use Rattle.am_cluster.specs.Here.{Here, is_replica_here, present_at}
 use Rattle.am_cluster.specs.Local.{Local, is_settled}
 use Rattle.am_cluster.specs.Messages.{Ack, Answer, Ask, Body, Get, Got, Message, Put, State, is_answer}
 use Rattle.am_cluster.specs.Operating.{Decide, acked, answered}
@@ -27,7 +27,7 @@ is_meant here message (State incarnation place is_last items) local =
     is_replica_here here && incarnation == here.incarnation
 is_meant here message (Got incarnation place) local =
     is_replica_here here && (incarnation == here.incarnation
-    && message.incarnation == goes_to message.from (here.incarnations message.from) local.settling)
+    && message.incarnation == goes_to message.from (present_at here message.from) local.settling)
 
 pub data Arrival : Type 0 where
   -- it does nothing

@@ -66,3 +66,5 @@ pub mod AcknowledgedWrites
 pub mod Unnamed
 -- clusters whose ring stays as it was opened
 pub mod Steady
+-- where replies go
+pub mod Replying

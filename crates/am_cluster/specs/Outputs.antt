@@ -25,11 +25,12 @@ replier (Some (AskedAs tenant)) = Some (Tenant tenant)
 replier (Some FrontAnswered) = Some Front
 replier (Some Shut) = None
 
--- whose an output is: a reply by what is known of its connection, a notice by its attempt's name, a message by its own
+-- whose an output is: a reply by what is known of its connection, a notice by its attempt's name, a message by its
+-- own. (What goes out of a message are the bytes that spell it, which tell the message.)
 unfoldable pub owner : Watch → Output → Option Owner
 owner v (Reply c bytes) = replier (look c v.table)
 owner v (Notice attempt tries url bytes) = Some (Tenant attempt.tenant)
-owner v (Send message bytes) = Some (Tenant message.tenant)
+owner v (Send message) = Some (Tenant message.tenant)
 
 abbrev pub is_tenant : List ℕ → Option Owner → Bool
 is_tenant t None = false

@@ -7,7 +7,6 @@ use Rattle.am_item.specs.declared.item.Item.{Item}
 use Rattle.am_ring.specs.Replicas.{replicas}
 use Rattle.am_rows.specs.Rows.{stored_in}
 use Rattle.am_ring.specs.Instances.{all_instances}
-use Rattle.am_wire.specs.Messages.{spelling}
 use Rattle.am_cluster.specs.Events.{Notice, Output, Reply, Send}
 use Rattle.am_cluster.specs.Here.{Here}
 use Rattle.am_cluster.specs.Local.{Local, blank}
@@ -51,14 +50,13 @@ here_at p moment i = record {
   epoch = p.roster.known i;
   three = three_at p.replicas_by p.roster i;
   stayed = has_stayed p.replicas_by p.roster i;
-  incarnations = p.roster.incarnation;
+  incarnations = map p.roster.incarnation all_instances;
 }
 
--- what the instance says, as an output: a message is the bytes that spell it
+-- what the instance says, as an output
 abbrev pub output_of : (tenant : List ℕ) → (instance incarnation : ℕ) → Said → Output
 output_of tenant i k (Replies connection bytes) = Reply connection bytes
-output_of tenant i k (Sends m) =
-    Send (record { tenant = tenant; from = m.from; incarnation = m.incarnation; to = m.to; count = m.count }) (spelling m)
+output_of tenant i k (Sends m) = Send m
 output_of tenant i k (Tells s) =
     Notice (record { tenant = tenant; instance = i; incarnation = k; number = s.number }) s.tries s.url s.bytes
 

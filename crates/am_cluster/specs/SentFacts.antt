@@ -1,5 +1,5 @@
 -- Facts about the messages that were sent, for claims over whole runs: names are given once, and a State is one list.
-use Rattle.std.specs.Prelude.{◌≡◌, ℕ, Bool, false, ◌&&◌, ◌==◌, Contains, List, [], ◌∷◌, Option, Some, None, filter, if◌then◌else◌}
+use Rattle.std.specs.Prelude.{◌≡◌, ℕ, Bool, false, ◌&&◌, ◌==◌, Contains, List, [], ◌∷◌, Option, Some, None, filter, find, if◌then◌else◌}
 use Rattle.std.specs.List.{filter_map, list_any}
 use Rattle.am_item.specs.declared.item.Item.{Item}
 use Rattle.am_cluster.specs.Messages.{Body, Get, Answer, Put, Ack, Ask, State, Got, Message}
@@ -15,6 +15,10 @@ sent_by peer sent =
 -- one of these messages has the name of another message
 abbrev pub has_name_of : Message → List Sent → Bool
 has_name_of m sent = list_any (is_named m.from m.incarnation m.to m.count) sent
+
+-- what is found under the name of a message
+abbrev pub found_as : Message → List Sent → Option Sent
+found_as m sent = find (is_named m.from m.incarnation m.to m.count) sent
 
 -- no two messages have one name
 abbrev pub AreNamedOnce : List Sent → Type 0

@@ -4,8 +4,8 @@ use Rattle.am_http.specs.declared.request.Fed.{Fed}
 use Rattle.am_http.specs.declared.request.Fed.TheVariants as fed
 use Rattle.am_http.specs.Verdict.{verdict}
 use Rattle.am_tenant.specs.Names.{same}
-use Rattle.am_cluster.specs.Events.{Event, Open, Bytes, Close, Limits, Tick, Outcome, Deliver, Lose, Join, Leave, Crash, Restart, Learn, Force}
-use Rattle.am_cluster.specs.Happening.{Happening, Asked, Changed, Delivered, Forced, Limited, Lost, Ticked, Tried}
+use Rattle.am_cluster.specs.Events.{Event, Open, Bytes, Close, Limits, Tick, Outcome, Deliver, Lose}
+use Rattle.am_cluster.specs.Happening.{Happening, Asked, Delivered, Limited, Lost, Ticked, Tried}
 use Rattle.am_cluster.specs.Moments.{is_too_late}
 use Rattle.am_cluster.specs.Origins.{Origin}
 use Rattle.am_cluster.specs.Roster.{Crashes, Joins, Learns, Leaves, Restarts, RingEvent, Roster, opened_roster, ring_event_refusal, roster_after}
@@ -100,12 +100,6 @@ watch v (Tick moment) = v
 watch v (Outcome attempt tries moment status) = v
 watch v (Deliver message moment) = v
 watch v (Lose message) = v
-watch v (Join i) = watch_change (Joins i) v
-watch v (Leave i) = watch_change (Leaves i) v
-watch v (Crash i) = watch_change (Crashes i) v
-watch v (Restart i) = watch_change (Restarts i) v
-watch v (Learn i) = watch_change (Learns i) v
-watch v (Force tenant) = v
 
 -- ---- what an event is to the tenant
 
@@ -132,18 +126,12 @@ unfoldable pub adds : List ℕ → Watch → Event → List Happening
 adds t v (Open c i) = []
 adds t v (Bytes c moment piece) = if is_too_late moment then [] else asked_on t c moment piece (look c v.table)
 adds t v (Close c) = []
-adds t v (Limits tenant limits) = only_of t tenant (Limited limits)
+adds t v (Limits tenant limits) = only_of t tenant (Limited (record { usual = limits; alert_bytes = None }))
 adds t v (Tick moment) = Ticked moment ∷ []
 adds t v (Outcome a tries moment status) =
     only_of t a.tenant (Tried a.instance a.incarnation a.number tries moment status)
 adds t v (Deliver m moment) = only_of t m.tenant (Delivered m.from m.incarnation m.to m.count moment)
 adds t v (Lose m) = only_of t m.tenant (Lost m.from m.incarnation m.to m.count)
-adds t v (Join i) = Changed (Joins i) ∷ []
-adds t v (Leave i) = Changed (Leaves i) ∷ []
-adds t v (Crash i) = Changed (Crashes i) ∷ []
-adds t v (Restart i) = Changed (Restarts i) ∷ []
-adds t v (Learn i) = Changed (Learns i) ∷ []
-adds t v (Force tenant) = only_of t tenant Forced
 
 -- what a list of events is to the tenant
 abbrev pub view : List ℕ → Watch → List Event → List Happening

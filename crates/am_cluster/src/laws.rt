@@ -1,22 +1,27 @@
 //! Laws of the private cluster, which no program needs to call.
 
-ghost use Rattle.std.specs.Prelude.{◌≡◌, ℕ, [], ◌∷◌, ◌++◌, List, None, IsTrue, false, flat_map};
+ghost use Rattle.std.specs.Prelude.{◌≡◌, ◌≤◌, ℕ, [], ◌∷◌, ◌++◌, Contains, List, None, Some, IsTrue, false, find};
+ghost use Rattle.std.specs.Prelude.{flat_map};
+ghost use Rattle.std.specs.List.{list_any};
 ghost use Rattle.am_item.specs.declared.item.Item.{Item};
 ghost use Rattle.am_ring.specs.Instances.{in_order};
 ghost use Rattle.am_ring.specs.Replicas.{ReplacesOne};
 ghost use Rattle.am_setup.specs.Setup.{Origin as Setting};
 ghost use Rattle.am_cluster.specs.Courses.{after_all, told_all};
+ghost use Rattle.am_cluster.specs.Events.{Reply};
 ghost use Rattle.am_cluster.specs.Happening.{Happening};
 ghost use Rattle.am_cluster.specs.Here.{Here, is_replica_here};
 ghost use Rattle.am_cluster.specs.Local.{Local, is_settled};
-ghost use Rattle.am_cluster.specs.Messages.{Get};
+ghost use Rattle.am_cluster.specs.Messages.{Get, Message};
 ghost use Rattle.am_cluster.specs.Origins.{Origin};
 ghost use Rattle.am_transfer.specs.Pieces.{Piece, cut};
 ghost use Rattle.am_cluster.specs.Plans.{plan_of};
 ghost use Rattle.am_cluster.specs.PrivateCluster.{PrivateCluster, here_at, opened};
 ghost use Rattle.am_cluster.specs.Reactions.{stays};
+ghost use Rattle.am_cluster.specs.Replying.{WaitOver, connections_of};
 ghost use Rattle.am_cluster.specs.Roster.{RingEvent, Roster, opened_roster, ring_event_refusal, ring_now, roster_after};
-ghost use Rattle.am_cluster.specs.SentFacts.{AreLists, AreNamedOnce};
+ghost use Rattle.am_cluster.specs.Sent.{Sent, is_named, posted, with_given_up};
+ghost use Rattle.am_cluster.specs.SentFacts.{AreLists, AreNamedOnce, found_as};
 ghost use Rattle.am_transfer.specs.Settling.{untouched};
 ghost use Rattle.am_cluster.specs.Steady.{IsSteady, any_moves};
 ghost use Rattle.am_cluster.specs.Ticking.{deadlines, timers_of};
@@ -61,6 +66,31 @@ pub fn settled_from_the_start()
 pub fn messages_are_named_once()
     ensures { (origin : Origin) (tenant : List ℕ) (rows : ℕ → List Item) (hs : List Happening)
         → AreNamedOnce (after_all (opened origin tenant rows) hs).sent }
+{}
+
+/// Each message that was sent is what is found under its name, whatever happened since its tenant's cluster was opened,
+/// and messages of other names change nothing of that. Once it is given up, or lost, nothing is there under its name.
+pub fn messages_are_found_once()
+    ensures found { (origin : Origin) (tenant : List ℕ) (rows : ℕ → List Item) (hs : List Happening) (s : Sent)
+        → Contains (after_all (opened origin tenant rows) hs).sent s
+        → found_as s.message (after_all (opened origin tenant rows) hs).sent ≡ Some s }
+    ensures before { (from incarnation to count : ℕ) (sent later : List Sent)
+        → list_any (is_named from incarnation to count) later ≡ false
+        → find (is_named from incarnation to count) (sent ++ later) ≡ find (is_named from incarnation to count) sent }
+    ensures given_up { (clock from incarnation to count : ℕ) (sent : List Sent)
+        → posted clock from incarnation to count (with_given_up from incarnation to count sent) ≡ None }
+    ensures lost { (clock moment from incarnation to count : ℕ) (sent : List Sent) (m : Message) → clock ≤ moment
+        → posted moment from incarnation to count sent ≡ Some m → posted clock from incarnation to count sent ≡ Some m }
+{}
+
+/// Each reply that a tenant's cluster puts out goes to a connection over which a request of the tenant had come,
+/// and so will the reply of each open operation at each instance.
+pub fn replies_answer_requests()
+    ensures operations { (origin : Origin) (tenant : List ℕ) (rows : ℕ → List Item) (hs : List Happening) (i : ℕ)
+        → WaitOver (Contains (connections_of hs)) ((after_all (opened origin tenant rows) hs).at i).operations }
+    ensures replies { (origin : Origin) (tenant : List ℕ) (rows : ℕ → List Item) (hs : List Happening)
+        (connection : ℕ) (bytes : List ℕ) → Contains (told_all (opened origin tenant rows) hs) (Reply connection bytes)
+        → Contains (connections_of hs) connection }
 {}
 
 /// The pieces of a State that were sent, in one epoch and to one incarnation of its receiver, are those into which

@@ -155,7 +155,7 @@ played (line ∷ lines) play = played lines (done line play)
 abbrev pub reply_in : Output → Option (ℕ × List ℕ)
 reply_in (Reply connection bytes) = Some (connection, bytes)
 reply_in (Notice attempt tries url bytes) = None
-reply_in (Send message bytes) = None
+reply_in (Send message) = None
 
 abbrev pub replies : Play → List (ℕ × List ℕ)
 replies play = filter_map reply_in play.outputs

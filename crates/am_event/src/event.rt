@@ -1,0 +1,55 @@
+use crate::output::AttemptName;
+use am_http::ConnectionId;
+use am_limit::Limits;
+use am_messages::MessageName;
+use am_tenant::TenantName;
+use am_text::Octets;
+
+/// The greatest moment that an event may tell, in milliseconds since 1970.
+pub const LAST_MOMENT: u64 = 250_000_000_000_000;
+
+/// One thing that happens. Events are handled one after the other, each wholly before the next.
+#[derive(Drop)]
+pub enum Event {
+    /// A connection is opened to an instance. A known name starts anew, with no bytes.
+    Open {
+        connection: ConnectionId,
+        instance: u8,
+    },
+    /// Bytes of a connection came, at a moment in milliseconds since 1970.
+    Bytes {
+        connection: ConnectionId,
+        moment: u64,
+        piece: Octets,
+    },
+    /// The client of a connection left: what came of it is dropped, and no reply is owed. Its name stays used.
+    Close {
+        connection: ConnectionId,
+    },
+    /// A tenant has these limits from now on.
+    Limits {
+        tenant: TenantName,
+        limits: Limits,
+    },
+    /// The clock is at this moment, in milliseconds since 1970.
+    Tick {
+        moment: u64,
+    },
+    /// A try of an attempt came to an end, at a moment in milliseconds since 1970: with the status of the webhook's
+    /// answer, or without an answer.
+    Outcome {
+        attempt: AttemptName,
+        tries: u8,
+        moment: u64,
+        status: Option<u16>,
+    },
+    /// A message reaches its receiver, at a moment in milliseconds since 1970; it may again.
+    Deliver {
+        message: MessageName,
+        moment: u64,
+    },
+    /// The transport gave a message up, or delivers it no more.
+    Lose {
+        message: MessageName,
+    },
+}
