@@ -33,7 +33,7 @@ use Rattle.am_transfer.specs.Settling.{Settling, is_merged, now_settled, with_sp
 use Rattle.am_transfer.specs.Tenants.{progress_of}
 use Rattle.am_transfer.specs.Timers.{AreTimed, Room}
 use Rattle.am_site.specs.Here.{here_of}
-use Rattle.am_site.specs.InOrder.{IsAtPosition, IsInOrder, StopsMoving}
+use Rattle.am_site.specs.InOrder.{IsAtPosition, IsInOrder, IsSound, StopsMoving}
 use Rattle.am_site.specs.Locals.{local_of}
 use Rattle.am_site.specs.Putting.{StopsPutting, StopsSettling, StopsTaking}
 use Rattle.am_site.specs.Reacting.{Keeps, KeepsOthers, Moves, Reacts, position_in}
@@ -165,12 +165,14 @@ module _ (refused : List (List ℕ)) (given : Given) (items : List Item) (old mi
 -- what is moved is in order
 pub is_in_order : (here : Here) (old mid new : Site) → IsInOrder here old → Keeps old mid
     → (is_some (local_of here.tenant mid).settling.asked_at ≡ true → is_some (local_of here.tenant old).settling.asked_at ≡ true)
+    → IsSound here (local_of here.tenant mid)
     → local_of here.tenant new ≡ local_of here.tenant mid → new.settling ≡ mid.settling → IsAtPosition here new → IsInOrder here new
-is_in_order here old mid new order kept asks same room at = record {
+is_in_order here old mid new order kept asks sound same room at = record {
   position = λ some. at;
   asked = λ some.
       ap (λ (r : Room). (progress_of here.tenant r.progress).asked) room ∙ kept.asked here.tenant
       ∙ order.asked (asks (sym (ap (λ (l : Local). is_some l.settling.asked_at) same) ∙ some));
+  sound = subst (IsSound here) (sym same) sound;
 }
 
 -- .. and moves nothing of others

@@ -38,6 +38,7 @@ use Rattle.am_site.specs.Locals.{local_of}
 use Rattle.am_site.specs.declared.site.Site.{Site}
 use Rattle.am_site.proofs.Listed.{due_among, has-both, has-ordered, never, numbered, other_kind, rising-ordered, together, together_other}
 use Rattle.am_site.proofs.Planned.{planned_as}
+use Rattle.am_site.proofs.SoundSettling.{asks_apart}
 
 -- a key of one kind names one number
 operation_exact : (a b : ℕ) → OperationKey a ≡ OperationKey b → a ≡ b
@@ -93,7 +94,7 @@ module _ (here : Here) (site : Site) (timely : IsTimely here site) (x : Timer) w
     where
       by : (key : Key) → x.name.key ≡ key → has_timer (deadlines t l) x ≡ (own && option_map_or (λ due. due == x.due) (deadline_for key l.operations) false)
       by (OperationKey n) is =
-          numbered t x (λ (o : Operation). o.number) due_of OperationKey operation_exact n is l.operations timely.once.operations
+          numbered t x (λ (o : Operation). o.number) due_of OperationKey operation_exact n is l.operations timely.order.sound.numbered
           ∙ ap (λ b. own && b) (found_deadline x.due n l.operations)
       by (GroupKey key) is = other_kind t x (λ (o : Operation). o.number) due_of OperationKey l.operations (λ n h. let apart : GroupKey key ≡ OperationKey n = sym is ∙ h in cc) ∙ never own
       by (RetryKey n) is = other_kind t x (λ (o : Operation). o.number) due_of OperationKey l.operations (λ m h. let apart : RetryKey n ≡ OperationKey m = sym is ∙ h in cc) ∙ never own
@@ -125,7 +126,7 @@ module _ (here : Here) (site : Site) (timely : IsTimely here site) (x : Timer) w
   module _ (i : ℕ) (is : x.name.key ≡ PushKey i) where
     pushes_are : has_timer pushes x ≡ (own && is_at (push_due (at_number i l.settling.pushes) None) x.due)
     pushes_are =
-        numbered t x (λ (e : ℕ × Push). e.0) pushed_again PushKey push_exact i is l.settling.pushes timely.once.pushes
+        numbered t x (λ (e : ℕ × Push). e.0) pushed_again PushKey push_exact i is l.settling.pushes timely.order.sound.pushes
         ∙ ap (λ due. own && is_at due x.due) (found_push i l.settling.pushes)
 
     asks_are : has_timer asks x ≡ (own && (is_among i (asked here l) && (moment_after (unwrap_or l.settling.asked_at 0) again_after == x.due)))
@@ -164,7 +165,7 @@ module _ (here : Here) (site : Site) (timely : IsTimely here site) (x : Timer) w
             ap (λ b. has_timer pushes x || b) (asks_are ∙ ap (λ o. own && (is_among i (if is_some o then lacking (others here) l.settling else []) && (moment_after (unwrap_or l.settling.asked_at 0) again_after == x.due))) at)
             ∙ alone (has_timer pushes x) ∙ pushes_are
         by (Some last) at =
-            let none : l.settling.pushes ≡ [] = timely.once.apart (ap is_some at) in
+            let none : l.settling.pushes ≡ [] = asks_apart here l timely.order.sound (ap is_some at) in
             let no_pushes : has_timer pushes x ≡ false = ap (λ es. has_timer (map again_timer es) x) none in
             ap (λ b. b || has_timer asks x) no_pushes
             ∙ asks_are

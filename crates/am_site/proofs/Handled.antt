@@ -22,6 +22,7 @@ use Rattle.am_site.specs.Reacting.{Reacts}
 use Rattle.am_site.specs.declared.said.Said.{Said as Spoken}
 use Rattle.am_site.specs.declared.site.Site.{Site}
 use Rattle.am_site.proofs.Quiet.{IsLike, IsQuiet, flushed_quiet}
+use Rattle.am_site.proofs.Sound.{KeepsSound, flushed_sound, only_if_sound, retried_sound}
 
 module _ (here : Here) (muted : List (List Label)) where
   module _ (l : Local) where
@@ -51,6 +52,13 @@ module _ (here : Here) (muted : List (List Label)) where
       by false = (refl, (refl, refl))
   noticed_quiet (RetryKey number) l = (refl, (refl, refl))
   noticed_quiet (PushKey to) l = (refl, (refl, refl))
+
+  pub noticed_sound : (key : Key) → KeepsSound here (notified_for here muted key)
+  noticed_sound (OperationKey number) l sound = sound
+  noticed_sound (GroupKey key) l sound =
+      only_if_sound here (is_flush_due here key l) (flushed here muted (group_in key)) (flushed_sound here muted (group_in key)) l sound
+  noticed_sound (RetryKey number) l sound = retried_sound here number l sound
+  noticed_sound (PushKey to) l sound = sound
 
 -- ---- what is stored
 

@@ -17,6 +17,7 @@ pub mod Listed
 pub mod Merged
 pub mod Moving
 pub mod Noticed
+pub mod Opened
 pub mod Planned
 pub mod Positioned
 pub mod Positions
@@ -26,6 +27,9 @@ pub mod Reacting
 pub mod Retired
 pub mod SentAgain
 pub mod Settled
+pub mod Sound
+pub mod SoundRing
+pub mod SoundSettling
 pub mod Strict
 pub mod Taken
 pub mod Talking

@@ -33,11 +33,12 @@ use Rattle.am_telling.specs.declared.telling.Telling.TheVariants.{Notify, Keep}
 use Rattle.am_transfer.specs.Peers.{Peer, at_peer}
 use Rattle.am_transfer.specs.Pieces.{Piece, SentList, named_at, pieces_to_send}
 use Rattle.am_transfer.specs.Settling.{ended_by, list_for as sent_list_for, with_list, with_push, without_push}
-use Rattle.am_site.specs.InOrder.{IsInOrder}
+use Rattle.am_site.specs.InOrder.{IsInOrder, IsSound}
 use Rattle.am_site.specs.Locals.{local_of}
 use Rattle.am_site.specs.Reacting.{Reacts}
 use Rattle.am_site.specs.declared.said.Said.{Said as Spoken}
 use Rattle.am_site.specs.declared.site.Site.{Site}
+use Rattle.am_site.proofs.Sound.{KeepsSound}
 
 -- the moments, and what of settling is looked at, are the same
 abbrev pub IsLike : Local → Local → Type 0
@@ -55,9 +56,11 @@ like_itself l = (refl, (refl, refl))
 
 -- ---- in order
 
-pub quiet_in_order : (here : Here) (react : Local → Reaction) (old new : Site) (x y : List Spoken) → IsQuiet react
+-- what was sound is where this happens
+pub quiet_in_order_where : (here : Here) (react : Local → Reaction) (old new : Site) (x y : List Spoken) → IsQuiet react
+    → (IsSound here (local_of here.tenant old) → IsSound here (react (local_of here.tenant old)).local)
     → Reacts here.tenant react old new x y → IsInOrder here old → IsInOrder here new
-quiet_in_order here react old new x y quiet reacts order =
+quiet_in_order_where here react old new x y quiet keeps reacts order =
     let made : local_of here.tenant new ≡ (react (local_of here.tenant old)).local = own here.tenant _ _ _ (reacts.local here.tenant) in
     let like : IsLike (local_of here.tenant old) (react (local_of here.tenant old)).local = quiet (local_of here.tenant old) in
     record {
@@ -68,7 +71,13 @@ quiet_in_order here react old new x y quiet reacts order =
       asked = λ some.
           reacts.keeps.asked here.tenant
           ∙ order.asked (ap is_some (sym (ap (λ (l : Local). l.settling.asked_at) made ∙ like.1.1)) ∙ some);
+      sound = subst (IsSound here) (sym made) (keeps order.sound);
     }
+
+-- .. and wherever it happens
+pub quiet_in_order : (here : Here) (react : Local → Reaction) (old new : Site) (x y : List Spoken) → IsQuiet react → KeepsSound here react
+    → Reacts here.tenant react old new x y → IsInOrder here old → IsInOrder here new
+quiet_in_order here react old new x y quiet keeps = quiet_in_order_where here react old new x y quiet (keeps (local_of here.tenant old))
 
 -- ---- parts
 

@@ -19,7 +19,7 @@ use Rattle.am_transfer.specs.Settling.{Push, Settling, asking, is_merged, lackin
 use Rattle.am_transfer.specs.Tenants.{Becomes, progress_of}
 use Rattle.am_transfer.specs.Timers.{AreTimed, Room}
 use Rattle.am_transfer.specs.declared.again.Again.TheVariants as again
-use Rattle.am_site.specs.InOrder.{IsInOrder}
+use Rattle.am_site.specs.InOrder.{IsInOrder, IsSound}
 use Rattle.am_site.specs.Locals.{local_of}
 use Rattle.am_site.specs.Reacting.{Reacts, StopsReacting, asked_in}
 use Rattle.am_site.specs.declared.said.Said.{Said as Spoken}
@@ -182,9 +182,9 @@ module _ (here : Here) (to : ℕ) (held : List Item) (old new : Site) (node : ne
   abbrev after : Progress
   after = progress_of here.tenant new.settling.progress
 
-  pub again_in_order : after ≡ sent_again to here.moment held before → IsInOrder here old → IsInOrder here new
+  pub again_in_order : after ≡ sent_again to here.moment held before → IsSound here (local_of here.tenant new) → IsInOrder here old → IsInOrder here new
   unfolding local_of
-  again_in_order is order = by (at_number to before.settling.pushes) (is_asking to before) refl is
+  again_in_order is sound order = by (at_number to before.settling.pushes) (is_asking to before) refl is
     where
       first : (a b : Bool) → (a && b) ≡ true → a ≡ true
       first true b both = refl
@@ -194,7 +194,7 @@ module _ (here : Here) (to : ℕ) (held : List Item) (old new : Site) (node : ne
           → after ≡ record before { settling = s } → IsInOrder here new
       stays_so s settled asks is =
           stays_in_order here old new node (ap (λ (q : Progress). q.settling.has_settled) is ∙ settled)
-          (λ some. ap (λ (q : Progress). q.asked) is ∙ order.asked (asks (sym (ap (λ (q : Progress). is_some q.settling.asked_at) is) ∙ some))) order
+          (λ some. ap (λ (q : Progress). q.asked) is ∙ order.asked (asks (sym (ap (λ (q : Progress). is_some q.settling.asked_at) is) ∙ some))) sound order
 
       by : (found : Option Push) (b : Bool) → is_asking to before ≡ b → after ≡ on (sent_by found b to here.moment held) before → IsInOrder here new
       by (Some push) b asked is = stays_so (pushed (peer to push.incarnation) here.moment held before.settling) refl (λ some. some) is

@@ -1,7 +1,7 @@
 -- A piece of a State that came, and a Got.
 use Rattle.std.proofs.Common.{◌≡◌, ℕ, Bool, true, false, nat_le, List, [], length, Option, unwrap_or, ap, refl, sym, ◌∙◌}
 use Rattle.am_cluster.specs.Accepting.{accepted}
-use Rattle.am_cluster.specs.Here.{Here, others}
+use Rattle.am_cluster.specs.Here.{Here, others, present_at}
 use Rattle.am_cluster.specs.Local.{Local}
 use Rattle.am_cluster.specs.Reactions.{Reaction, stays, ◌>>◌}
 use Rattle.am_cluster.specs.Sending.{greatest_place, send}
@@ -113,16 +113,16 @@ stops_taking refused given sender place is_last items site StoreRefused stops = 
 
 -- ---- a Got that came
 
-named : (here : Here) (from : Peer) (place : ℕ) (l : Local) → is_got from (here.incarnations from.instance) l.settling ≡ true
-    → settles (after_got from (here.incarnations from.instance) place) l ≡ take_got here from place l
+named : (here : Here) (from : Peer) (place : ℕ) (l : Local) → is_got from (present_at here from.instance) l.settling ≡ true
+    → settles (after_got from (present_at here from.instance) place) l ≡ take_got here from place l
 unfolding take_got
 named here from place l e = rw e refl
 
 pub got_taken : (tenant : List ℕ) (here : Here) (from : Peer) (place : ℕ) (old : Site) (room : Room)
-    → is_got from (here.incarnations from.instance) (local_of tenant old).settling ≡ true
-    → Becomes tenant (on (after_got from (here.incarnations from.instance) place)) old.settling.progress room.progress → (AreTimed old.settling → AreTimed room)
+    → is_got from (present_at here from.instance) (local_of tenant old).settling ≡ true
+    → Becomes tenant (on (after_got from (present_at here from.instance) place)) old.settling.progress room.progress → (AreTimed old.settling → AreTimed room)
     → Does tenant (take_got here from place) old (with_room old room)
 got_taken tenant here from place old room is becomes timed =
-    let present = here.incarnations from.instance in
+    let present = present_at here from.instance in
     does_from tenant (settles (after_got from present place)) (take_got here from place) old (named here from place (local_of tenant old) is) (with_room old room)
     (settling_does tenant (after_got from present place) (on (after_got from present place)) old room (λ p. refl) becomes timed (λ p. refl))

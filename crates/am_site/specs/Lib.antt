@@ -16,3 +16,5 @@ pub mod Due
 pub mod InOrder
 -- what it does with messages that come
 pub mod Arriving
+-- what the opening of its store makes of it
+pub mod Opening

@@ -3,6 +3,7 @@
 use Rattle.std.specs.Prelude.{◌≡◌, ℕ, ◌++◌, true, false, List, [], ◌∷◌, map, Option, Some, None, if◌then◌else◌}
 use Rattle.am_cluster.specs.Local.{Local}
 use Rattle.am_cluster.specs.Reactions.{Reaction, Replies, Said, Sends, Tells}
+use Rattle.am_cluster.specs.Retiring.{retired}
 use Rattle.am_item.specs.declared.fault.Fault.{Fault}
 use Rattle.am_item.specs.declared.fault.Fault.TheVariants.{OutOfMemory, CountsExhausted, PatternNotBuilt, StoreRefused}
 use Rattle.am_node.specs.Held.{local_of as local_in_node}
@@ -74,6 +75,11 @@ pub record Does (tenant : List ℕ) (react : Local → Reaction) (old new : Site
   pub local : Makes tenant (λ l. (react l).local) old new
   pub said : (react (local_of tenant old)).said ≡ []
   pub fits : (react (local_of tenant old)).fits ≡ true
+  pub keeps : Keeps old new
+
+-- of all tenants what is retired at a moment goes
+pub record Retires (moment : ℕ) (old new : Site) : Type 0 where
+  pub local : (t : List ℕ) → local_of t new ≡ retired moment (local_of t old)
   pub keeps : Keeps old new
 
 -- why it stops: a count would have passed the greatest, or a message the greatest length; or memory ran out

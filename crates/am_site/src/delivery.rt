@@ -1,11 +1,12 @@
 //! Notices on their way.
 
 ghost use Rattle.std.specs.Prelude.{◌≡◌, ℕ, List, IfErr, OnOk};
-ghost use Rattle.am_cluster.specs.Delivery.{outcome};
+ghost use Rattle.am_cluster.specs.Delivery.{is_awaited, outcome};
 ghost use Rattle.am_node.specs.Held.{local_of as local_in_node};
 ghost use Rattle.am_rows.specs.Rows.{stored_in};
 ghost use Rattle.am_site.specs.Here.{here_of};
 ghost use Rattle.am_site.specs.InOrder.{IsInOrder};
+ghost use Rattle.am_site.specs.Locals.{local_of};
 ghost use Rattle.am_site.specs.Notices.{put_to_others};
 ghost use Rattle.am_site.specs.Reacting.{Reacts, StopsReacting};
 
@@ -13,10 +14,18 @@ use crate::here::Here;
 use crate::said::Said;
 use crate::site::Site;
 use am_item::{Fault, SharedItem};
+use am_tenant::TenantName;
 use am_wire::{Body, Items};
 use std::alloc::Global;
 
 impl Site {
+    /// Whether the outcome of this try of a tenant's attempt is awaited.
+    pub fn is_awaited(&self, tenant: &TenantName, number: u64, tries: u8) -> bool
+        ensures { result ≡ is_awaited number tries (local_of tenant.now self.now) }
+    {
+        self.node.is_awaited(tenant, number, tries)
+    }
+
     /// Takes the outcome of a try of a tenant's attempt at a notice: the status of the webhook's answer, or `None`
     /// where there was none. A notice that was delivered is recorded, and the record is put to the other two replicas.
     /// Nothing changes where no outcome of that try is awaited.

@@ -1,7 +1,7 @@
 //! What an instance goes by.
 
 ghost use Rattle.std.specs.Prelude.{◌≡◌, IfOk};
-ghost use Rattle.am_cluster.specs.Here.{is_replica_here, others, replica_here};
+ghost use Rattle.am_cluster.specs.Here.{is_replica_here, others, present_at, replica_here};
 ghost use Rattle.am_site.specs.Here.{here_of};
 
 use am_context::Context;
@@ -50,7 +50,7 @@ impl<'a> Here<'a> {
     }
     // The present incarnation of an instance.
     pub(crate) fn present(&self, instance: Instance) -> u32
-        ensures { result ≡ (here_of self.now).incarnations instance }
+        ensures { result ≡ present_at (here_of self.now) instance }
     {
         let index = usize::from(instance.number()) - 1;
         self.incarnations.get(index).copied().unwrap_or(0)

@@ -14,6 +14,7 @@ mod expiring;
 mod handling;
 mod here;
 mod messages;
+mod opening;
 mod operating;
 mod pieces;
 mod position;

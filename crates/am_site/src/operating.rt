@@ -37,6 +37,7 @@ impl Site {
         ensures fault { IfErr result
             (StopsReacting here.now.tenant.now (start (here_of here.now) connection request) self.old) }
         ensures order { IsInOrder (here_of here.now) self.old → OnOk result (IsInOrder (here_of here.now) self.new) }
+        ensures node { self.new.node ≡ self.old.node }
     {
         let operation = self.begin(alloc, here, connection, request)?;
         let body = Body::Get { operation };
@@ -79,6 +80,7 @@ impl Site {
         ensures fault { IfErr result (λ fault. StopsReacting here.now.tenant.now (begin
             (operation_for (here_of here.now) connection request
             ((local_of here.now.tenant.now self.old).ledger.operations + 1))) self.old fault) }
+        ensures node { self.new.node ≡ self.old.node }
     {
         let (moment, epoch) = (here.moment, here.epoch);
         self.operations

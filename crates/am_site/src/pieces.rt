@@ -1,10 +1,12 @@
 //! States: what a settled replica holds goes out in pieces.
 
-ghost use Rattle.std.specs.Prelude.{◌≡◌, IfErr, OnOk};
+ghost use Rattle.std.specs.Prelude.{◌≡◌, IfErr, OnOk, true};
+ghost use Rattle.am_cluster.specs.Local.{is_settled};
 ghost use Rattle.am_cluster.specs.Reactions.{each};
 ghost use Rattle.am_cluster.specs.Transfers.{push, send_piece};
 ghost use Rattle.am_site.specs.Here.{here_of};
 ghost use Rattle.am_site.specs.InOrder.{IsInOrder};
+ghost use Rattle.am_site.specs.Locals.{local_of};
 ghost use Rattle.am_site.specs.Reacting.{Reacts, StopsReacting};
 
 use crate::here::Here;
@@ -33,7 +35,8 @@ impl Site {
             self.old self.new outbox.old.items outbox.new.items) }
         ensures fault { IfErr result
             (StopsReacting here.now.tenant.now (push (here_of here.now) receiver.now) self.old) }
-        ensures order { IsInOrder (here_of here.now) self.old → OnOk result (IsInOrder (here_of here.now) self.new) }
+        ensures order { is_settled (here_of here.now) (local_of here.now.tenant.now self.old) ≡ true
+            → IsInOrder (here_of here.now) self.old → OnOk result (IsInOrder (here_of here.now) self.new) }
         ensures node { self.new.node ≡ self.old.node }
     {
         let held = self.node.held(here.tenant).items(alloc)?;

@@ -11,6 +11,7 @@ ghost use Rattle.am_pattern.specs.Asking.{Asked};
 ghost use Rattle.am_replica.specs.Storing.{fault_in};
 ghost use Rattle.am_transfer.specs.Progress.{is_got};
 ghost use Rattle.am_transfer.specs.Settling.{goes_to};
+ghost use Rattle.am_cluster.specs.Here.{present_at};
 ghost use Rattle.am_site.specs.Here.{here_of};
 ghost use Rattle.am_site.specs.InOrder.{IsInOrder};
 ghost use Rattle.am_site.specs.Locals.{local_of};
@@ -126,7 +127,7 @@ impl Site {
         from: Peer,
         place: u32,
     ) -> Result<(), AllocError>
-        requires { is_got from ((here_of here.now).incarnations from.instance)
+        requires { is_got from (present_at (here_of here.now) from.instance)
             (local_of here.now.tenant.now self.old).settling ≡ true }
         ensures does { OnOk result (Does here.now.tenant.now (take_got (here_of here.now) from place)
             self.old self.new) }
@@ -142,7 +143,7 @@ impl Site {
     // To which incarnation of a replica the State now goes.
     #[tactic(auto, unfolding(crate::specs::Locals::local_of))]
     pub(crate) fn goes_to(&self, here: &Here, to: Instance) -> u32
-        ensures { result ≡ goes_to to ((here_of here.now).incarnations to)
+        ensures { result ≡ goes_to to (present_at (here_of here.now) to)
             (local_of here.now.tenant.now self.now).settling }
     {
         let present = here.present(to);

@@ -1,8 +1,8 @@
 //! Ticks, in steps: what is retired goes, and then a group is flushed or an attempt tried again for a timer of notices.
 
 ghost use Rattle.std.specs.Prelude.{◌≡◌, ℕ, List, IfErr, OnOk, true};
+ghost use Rattle.am_cluster.specs.Here.{Here as ClusterHere};
 ghost use Rattle.am_cluster.specs.Reactions.{each};
-ghost use Rattle.am_cluster.specs.Retiring.{retired};
 ghost use Rattle.am_node.specs.Held.{local_of as local_in_node};
 ghost use Rattle.am_node.specs.Plans.{IsPlanned};
 ghost use Rattle.am_node.specs.Retiring.{retired as retired_in_node};
@@ -15,7 +15,7 @@ ghost use Rattle.am_site.specs.Here.{here_of};
 ghost use Rattle.am_site.specs.InOrder.{IsInOrder};
 ghost use Rattle.am_site.specs.Locals.{local_of};
 ghost use Rattle.am_site.specs.Notices.{notified_for, reported};
-ghost use Rattle.am_site.specs.Reacting.{Keeps, Reacts, StopsReacting};
+ghost use Rattle.am_site.specs.Reacting.{Reacts, Retires, StopsReacting};
 
 use crate::here::Here;
 use crate::said::Said;
@@ -41,8 +41,8 @@ impl Site {
         store: &mut R,
     ) -> Result<(), Fault>
         requires { R.is_open store.old ≡ true }
-        ensures retired { OnOk result ((t : List ℕ) → local_of t self.new ≡ retired moment (local_of t self.old)) }
-        ensures keeps { OnOk result (Keeps self.old self.new) }
+        ensures retires { OnOk result (Retires moment self.old self.new) }
+        ensures order { (here : ClusterHere) → IsInOrder here self.old → OnOk result (IsInOrder here self.new) }
         ensures planned { OnOk result ((t : List ℕ) → IsPlanned (local_in_node t self.new.node)) }
         ensures fault { IfErr result (StopsRetiring moment (λ t. (local_of t self.old).held)) }
         ensures clean { R.is_clean store.new ≡ true → R.is_clean store.old ≡ true }

@@ -13,6 +13,7 @@ use Rattle.am_site.specs.Reacting.{replied, said_in}
 use Rattle.am_site.proofs.Acks.{acked_fits, acked_local, acked_said}
 use Rattle.am_site.specs.Here.{here_of}
 use Rattle.am_site.proofs.Quiet.{acked_quiet, quiet_in_order}
+use Rattle.am_site.proofs.Sound.{acked_sound}
 use Rattle.am_site.proofs.site.Site.acknowledge.Goals as goal
 
 pub returns-clause-reacts : goal.returns-clause-reacts
@@ -46,5 +47,5 @@ returns-clause-order c order =
     let target = c.args.target in
     on_ok_weaker c.push_reply.result
     (λ reacts. quiet_in_order here (acked target.number target.epoch c.args.from) c.args.self.now _ c.args.outbox.now.items c.push_reply.new.outbox.items
-    (acked_quiet here target.number target.epoch c.args.from) reacts order)
+    (acked_quiet here target.number target.epoch c.args.from) (acked_sound here target.number target.epoch c.args.from) reacts order)
     (returns-clause-reacts c)

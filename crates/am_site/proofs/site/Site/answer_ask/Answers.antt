@@ -9,6 +9,7 @@ use Rattle.am_site.specs.Locals.{local_of}
 use Rattle.am_site.proofs.Reacting.{nothing}
 use Rattle.am_site.proofs.Settled.{answer_as, answers_none, settled_sends, settled_stops}
 use Rattle.am_site.proofs.Quiet.{answer_ask_quiet, quiet_in_order}
+use Rattle.am_site.proofs.SoundSettling.{answer_ask_sound}
 use Rattle.am_site.proofs.site.Site.answer_ask.Goals as goal
 
 pub returns-then-not-is_settled-clause-reacts : goal.returns-then-not-is_settled-clause-reacts
@@ -52,5 +53,5 @@ pub returns-clause-order : goal.returns-clause-order
 returns-clause-order c order =
     let here = here_of c.args.here.now in
     on_ok_weaker c.send_pieces.result
-    (λ reacts. quiet_in_order here (answer_ask here c.args.asker.now) c.args.self.now c.send_pieces.new.self c.args.outbox.now.items c.send_pieces.new.outbox.items (answer_ask_quiet here c.args.asker.now) reacts order)
+    (λ reacts. quiet_in_order here (answer_ask here c.args.asker.now) c.args.self.now c.send_pieces.new.self c.args.outbox.now.items c.send_pieces.new.outbox.items (answer_ask_quiet here c.args.asker.now) (answer_ask_sound here c.args.asker.now) reacts order)
     (returns-clause-reacts c)

@@ -8,6 +8,7 @@ use Rattle.am_site.specs.Locals.{local_of}
 use Rattle.am_site.proofs.Answers.{answers, answers_not}
 use Rattle.am_site.proofs.Reacting.{nothing, reacts_from, stops_from}
 use Rattle.am_site.proofs.Quiet.{got_quiet, quiet_in_order}
+use Rattle.am_site.proofs.SoundSettling.{answer_get_sound}
 use Rattle.am_site.proofs.site.Site.answer_get.Goals as goal
 
 pub returns-then-not-is_settled-clause-reacts : goal.returns-then-not-is_settled-clause-reacts
@@ -48,5 +49,5 @@ pub returns-clause-order : goal.returns-clause-order
 returns-clause-order c order =
     let here = here_of c.args.here.now in
     on_ok_weaker c.send_in.result
-    (λ reacts. quiet_in_order here (answer_get here c.args.asker.now c.args.operation) c.args.self.now c.send_in.new.self c.args.outbox.now.items c.send_in.new.outbox.items (got_quiet here c.args.asker.now c.args.operation) reacts order)
+    (λ reacts. quiet_in_order here (answer_get here c.args.asker.now c.args.operation) c.args.self.now c.send_in.new.self c.args.outbox.now.items c.send_in.new.outbox.items (got_quiet here c.args.asker.now c.args.operation) (answer_get_sound here c.args.asker.now c.args.operation) reacts order)
     (returns-clause-reacts c)

@@ -7,6 +7,8 @@ use Rattle.am_transfer.specs.Settling.{Settling}
 use Rattle.am_site.specs.Here.{here_of}
 use Rattle.am_site.specs.Locals.{local_of}
 use Rattle.am_site.proofs.Arrived.{is_in_order, position_keeps, put_held, put_settling, put_sinces, still_stored, still_there, stops_put_moving, stops_putting, then_moves}
+use Rattle.am_site.proofs.InOrder.{made_sound}
+use Rattle.am_site.proofs.SoundSettling.{take_put_sound}
 use Rattle.am_site.proofs.site.Site.arrive_put.Goals as goal
 
 pub returns-clause-moves : goal.returns-clause-moves
@@ -27,6 +29,8 @@ returns-clause-order g c =
     is_in_order (here_of given) c.args.self.now c.take_put.new.self c.take_position.new.self c.requires.order c.in_ok-take_put.ensures.reacts.keeps
     (λ asks. sym (ap (λ (l : Local). is_some l.settling.asked_at) (own s _ _ _ (c.in_ok-take_put.ensures.reacts.local s))
     ∙ ap (λ (x : Settling). is_some x.asked_at) (put_settling (here_of given) put.from put.operation put.items.now old)) ∙ asks)
+    (made_sound (here_of given) (take_put (here_of given) put.from put.operation put.items.now) c.args.self.now c.take_put.new.self
+    (take_put_sound (here_of given) put.from put.operation put.items.now) c.in_ok-take_put.ensures.reacts.local c.requires.order.sound)
     (c.in_ok-take_position.ensures.stays s) c.take_position.ensures.settling c.in_ok-take_position.ensures.position
 
 pub returns-in_err-take_position-clause-fault : goal.returns-in_err-take_position-clause-fault

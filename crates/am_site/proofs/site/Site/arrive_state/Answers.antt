@@ -6,6 +6,8 @@ use Rattle.am_context.proofs.Changes.{own}
 use Rattle.am_site.specs.Here.{here_of}
 use Rattle.am_site.specs.Locals.{local_of}
 use Rattle.am_site.proofs.Arrived.{is_in_order, position_keeps, settles_unanswered, state_asked, state_held, state_settled, state_sinces, still_stored, still_there, stops_before_moving, stops_putting, stops_state_moving, then_moves}
+use Rattle.am_site.proofs.InOrder.{made_sound}
+use Rattle.am_site.proofs.SoundSettling.{take_state_sound}
 use Rattle.am_site.proofs.site.Site.arrive_state.Goals as goal
 
 pub returns-clause-moves : goal.returns-clause-moves
@@ -24,6 +26,8 @@ returns-clause-order g c =
     is_in_order (here_of given) c.args.self.now c.take_state.new.self c.take_position.new.self c.requires.order c.in_ok-take_state.ensures.reacts.keeps
     (λ asks. state_asked (here_of given) piece.from piece.place piece.is_last piece.items.now (local_of s c.args.self.now)
     (sym (ap (λ (l : Local). is_some l.settling.asked_at) (own s _ _ _ (c.in_ok-take_state.ensures.reacts.local s))) ∙ asks))
+    (made_sound (here_of given) (take_state (here_of given) piece.from piece.place piece.is_last piece.items.now) c.args.self.now c.take_state.new.self
+    (take_state_sound (here_of given) piece.from piece.place piece.is_last piece.items.now) c.in_ok-take_state.ensures.reacts.local c.requires.order.sound)
     (c.in_ok-take_position.ensures.stays s) c.take_position.ensures.settling c.in_ok-take_position.ensures.position
 
 pub returns-in_err-take_position-clause-fault : goal.returns-in_err-take_position-clause-fault

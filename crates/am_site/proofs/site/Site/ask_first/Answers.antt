@@ -12,7 +12,8 @@ use Rattle.am_transfer.specs.Timers.{Room}
 use Rattle.am_site.specs.Here.{here_of}
 use Rattle.am_site.specs.Locals.{local_of}
 use Rattle.am_site.proofs.Reacting.{nothing, stops_from}
-use Rattle.am_site.proofs.InOrder.{asks_in_order}
+use Rattle.am_site.proofs.InOrder.{asks_in_order, made_sound}
+use Rattle.am_site.proofs.SoundSettling.{asks_first_sound}
 use Rattle.am_site.proofs.Moving.{in_turn_moves, moves, moves_from, stops_after}
 use Rattle.am_site.proofs.Settled.{asks_as, asks_no_more, asks_nobody, first_asks, first_settling, settles, settling_moves, with_room}
 use Rattle.am_site.proofs.site.Site.ask_first.Goals as goal
@@ -72,7 +73,8 @@ returns-clause-order c order =
     let s = c.args.here.now.tenant.now in
     let here = here_of c.args.here.now in
     on_ok_weaker c.send_all.result
-    (λ sent. asks_in_order here c.args.self.now c.send_all.new.self c.send_all.ensures.node
+    (λ moves. asks_in_order here c.args.self.now c.send_all.new.self c.send_all.ensures.node
     (ap (λ (room : Room). progress_of s room.progress) c.send_all.ensures.settling
-    ∙ own s _ _ _ (rw (c.as_slice.ensures.value, c.in_ok-others.ensures) at (c.in_ok-receivers.ensures.each s))) order)
-    c.send_all.ensures.reacts
+    ∙ own s _ _ _ (rw (c.as_slice.ensures.value, c.in_ok-others.ensures) at (c.in_ok-receivers.ensures.each s)))
+    (made_sound here (asks_first here) c.args.self.now c.send_all.new.self (asks_first_sound here) moves.local order.sound) order)
+    (returns-clause-reacts c)

@@ -10,7 +10,7 @@ use Rattle.am_timer.specs.declared.key.TimerKey.TheVariants.{Operation, Push}
 use Rattle.am_transfer.specs.Peers.{at_number}
 use Rattle.am_site.specs.Here.{here_of}
 use Rattle.am_site.specs.Notices.{notified_for}
-use Rattle.am_site.proofs.Handled.{given_up_holds, notice_done, noticed_quiet, operation_done, push_done, stored_after}
+use Rattle.am_site.proofs.Handled.{given_up_holds, notice_done, noticed_quiet, noticed_sound, operation_done, push_done, stored_after}
 use Rattle.am_site.proofs.Quiet.{quiet_in_order}
 use Rattle.am_site.proofs.Reacting.{reacts_as, stops_as}
 use Rattle.am_site.proofs.site.Site.handle.Goals as goal
@@ -93,5 +93,5 @@ returns-in-Group-clause-order c =
     let key = c.args.key.now in
     on_ok_weaker c.notify.result
     (λ done. quiet_in_order here (notified_for here muted key) c.args.self.now c.notify.new.self c.args.outbox.now.items c.notify.new.outbox.items
-    (noticed_quiet here muted key) done c.requires)
+    (noticed_quiet here muted key) (noticed_sound here muted key) done c.requires)
     c.notify.ensures.reacts

@@ -5,6 +5,7 @@ use Rattle.std.proofs.lemmas.Result.{IfErr-weaker, err_from_is_err_and, on_ok_we
 use Rattle.am_site.specs.Here.{here_of}
 use Rattle.am_site.proofs.Delivered.{outcome_done, outcome_fault, outcome_put, outcome_stops}
 use Rattle.am_site.proofs.Quiet.{outcome_quiet, quiet_in_order}
+use Rattle.am_site.proofs.Sound.{outcome_sound}
 use Rattle.am_site.proofs.site.Site.outcome.Goals as goal
 
 pub returns-in-None-clause-reacts : goal.returns-in-None-clause-reacts
@@ -38,11 +39,11 @@ pub returns-in-Some-clause-order : goal.returns-in-Some-clause-order
 returns-in-Some-clause-order c order =
     let here = here_of c.args.here.now in
     on_ok_weaker c.put_to_others.result
-    (λ reacts. quiet_in_order here (outcome here c.args.number c.args.tries c.args.status) c.args.self.now c.put_to_others.new.self c.args.outbox.now.items c.put_to_others.new.outbox.items (outcome_quiet here c.args.number c.args.tries c.args.status) reacts order)
+    (λ reacts. quiet_in_order here (outcome here c.args.number c.args.tries c.args.status) c.args.self.now c.put_to_others.new.self c.args.outbox.now.items c.put_to_others.new.outbox.items (outcome_quiet here c.args.number c.args.tries c.args.status) (outcome_sound here c.args.number c.args.tries c.args.status) reacts order)
     (returns-in-Some-clause-reacts c)
 
 pub returns-in-None-clause-order : goal.returns-in-None-clause-order
 returns-in-None-clause-order c order =
     let here = here_of c.args.here.now in
     quiet_in_order here (outcome here c.args.number c.args.tries c.args.status) c.args.self.now _ c.args.outbox.now.items c.args.outbox.now.items
-    (outcome_quiet here c.args.number c.args.tries c.args.status) (returns-in-None-clause-reacts c) order
+    (outcome_quiet here c.args.number c.args.tries c.args.status) (outcome_sound here c.args.number c.args.tries c.args.status) (returns-in-None-clause-reacts c) order

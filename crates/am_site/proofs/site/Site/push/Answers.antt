@@ -7,7 +7,8 @@ use Rattle.am_transfer.specs.Settling.{pushed}
 use Rattle.am_site.specs.Here.{here_of}
 use Rattle.am_site.specs.Locals.{local_of}
 use Rattle.am_site.proofs.Settled.{push_as, settled_sends, settled_stops}
-use Rattle.am_site.proofs.Quiet.{push_quiet, quiet_in_order}
+use Rattle.am_site.proofs.Quiet.{push_quiet, quiet_in_order_where}
+use Rattle.am_site.proofs.SoundSettling.{push_where}
 use Rattle.am_site.proofs.site.Site.push.Goals as goal
 
 pub returns-clause-reacts : goal.returns-clause-reacts
@@ -39,8 +40,9 @@ returns-clause-fault c =
     c.send_pieces.ensures.fault
 
 pub returns-clause-order : goal.returns-clause-order
-returns-clause-order c order =
+returns-clause-order c settled order =
     let here = here_of c.args.here.now in
     on_ok_weaker c.send_pieces.result
-    (λ reacts. quiet_in_order here (push here c.args.receiver.now) c.args.self.now c.send_pieces.new.self c.args.outbox.now.items c.send_pieces.new.outbox.items (push_quiet here c.args.receiver.now) reacts order)
+    (λ reacts. quiet_in_order_where here (push here c.args.receiver.now) c.args.self.now c.send_pieces.new.self c.args.outbox.now.items c.send_pieces.new.outbox.items (push_quiet here c.args.receiver.now)
+    (λ sound. (push_where here c.args.receiver.now (local_of here.tenant c.args.self.now) settled sound).1) reacts order)
     (returns-clause-reacts c)

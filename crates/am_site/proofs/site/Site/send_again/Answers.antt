@@ -1,12 +1,16 @@
 use Rattle.std.proofs.Common.{ap, refl, sym, ◌∙◌}
 use Rattle.std.proofs.lemmas.Result.{IfErr-weaker, on_ok_weaker}
+use Rattle.am_cluster.specs.Ticking.{send_again}
 use Rattle.am_context.proofs.Changes.{own}
+use Rattle.am_transfer.specs.Peers.{at_number}
 use Rattle.am_transfer.specs.Tenants.{progress_of}
 use Rattle.am_transfer.specs.Timers.{Room}
 use Rattle.am_site.specs.Here.{here_of}
 use Rattle.am_site.specs.Locals.{local_of}
+use Rattle.am_site.proofs.InOrder.{made_sound}
 use Rattle.am_site.proofs.SentAgain.{again_in_order, ask_done, ask_stops, nothing_done, state_done, state_stops}
 use Rattle.am_site.proofs.Settled.{with_room}
+use Rattle.am_site.proofs.SoundSettling.{send_again_sound}
 use Rattle.am_site.proofs.site.Site.send_again.Goals as goal
 
 pub returns-in-State-clause-reacts : goal.returns-in-State-clause-reacts
@@ -38,10 +42,12 @@ returns-in-State-clause-fault c =
 pub returns-in-State-clause-order : goal.returns-in-State-clause-order
 returns-in-State-clause-order c =
     let s = c.args.here.now.tenant.now in
+    let here = here_of c.args.here.now in
     on_ok_weaker c.send_pieces.result
-    (λ sent. again_in_order (here_of c.args.here.now) c.args.to c.in_ok-held.held.items c.args.self.now c.send_pieces.new.self c.send_pieces.ensures.node
-    (ap (λ (room : Room). progress_of s room.progress) c.send_pieces.ensures.settling ∙ own s _ _ _ (rw c.as_slice.ensures.value at (c.in_ok-again.ensures.each s))) c.requires)
-    c.send_pieces.ensures.reacts
+    (λ reacts. again_in_order here c.args.to c.in_ok-held.held.items c.args.self.now c.send_pieces.new.self c.send_pieces.ensures.node
+    (ap (λ (room : Room). progress_of s room.progress) c.send_pieces.ensures.settling ∙ own s _ _ _ (rw c.as_slice.ensures.value at (c.in_ok-again.ensures.each s)))
+    (made_sound here (λ l. send_again here c.args.to (at_number c.args.to l.settling.pushes) l) c.args.self.now c.send_pieces.new.self (send_again_sound here c.args.to) reacts.local c.requires.sound) c.requires)
+    (returns-in-State-clause-reacts c)
 
 pub returns-in-Ask-clause-reacts : goal.returns-in-Ask-clause-reacts
 unfolding local_of
@@ -72,10 +78,12 @@ returns-in-Ask-clause-fault c =
 pub returns-in-Ask-clause-order : goal.returns-in-Ask-clause-order
 returns-in-Ask-clause-order c =
     let s = c.args.here.now.tenant.now in
+    let here = here_of c.args.here.now in
     on_ok_weaker c.send_in.result
-    (λ sent. again_in_order (here_of c.args.here.now) c.args.to c.in_ok-held.held.items c.args.self.now c.send_in.new.self c.send_in.ensures.node
-    (ap (λ (room : Room). progress_of s room.progress) c.send_in.ensures.settling ∙ own s _ _ _ (rw c.as_slice.ensures.value at (c.in_ok-again.ensures.each s))) c.requires)
-    c.send_in.ensures.reacts
+    (λ reacts. again_in_order here c.args.to c.in_ok-held.held.items c.args.self.now c.send_in.new.self c.send_in.ensures.node
+    (ap (λ (room : Room). progress_of s room.progress) c.send_in.ensures.settling ∙ own s _ _ _ (rw c.as_slice.ensures.value at (c.in_ok-again.ensures.each s)))
+    (made_sound here (λ l. send_again here c.args.to (at_number c.args.to l.settling.pushes) l) c.args.self.now c.send_in.new.self (send_again_sound here c.args.to) reacts.local c.requires.sound) c.requires)
+    (returns-in-Ask-clause-reacts c)
 
 pub returns-clause-reacts : goal.returns-clause-reacts
 unfolding local_of
@@ -90,5 +98,8 @@ returns-clause-reacts c =
 pub returns-clause-order : goal.returns-clause-order
 returns-clause-order c =
     let s = c.args.here.now.tenant.now in
-    again_in_order (here_of c.args.here.now) c.args.to c.in_ok-held.held.items c.args.self.now (with_room c.args.self.now c.tick.new.self) refl
-    (own s _ _ _ (rw c.as_slice.ensures.value at (c.in_ok-again.ensures.each s))) c.requires
+    let here = here_of c.args.here.now in
+    again_in_order here c.args.to c.in_ok-held.held.items c.args.self.now (with_room c.args.self.now c.tick.new.self) refl
+    (own s _ _ _ (rw c.as_slice.ensures.value at (c.in_ok-again.ensures.each s)))
+    (made_sound here (λ l. send_again here c.args.to (at_number c.args.to l.settling.pushes) l) c.args.self.now (with_room c.args.self.now c.tick.new.self) (send_again_sound here c.args.to)
+    (returns-clause-reacts c).local c.requires.sound) c.requires

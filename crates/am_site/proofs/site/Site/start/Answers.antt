@@ -9,6 +9,7 @@ use Rattle.am_site.specs.Here.{here_of}
 use Rattle.am_site.specs.Locals.{local_of}
 use Rattle.am_site.proofs.Reacting.{in_turn_reacts, quiet, reacts_from, stops_first, stops_from, stops_second}
 use Rattle.am_site.proofs.Quiet.{start_quiet, quiet_in_order}
+use Rattle.am_site.proofs.Sound.{start_sound}
 use Rattle.am_site.proofs.site.Site.start.Goals as goal
 
 pub returns-clause-reacts : goal.returns-clause-reacts
@@ -59,5 +60,5 @@ pub returns-clause-order : goal.returns-clause-order
 returns-clause-order c order =
     let here = here_of c.args.here.now in
     on_ok_weaker c.send_all.result
-    (λ reacts. quiet_in_order here (start here c.args.connection c.args.request) c.args.self.now c.send_all.new.self c.args.outbox.now.items c.send_all.new.outbox.items (start_quiet here c.args.connection c.args.request) reacts order)
+    (λ reacts. quiet_in_order here (start here c.args.connection c.args.request) c.args.self.now c.send_all.new.self c.args.outbox.now.items c.send_all.new.outbox.items (start_quiet here c.args.connection c.args.request) (start_sound here c.args.connection c.args.request) reacts order)
     (returns-clause-reacts c)

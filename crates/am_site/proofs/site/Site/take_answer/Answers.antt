@@ -18,6 +18,7 @@ use Rattle.am_site.proofs.Answered.{answers_decided, answers_nothing, asks_decid
 use Rattle.am_cluster.specs.Operating.{answered}
 use Rattle.am_site.specs.Here.{here_of}
 use Rattle.am_site.proofs.Quiet.{answered_quiet, quiet_in_order}
+use Rattle.am_site.proofs.Sound.{answered_sound}
 use Rattle.am_site.proofs.site.Site.take_answer.Goals as goal
 
 pub returns-in-None-clause-answers : goal.returns-in-None-clause-answers
@@ -141,12 +142,14 @@ returns-in-None-clause-order c order =
     let given = c.args.here.now in
     let answers = returns-in-None-clause-answers c in
     quiet_in_order (here_of given) (answered (λ _ _ _ _. answers.decision) (here_of given) c.args.target.number c.args.target.epoch c.args.answered) c.args.self.now _
-    c.args.outbox.now.items c.args.outbox.now.items (answered_quiet (here_of given) (λ _ _ _ _. answers.decision) c.args.target.number c.args.target.epoch c.args.answered) answers.reacts order
+    c.args.outbox.now.items c.args.outbox.now.items (answered_quiet (here_of given) (λ _ _ _ _. answers.decision) c.args.target.number c.args.target.epoch c.args.answered)
+    (answered_sound (here_of given) (λ _ _ _ _. answers.decision) c.args.target.number c.args.target.epoch c.args.answered) answers.reacts order
 
 pub returns-clause-order : goal.returns-clause-order
 returns-clause-order c order =
     let given = c.args.here.now in
     on_ok_weaker c.carry_out.result
     (λ answers. quiet_in_order (here_of given) (answered (λ _ _ _ _. answers.decision) (here_of given) c.args.target.number c.args.target.epoch c.args.answered) c.args.self.now _
-    c.args.outbox.now.items c.carry_out.new.outbox.items (answered_quiet (here_of given) (λ _ _ _ _. answers.decision) c.args.target.number c.args.target.epoch c.args.answered) answers.reacts order)
+    c.args.outbox.now.items c.carry_out.new.outbox.items (answered_quiet (here_of given) (λ _ _ _ _. answers.decision) c.args.target.number c.args.target.epoch c.args.answered)
+    (answered_sound (here_of given) (λ _ _ _ _. answers.decision) c.args.target.number c.args.target.epoch c.args.answered) answers.reacts order)
     (returns-clause-answers c)
