@@ -1,0 +1,44 @@
+use Rattle.std.proofs.Common.{◌∙◌, ap, refl, subst, sym}
+use Rattle.am_ring.specs.Replicas.{replicas}
+use Rattle.am_site.specs.Locals.{local_of}
+use Rattle.am_transfer.specs.Timers.{AreTimed}
+use Rattle.am_ring_instance.specs.Here.{circumstances, has_stayed_on, here_on, three_on}
+use Rattle.am_ring_instance.specs.Instance.{local_in}
+use Rattle.am_ring_instance.proofs.Growing.{asked_more}
+use Rattle.am_ring_instance.proofs.Opening.{opened_in_order}
+use Rattle.am_ring_instance.proofs.Rings.{ring_there}
+use Rattle.am_ring_instance.proofs.instance.Instance.start.Goals as goal
+
+pub open-requires : goal.open-requires
+unfolding local_in
+open-requires g c = c.requires.down.lost
+
+pub returns-clause-opened : goal.returns-clause-opened
+unfolding local_in here_on three_on
+returns-clause-opened g c clean t =
+    c.in_ok-open.ensures.opened clean _ refl refl
+    (ap (replicas t) (ring_there c.args.occasion.now.rings.now c.args.self.now.known c.index-occasion-self.result c.requires.whole.known c.index-occasion-self.is))
+
+pub returns-clause-starts : goal.returns-clause-starts
+returns-clause-starts g c = record { up = refl; refused = c.in_ok-open.ensures.asked.refused }
+
+pub returns-clause-stays : goal.returns-clause-stays
+returns-clause-stays g c = record { number = refl; incarnation = refl; known = refl; refused = asked_more _ _ _ c.open.ensures.asked }
+
+pub returns-in_err-open-clause-stays : goal.returns-in_err-open-clause-stays
+returns-in_err-open-clause-stays g c = record { number = refl; incarnation = refl; known = refl; refused = asked_more _ _ _ c.open.ensures.asked }
+
+pub returns-clause-whole : goal.returns-clause-whole
+unfolding here_on three_on has_stayed_on
+returns-clause-whole g c clean = record {
+  known = c.requires.whole.known;
+  order = λ t. opened_in_order (here_on (circumstances c.args.occasion.now) c.args.self.now t) (g.R.Rows.pairs c.args.store.now) c.open.new.self
+      (c.in_ok-open.ensures.opened clean (here_on (circumstances c.args.occasion.now) c.args.self.now t) refl refl
+      (ap (replicas t) (ring_there c.args.occasion.now.rings.now c.args.self.now.known c.index-occasion-self.result c.requires.whole.known c.index-occasion-self.is)));
+  timed = subst AreTimed (sym c.in_ok-open.ensures.rest.settling) c.requires.whole.timed;
+  incarnation = ap (λ o. o.incarnation) c.in_ok-open.ensures.rest.operations ∙ c.requires.whole.incarnation;
+}
+
+pub returns-clause-backed : goal.returns-clause-backed
+unfolding local_in local_of
+returns-clause-backed g c = record { opens = λ up. c.in_ok-open.ensures.«open»; stores = λ up clean. c.in_ok-open.ensures.stores clean }
