@@ -5,6 +5,7 @@
 #![tactic(auto)]
 
 use am_item::{Item, Matchers, SharedItem, Silence, SilenceId, Stamp, Thing};
+use am_match::{Matcher, Operator};
 use am_rows::Rows;
 use am_store::Shelf;
 use am_tenant::TenantName;
@@ -66,7 +67,8 @@ fn work<R: Rows + Drop>(alloc: Global, mut store: R, count: u32, is_read: bool) 
 fn silence(alloc: Global, number: u32) -> Result<SharedItem> {
     let start = Moment::from_milliseconds(START).context("no moment")?;
     let end = start.plus(3_600_000);
-    let [first, second, third, fourth] = number.to_be_bytes();
+    // As identifiers are, in no order.
+    let [first, second, third, fourth] = number.wrapping_mul(0x9e37_79b1).to_be_bytes();
     let id = [
         first, second, third, fourth, 0, 0, 0, 0, 0, 0, 0, 0, 0, 0, 0, 0,
     ];
@@ -83,7 +85,16 @@ fn silence(alloc: Global, number: u32) -> Result<SharedItem> {
         kept_until: end,
         created_by: Text::read(alloc, "ada")?,
         comment: Text::read(alloc, COMMENT)?,
-        matchers: Matchers::from_vec(Vec::new(alloc)),
+        matchers: Matchers::from_vec(vec![in alloc; matcher(alloc)?]?),
     });
     Ok(SharedItem::new(alloc, Item { stamp, thing })?)
+}
+
+/// The matcher of each silence.
+fn matcher(alloc: Global) -> Result<Matcher> {
+    let (name, value) = (
+        Text::read(alloc, "cluster")?,
+        Text::read(alloc, "eu-west-1")?,
+    );
+    Matcher::new(Operator::Equal, name, value).context("no label name")
 }
