@@ -2,7 +2,7 @@
 #![tactic(auto)]
 
 ghost use Rattle.std.specs.Prelude.{◌≡◌, ◌↔◌, ◌<◌, IsTrue, IsSome, IfSome};
-ghost use Rattle.am_ring.specs.Instances.{in_order};
+ghost use Rattle.am_ring.specs.Instances.{in_order, may_be_ring};
 ghost use Rattle.am_setup.specs.Setup.{is_setup};
 
 use am_ring::Ring;
@@ -18,7 +18,8 @@ pub struct Setup {
 }
 
 impl Model for Setup {
-    ghost use Rattle.std.specs.Prelude.{◌≡◌, ◌<◌, length};
+    ghost use Rattle.std.specs.Prelude.{◌≡◌, ◌<◌, IsTrue, length};
+    ghost use Rattle.am_ring.specs.Instances.{in_order, may_be_ring};
     ghost use Rattle.am_setup.specs.Setup.{Settings};
 
     ghost Value = { Settings };
@@ -28,13 +29,14 @@ impl Model for Setup {
       cache = s.cache;
     } };
 
-    ghost invariant = { λ s. (0 < s.cache) × (length s.key ≡ 32) };
+    ghost invariant = { λ s. (0 < s.cache) × (length s.key ≡ 32) × IsTrue (may_be_ring s.ring.instances)
+        × (in_order s.ring.instances ≡ s.ring.instances) };
 }
 
 impl Setup {
     /// Settings out of the service key, the ring's instances (3 to 8 different numbers of 1 to 8, in any order), the
     /// capacity of an instance's cache of patterns (1 to 65,536) and the first incarnation (not 0). None where
-    /// one of them is out of its range. The ring isn't used yet.
+    /// one of them is out of its range.
     pub fn new(key: [u8; 32], ring: &[u8], cache: u32, start: u32) -> Option<Setup>
         ensures valid { IsSome result ↔ IsTrue (is_setup ring.now cache start) }
         ensures settings { IfSome result (λ setup. setup ≡ record {
@@ -78,6 +80,15 @@ impl Setup {
         ensures { result ≡ self.now.origin.first }
     {
         self.start
+    }
+
+    /// The ring's instances, in order of number, at epoch 0.
+    pub fn ring(&self) -> Ring
+        ensures instances { result.instances ≡ self.now.origin.ring }
+        ensures ring { IsTrue (may_be_ring self.now.origin.ring) }
+        ensures order { in_order self.now.origin.ring ≡ self.now.origin.ring }
+    {
+        self.ring
     }
 
     /// The service key, of which the words of all tenants are made.
