@@ -11,19 +11,27 @@ use Rattle.std.proofs.lemmas.List.Folds.{list_any-append}
 use Rattle.std.proofs.lemmas.Map.Keys.{Less-from_sorted}
 use Rattle.am_tenant.specs.Names.{same}
 use Rattle.am_tenant.proofs.Same.{eq_from_same, is_eq-name_cmp, same-refl}
+use Rattle.am_item.specs.Best.{all_joined}
 use Rattle.am_item.specs.declared.item.Item.{Item}
 use Rattle.am_alert.specs.Held.{alerts_among}
 use Rattle.am_item.specs.declared.fault.Fault.{Fault}
 use Rattle.am_item.specs.declared.fault.Fault.TheVariants.{OutOfMemory, CountsExhausted, PatternNotBuilt, StoreRefused}
+use Rattle.am_item.specs.declared.item.Alert.{Alert}
 use Rattle.am_item.specs.declared.item.Thing.{Thing}
 use Rattle.am_item.specs.declared.item.Thing.TheVariants as thing
 use Rattle.am_item.specs.declared.stamp.Stamp.{Stamp}
-use Rattle.am_rows.specs.Rows.{is_kept, is_stored, rows_of, stored_in}
+use Rattle.am_item.specs.declared.stamp.Stamped.{Stamped}
+use Rattle.am_rows.specs.Rows.{Keeps, is_kept, is_stored, rows_of, stored_in}
 use Rattle.am_current.specs.Current.{configuration_in}
+use Rattle.am_muting.specs.Muting.{alert_sets}
+use Rattle.am_notifier.specs.Following.{all_came, sinces_in}
+use Rattle.am_notifier.proofs.ByRoutes.{sinces_planned}
 use Rattle.am_planning.specs.Planning.{default_paces, planned_alerts}
 use Rattle.am_node.specs.Accepting.{StopsAccepting, accepted}
 use Rattle.am_node.specs.Held.{Makes, local_of}
 use Rattle.am_node.specs.Local.{Local, blank}
+use Rattle.am_node.specs.Plans.{HoldsNoAlert}
+use Rattle.am_node.specs.Storing.{AreStillStored}
 use Rattle.am_node.specs.declared.parts.Parts.{Parts}
 
 abbrev Pairs : Type 0
@@ -104,6 +112,14 @@ still_ahead n come t change old new ahead makes none =
     or_parts true b is = absurd (false≢true (sym is))
     or_parts false b is = (refl, is)
 
+-- what is held by these rows is held by those that they were before
+pub held_before : (moment : ℕ) (given found : Pairs) (new : Parts) → Keeps given found
+    → ((t : List ℕ) → local_of t new ≡ accepted moment (rows_of t found) blank) → (t : List ℕ) → local_of t new ≡ accepted moment (rows_of t given) blank
+held_before moment given found new stays held t = held t ∙ ap (λ (xs : List Item). accepted moment xs blank) (stays t)
+
+pub stores_before : (new : Parts) (given found after : Pairs) → Keeps given found → AreStillStored new found after → AreStillStored new given after
+stores_before new given found after stays still = record { keeps = λ t. still.keeps t ∙ stays t; stores = still.stores }
+
 -- ---- there is nothing to plan
 
 -- items that are stored are no alerts
@@ -117,6 +133,21 @@ no_alerts : (xs : List Item) → alerts_among (stored_in xs) ≡ []
 unfolding stored_in
 no_alerts [] = refl
 no_alerts (x ∷ xs) = passed x.stamp x.thing (filter is_stored xs) (no_alerts xs)
+
+pub blank_alertless : HoldsNoAlert blank
+blank_alertless = record { sinces = refl; position = refl }
+
+-- and bring none
+pub accepted_alertless : (moment : ℕ) (rows : List Item) → stored_in rows ≡ rows → (local : Local) → HoldsNoAlert local → HoldsNoAlert (accepted moment rows local)
+unfolding accepted
+accepted_alertless moment rows stored local none =
+    let alerts : alerts_among rows ≡ [] = ap alerts_among (sym stored) ∙ no_alerts rows in
+    record {
+      sinces = sinces_planned (configuration_in (all_joined local.held rows)) (all_came moment (alert_sets rows) (sinces_in local.plan))
+          ∙ ap (λ (xs : List (Stamped Alert)). all_came moment (map (λ (alert : Stamped Alert). alert.value.labels) xs) (sinces_in local.plan)) alerts
+          ∙ none.sinces;
+      position = none.position;
+    }
 
 none_any : {A B : Type 0} (p : B → Bool) (f : A → B) (xs : List A) → xs ≡ [] → list_any p (map f xs) ≡ true → ⊥
 none_any p f [] is some = false≢true some

@@ -6,14 +6,18 @@ use Rattle.am_node.specs.Held.{Does, Makes, local_of}
 use Rattle.am_node.specs.Local.{Local, Reaction, blank}
 use Rattle.am_node.specs.Plans.{IsPlanned}
 
--- one tenant has what this makes of it, and every other what it had
+-- one tenant has what this makes of it, and every other what it had: what is so of all stays so where the change keeps it
+pub made_keeps : (P : Local → Type 0) (tenant : List ℕ) (change : Local → Local) (old new : Parts) → ((t : List ℕ) → P (local_of t old))
+    → Makes tenant change old new → ((l : Local) → P l → P (change l)) → (t : List ℕ) → P (local_of t new)
+made_keeps P tenant change old new holds makes keeps t = by (same t tenant) (makes t)
+  where
+    by : (b : Bool) → local_of t new ≡ (if b then change (local_of t old) else local_of t old) → P (local_of t new)
+    by true is = subst P (sym is) (keeps (local_of t old) (holds t))
+    by false is = subst P (sym is) (holds t)
+
 pub made_planned : (tenant : List ℕ) (change : Local → Local) (old new : Parts) → ((t : List ℕ) → IsPlanned (local_of t old)) → Makes tenant change old new →
     ((l : Local) → IsPlanned l → IsPlanned (change l)) → (t : List ℕ) → IsPlanned (local_of t new)
-made_planned tenant change old new planned makes keeps t = by (same t tenant) (makes t)
-  where
-    by : (b : Bool) → local_of t new ≡ (if b then change (local_of t old) else local_of t old) → IsPlanned (local_of t new)
-    by true is = subst IsPlanned (sym is) (keeps (local_of t old) (planned t))
-    by false is = subst IsPlanned (sym is) (planned t)
+made_planned tenant change old new planned makes keeps = made_keeps IsPlanned tenant change old new planned makes keeps
 
 pub did_planned : (tenant : List ℕ) (react : Local → Reaction) (old new : Parts) → ((t : List ℕ) → IsPlanned (local_of t old)) → Does tenant react old new →
     ((l : Local) → IsPlanned l → IsPlanned (react l).local) → (t : List ℕ) → IsPlanned (local_of t new)

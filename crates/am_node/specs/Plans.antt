@@ -1,5 +1,5 @@
 -- What is planned goes by what is held: by the configuration that is in use, for the alerts that are held.
-use Rattle.std.specs.Prelude.{◌≡◌}
+use Rattle.std.specs.Prelude.{◌≡◌, [], Some}
 use Rattle.std.specs.Map.{keys_of}
 use Rattle.am_current.specs.Current.{configuration_in}
 use Rattle.am_item.specs.Best.{IsRising}
@@ -15,3 +15,8 @@ pub record IsPlanned (local : Local) : Type 0 where
   pub paces : local.plan.paces ≡ paces_at (configuration_in local.held) local.position
   pub groups : local.plan.grouped.alerts ≡ planned_alerts (configuration_in local.held) (sinces_in local.plan)
   pub alerts : keys_of local.plan.grouped.alerts ≡ alert_sets local.held
+
+-- no alert is held, and the groups of one would wait by the first position
+pub record HoldsNoAlert (local : Local) : Type 0 where
+  pub sinces : sinces_in local.plan ≡ []
+  pub position : local.position ≡ Some 0

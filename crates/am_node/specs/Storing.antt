@@ -4,7 +4,7 @@ use Rattle.am_item.specs.declared.fault.Fault.{Fault}
 use Rattle.am_item.specs.declared.fault.Fault.TheVariants.{StoreRefused}
 use Rattle.am_item.specs.declared.item.Item.{Item}
 use Rattle.am_rows.specs.Refusing.{MayRefuse, Medium}
-use Rattle.am_rows.specs.Rows.{rows_of, stored_in}
+use Rattle.am_rows.specs.Rows.{Keeps, rows_of, stored_in}
 use Rattle.am_node.specs.declared.parts.Parts.{Parts}
 use Rattle.am_node.specs.Held.{local_of}
 use Rattle.am_node.specs.Local.{Local}
@@ -16,6 +16,11 @@ AreRowsOf locals pairs = (t : List ℕ) → rows_of t pairs ≡ stored_in (local
 -- .. what an instance has of it
 abbrev pub AreStored : Parts → List (List ℕ × Item) → Type 0
 AreStored parts pairs = AreRowsOf (λ t. local_of t parts) pairs
+
+-- .. and they are what they were before
+pub record AreStillStored (parts : Parts) (before after : List (List ℕ × Item)) : Type 0 where
+  pub keeps : Keeps before after
+  pub stores : AreStored parts after
 
 -- the rows are as they were, or as they are where the call goes well
 abbrev pub LeavesRows : (before after : List ℕ → Local) → List (List ℕ × Item) → Type 0

@@ -6,13 +6,13 @@ ghost use Rattle.std.specs.List.{list_any};
 ghost use Rattle.std.specs.List.Sorted.{IsStrictlySortedBy};
 ghost use Rattle.std.specs.Ordering.{nat_cmp};
 ghost use Rattle.am_pattern.specs.Asking.{Asked};
-ghost use Rattle.am_rows.specs.Refusing.{IsCaused, IsJudged, MayRefuse, Wears};
+ghost use Rattle.am_rows.specs.Refusing.{IsCaused, MayRefuse, Wears};
 ghost use Rattle.am_rows.specs.Rows.{Keeps, rows_of, stored_in};
 ghost use Rattle.am_tenant.specs.Names.{same};
 ghost use Rattle.am_node.specs.Accepting.{accepted};
 ghost use Rattle.am_node.specs.Held.{Makes, local_of};
 ghost use Rattle.am_node.specs.Local.{blank};
-ghost use Rattle.am_node.specs.Plans.{IsPlanned};
+ghost use Rattle.am_node.specs.Plans.{HoldsNoAlert, IsPlanned};
 
 use crate::parts::Parts;
 use am_item::{Fault, SharedItem};
@@ -23,29 +23,31 @@ use am_text::{Failure, Moment};
 use std::alloc::Global;
 
 impl Parts {
-    /// Accepts at a moment what a store, which it opens, has of all tenants, where nothing is had of any.
+    /// Accepts at a moment what a store that is open has of all tenants, where nothing is had of any.
     ///
     /// # Errors
-    /// `F2` or `F3` of the store, or out of memory.
-    pub(crate) fn hold<R: Rows>(
+    /// `F2` of the store, or out of memory.
+    pub(crate) fn hold_open<R: Rows>(
         &mut self,
         alloc: Global,
         moment: Moment,
         cache: &mut PatternCache,
         store: &mut R,
     ) -> Result<(), Failure<StoreRefusal>>
-        requires { (t : List ℕ) → local_of t self.old ≡ blank }
+        requires blank { (t : List ℕ) → local_of t self.old ≡ blank }
+        requires open { R.is_open store.old ≡ true }
         ensures clean { R.is_clean store.new ≡ true → R.is_clean store.old ≡ true }
         ensures open { OnOk result (R.is_open store.new ≡ true) }
-        ensures planned { OnOk result ((t : List ℕ) → IsPlanned (local_of t self.new)) }
+        ensures planned { OnOk result ((t : List ℕ) → IsPlanned (local_of t self.new)
+            × HoldsNoAlert (local_of t self.new)) }
         ensures asked { Asked result cache.old cache.new }
         ensures keeps { R.is_clean store.new ≡ true → OnOk result (Keeps (R.pairs store.old) (R.pairs store.new)) }
         ensures held { R.is_clean store.new ≡ true → OnOk result ((t : List ℕ) →
             local_of t self.new ≡ accepted moment (rows_of t (R.pairs store.old)) blank) }
         ensures fails { R.is_clean store.new ≡ true
-            → IfErr result (IsJudged (R.is_foreign store.old) (MayRefuse (R.medium store.old) (R.medium store.new))) }
+            → IfErr result (IsCaused (MayRefuse (R.medium store.old) (R.medium store.new))) }
+        ensures wears { R.is_clean store.new ≡ true → Wears (R.medium store.old) (R.medium store.new) }
     {
-        store.open(alloc)?;
         let names = store.tenants(alloc)?;
         self.hold_each(alloc, &names, moment, cache, store)
     }
@@ -64,7 +66,8 @@ impl Parts {
         requires order { IsStrictlySortedBy (slice_cmp nat_cmp) names.now }
         ensures clean { R.is_clean store.new ≡ true → R.is_clean store.old ≡ true }
         ensures open { OnOk result (R.is_open store.new ≡ true) }
-        ensures planned { OnOk result ((t : List ℕ) → IsPlanned (local_of t self.new)) }
+        ensures planned { OnOk result ((t : List ℕ) → IsPlanned (local_of t self.new)
+            × HoldsNoAlert (local_of t self.new)) }
         ensures asked { Asked result cache.old cache.new }
         ensures keeps { R.is_clean store.new ≡ true → OnOk result (Keeps (R.pairs store.old) (R.pairs store.new)) }
         ensures held { R.is_clean store.new ≡ true → OnOk result ((t : List ℕ) → local_of t self.new ≡

@@ -11,10 +11,10 @@ ghost use Rattle.am_current.specs.Current.{configuration_in};
 ghost use Rattle.am_item.specs.Best.{IsRising};
 ghost use Rattle.am_notifier.specs.Positions.{is_same_position, number_of};
 ghost use Rattle.am_pattern.specs.Asking.{Asked};
-ghost use Rattle.am_rows.specs.Refusing.{IsJudged, MayRefuse};
+ghost use Rattle.am_rows.specs.Refusing.{IsCaused, IsJudged, MayRefuse, Wears};
 ghost use Rattle.am_rows.specs.Rows.{Keeps, has_stored, rows_of, stored_in};
 ghost use Rattle.am_node.specs.Retiring.{retired};
-ghost use Rattle.am_node.specs.Storing.{AreStored, LeavesStore};
+ghost use Rattle.am_node.specs.Storing.{AreStillStored, AreStored, LeavesStore};
 ghost use Rattle.am_replica.specs.Retiring.{StopsRetiring};
 ghost use Rattle.am_replica.specs.Storing.{fault_in};
 ghost use Rattle.am_tenant.specs.Names.{same};
@@ -24,7 +24,7 @@ ghost use Rattle.am_node.specs.Accepting.{StopsCommitting, StopsPositioning, acc
 ghost use Rattle.am_node.specs.Delivery.{is_awaited, outcome, records};
 ghost use Rattle.am_node.specs.Held.{Does, Makes, StopsFor, local_of};
 ghost use Rattle.am_node.specs.Local.{blank, said_in};
-ghost use Rattle.am_node.specs.Plans.{IsPlanned};
+ghost use Rattle.am_node.specs.Plans.{HoldsNoAlert, IsPlanned};
 ghost use Rattle.am_node.specs.Ticking.{handled};
 ghost use Rattle.am_node.specs.Ticks.{StopsMuting, StopsTicking, TicksAll, context_for, has_flush};
 ghost use Rattle.am_node.specs.Ticks.{muted_at, muted_for, some_flush};
@@ -141,8 +141,7 @@ impl Node {
     ///
     /// # Errors
     /// `F2` where a call of the database was refused, `F3` where it is no store, or out of memory. No row is lost, and
-    /// nothing is
-    /// had of any tenant.
+    /// nothing is had of any tenant.
     pub fn hold<R: Rows>(
         &mut self,
         alloc: Global,
@@ -161,8 +160,39 @@ impl Node {
         ensures fails { R.is_clean store.new ≡ true
             → IfErr result (IsJudged (R.is_foreign store.old) (MayRefuse (R.medium store.old) (R.medium store.new))) }
     {
+        store.open(alloc)?;
+        self.hold_open(alloc, moment, cache, store)
+    }
+
+    /// Accepts at a moment what a store that is open has of all tenants, where nothing is had of any. No alert is held
+    /// then, whatever the disk returned: none is a row.
+    ///
+    /// # Errors
+    /// `F2` where a call of the database was refused, or out of memory. No row is lost, and nothing is had of any
+    /// tenant. (`F3` only where the disk did not return what was written.)
+    pub fn hold_open<R: Rows>(
+        &mut self,
+        alloc: Global,
+        moment: Moment,
+        cache: &mut PatternCache,
+        store: &mut R,
+    ) -> Result<(), Failure<StoreRefusal>>
+        requires blank { (t : List ℕ) → local_of t self.old ≡ blank }
+        requires open { R.is_open store.old ≡ true }
+        ensures asked { Asked result cache.old cache.new }
+        ensures clean { R.is_clean store.new ≡ true → R.is_clean store.old ≡ true }
+        ensures open { OnOk result (R.is_open store.new ≡ true) }
+        ensures held { R.is_clean store.new ≡ true → OnOk result ((t : List ℕ) →
+            local_of t self.new ≡ accepted moment (rows_of t (R.pairs store.old)) blank) }
+        ensures alerts { OnOk result ((t : List ℕ) → HoldsNoAlert (local_of t self.new)) }
+        ensures stores { R.is_clean store.new ≡ true
+            → OnOk result (AreStillStored self.new (R.pairs store.old) (R.pairs store.new)) }
+        ensures fails { R.is_clean store.new ≡ true
+            → IfErr result (IsCaused (MayRefuse (R.medium store.old) (R.medium store.new))) }
+        ensures wears { R.is_clean store.new ≡ true → Wears (R.medium store.old) (R.medium store.new) }
+    {
         let parts = &mut self.parts;
-        match parts.hold(alloc, moment, cache, store) {
+        match parts.hold_open(alloc, moment, cache, store) {
             Ok(()) => Ok(()),
             Err(failure) => {
                 self.parts.clear(alloc);

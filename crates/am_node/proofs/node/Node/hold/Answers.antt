@@ -1,17 +1,31 @@
-use Rattle.am_node.proofs.Kept.{blank_planned}
-use Rattle.am_node.proofs.Planned.{all_blank}
-use Rattle.am_node.proofs.StoredRows.{stores_held}
+use Rattle.std.proofs.Common.{◌≡◌, true}
+use Rattle.std.proofs.lemmas.Result.{IfErr-weaker, on_ok_weaker}
+use Rattle.am_rows.proofs.Wearing.{judged_later}
+use Rattle.am_node.proofs.Begun.{held_before, stores_before}
 use Rattle.am_node.proofs.node.Node.hold.Goals as goal
 
-pub invariant_of-self : goal.invariant_of-self
-invariant_of-self g c = c.in-Ok.ensures.planned
+pub returns-clause-held : goal.returns-clause-held
+returns-clause-held g c = λ clean.
+    let found : g.R.Rows.is_clean c.open.new.self ≡ true = c.hold_open.ensures.clean clean in
+    on_ok_weaker c.hold_open.result
+    (held_before c.args.moment (g.R.Rows.pairs c.args.store.now) (g.R.Rows.pairs c.open.new.self) c.hold_open.new.self (c.in_ok-open.ensures.opened found))
+    (c.hold_open.ensures.held clean)
 
-pub invariant_of-self-in-Err : goal.invariant_of-self-in-Err
-invariant_of-self-in-Err g c = all_blank c.clear.new.self blank_planned c.clear.ensures
+pub returns-clause-keeps : goal.returns-clause-keeps
+returns-clause-keeps g c = λ clean.
+    let p = g.R.Rows.pairs in
+    let found = c.hold_open.ensures.clean clean in
+    on_ok_weaker c.hold_open.result
+    (λ still. (stores_before c.hold_open.new.self (p c.args.store.now) (p c.open.new.self) (p c.hold_open.new.store) (c.in_ok-open.ensures.opened found) still).keeps)
+    (c.hold_open.ensures.stores clean)
 
-pub returns-in-Ok-clause-stores : goal.returns-in-Ok-clause-stores
-returns-in-Ok-clause-stores g c = λ clean.
-    stores_held c.args.moment c.hold.new.self (g.R.Rows.pairs c.args.store.now) (g.R.Rows.pairs c.hold.new.store) (c.in-Ok.ensures.keeps clean) (c.in-Ok.ensures.held clean)
+pub returns-clause-stores : goal.returns-clause-stores
+returns-clause-stores g c = λ clean. on_ok_weaker c.hold_open.result (λ still. still.stores) (c.hold_open.ensures.stores clean)
 
-pub hold-requires : goal.hold-requires
-hold-requires g c = rw (← c.self.view_is) at c.requires
+pub returns-clause-fails : goal.returns-clause-fails
+returns-clause-fails g c = λ clean.
+    let m = g.R.Rows.medium in
+    IfErr-weaker c.hold_open.result _ _
+    (judged_later (m c.args.store.now) (m c.open.new.self) (m c.hold_open.new.store) (c.open.ensures.wears (c.hold_open.ensures.clean clean)) (c.hold_open.ensures.wears clean)
+    (g.R.Rows.is_foreign c.args.store.now))
+    (c.hold_open.ensures.fails clean)

@@ -1,12 +1,13 @@
-use Rattle.std.proofs.Common.{◌≡◌, ◌∙◌, ◌+◌, ◌++◌, ◌∷◌, [], refl, rules, take}
+use Rattle.std.proofs.Common.{◌≡◌, ◌∙◌, ◌+◌, ◌++◌, ◌∷◌, [], refl, rules, subst, sym, take}
 use Rattle.std.proofs.lemmas.List.{take_all, take_more}
 use Rattle.am_rows.proofs.Wearing.{caused_later, unworn, wears_then}
 use Rattle.am_node.specs.Accepting.{accepted}
+use Rattle.am_node.specs.Plans.{HoldsNoAlert}
 use Rattle.am_node.proofs.Accepted.{planned_accepted}
 use Rattle.am_pattern.proofs.AskingLemmas.{stays-refl, stays-trans}
-use Rattle.am_node.proofs.Begun.{begun_more, fresh, still_ahead}
+use Rattle.am_node.proofs.Begun.{accepted_alertless, begun_more, blank_alertless, fresh, still_ahead}
 use Rattle.am_node.proofs.Kept.{blank_planned}
-use Rattle.am_node.proofs.Planned.{all_blank, made_planned}
+use Rattle.am_node.proofs.Planned.{all_blank, made_keeps, made_planned}
 use Rattle.am_node.proofs.parts.Parts.hold_each.Goals as goal
 
 pub loop-tenant-init : goal.loop-tenant-init
@@ -16,6 +17,7 @@ loop-tenant-init g c = record {
   keeps = λ clean t. refl;
   asked = stays-refl c.args.cache.now;
   planned = all_blank c.args.self.now blank_planned c.requires.blank;
+  alertless = λ t. subst HoldsNoAlert (sym (c.requires.blank t)) blank_alertless;
   ahead = λ t none. c.requires.blank t;
   held = λ clean. c.requires.blank;
   wears = λ clean. unworn (g.R.Rows.medium c.args.store.now);
@@ -40,6 +42,8 @@ loop-tenant-preserved g c =
       keeps = λ clean t. c.in_ok-rows.ensures.stays clean t ∙ c.loop-tenant.invariant.keeps (c.rows_of.ensures.clean clean) t;
       planned = made_planned n (accepted c.args.moment c.in_ok-rows.rows.items) c.loop-tenant.self c.hold_rows.new.self c.loop-tenant.invariant.planned c.in_ok-hold_rows.ensures.does
           (planned_accepted c.args.moment c.in_ok-rows.rows.items);
+      alertless = made_keeps HoldsNoAlert n (accepted c.args.moment c.in_ok-rows.rows.items) c.loop-tenant.self c.hold_rows.new.self c.loop-tenant.invariant.alertless
+          c.in_ok-hold_rows.ensures.does (accepted_alertless c.args.moment c.in_ok-rows.rows.items c.in_ok-rows.ensures.stored);
       ahead = λ t none. still_ahead n (take i names) t (accepted c.args.moment c.in_ok-rows.rows.items) c.loop-tenant.self c.hold_rows.new.self c.loop-tenant.invariant.ahead c.in_ok-hold_rows.ensures.does none;
       held = λ clean.
           begun_more n (take i names) c.args.moment c.in_ok-rows.rows.items (g.R.Rows.pairs c.args.store.now) c.loop-tenant.self c.hold_rows.new.self
@@ -49,6 +53,9 @@ loop-tenant-preserved g c =
           wears_then (g.R.Rows.medium c.args.store.now) (g.R.Rows.medium c.loop-tenant.store) (g.R.Rows.medium c.rows_of.new.self)
           (c.loop-tenant.invariant.wears (c.rows_of.ensures.clean clean)) (c.rows_of.ensures.wears clean);
     })
+
+pub returns-clause-planned : goal.returns-clause-planned
+returns-clause-planned g c = λ t. (c.loop-tenant.invariant.planned t, c.loop-tenant.invariant.alertless t)
 
 pub returns-clause-held : goal.returns-clause-held
 returns-clause-held g c = λ clean. rw (take_all c.loop-tenant.tenant-index c.args.names.now c.loop-tenant-test.false) at (c.loop-tenant.invariant.held clean)

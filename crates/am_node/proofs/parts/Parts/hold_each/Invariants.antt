@@ -6,7 +6,7 @@ use Rattle.am_rows.specs.Rows.{Keeps, rows_of}
 use Rattle.am_tenant.specs.Names.{same}
 use Rattle.am_node.specs.Held.{local_of}
 use Rattle.am_node.specs.Local.{blank}
-use Rattle.am_node.specs.Plans.{IsPlanned}
+use Rattle.am_node.specs.Plans.{HoldsNoAlert, IsPlanned}
 use Rattle.am_node.proofs.Begun.{begun}
 use Rattle.am_node.proofs.parts.Parts.hold_each.Given as goal
 
@@ -17,6 +17,7 @@ invariant-loop-tenant g l = record {
   asked : Stays l.fn.cache l.cache;
   keeps : g.R.Rows.is_clean l.store ≡ true → Keeps (g.R.Rows.pairs l.fn.store) (g.R.Rows.pairs l.store);
   planned : (t : List ℕ) → IsPlanned (local_of t l.self);
+  alertless : (t : List ℕ) → HoldsNoAlert (local_of t l.self);
   ahead : (t : List ℕ) → list_any (same t) (take l.tenant-index l.names) ≡ false → local_of t l.self ≡ blank;
   held : g.R.Rows.is_clean l.store ≡ true → (t : List ℕ) → local_of t l.self ≡ begun (list_any (same t) (take l.tenant-index l.names)) l.moment (rows_of t (g.R.Rows.pairs l.fn.store));
   wears : g.R.Rows.is_clean l.store ≡ true → Wears (g.R.Rows.medium l.fn.store) (g.R.Rows.medium l.store);
