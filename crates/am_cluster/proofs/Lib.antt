@@ -17,3 +17,6 @@ pub mod ReplyPieces
 pub mod ReplyTurns
 pub mod Replied
 pub mod Posted
+pub mod Open
+pub mod Posting
+pub mod UpExist

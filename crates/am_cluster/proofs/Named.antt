@@ -15,6 +15,7 @@ use Rattle.am_cluster.specs.Here.{Here}
 use Rattle.am_cluster.specs.Local.{Local, blank}
 use Rattle.am_cluster.specs.Messages.{Message}
 use Rattle.am_cluster.specs.Moments.{effective}
+use Rattle.am_cluster.specs.Naming.{IsPast, NamesOnce}
 use Rattle.am_cluster.specs.Operating.{Decide, decision_on, start}
 use Rattle.am_cluster.specs.Origins.{Origin}
 use Rattle.am_cluster.specs.PrivateCluster.{Course, PrivateCluster, here_at, opened, react, react_all, react_one, reaction_at, stopped, unchanged, unopened, with_all_opened, with_opened}
@@ -26,19 +27,9 @@ use Rattle.am_cluster.specs.SentFacts.{AreNamedOnce, has_name_of}
 use Rattle.am_cluster.specs.Ticking.{ticked}
 use Rattle.am_cluster.specs.Transfers.{forced}
 use Rattle.am_cluster.proofs.Counted.{AreCounted, Counts, IsCounted, arrive_counted, forced_counted, just_opened_counted, learned_counted, outcome_counted, restart_counted, start_counted, ticked_counted}
-use Rattle.am_cluster.proofs.Names.{Each, Each-append, Each-map, IsNew, IsUpTo, all_new, as_sent, counts_grow, more_named}
+use Rattle.am_cluster.proofs.Names.{Each, Each-append, Each-cons, Each-head, Each-map, Each-nil, Each-tail, IsNew, IsUpTo, all_new, as_sent, counts_grow, more_named}
 
 -- ---- the cluster
-
--- a message is of no later incarnation than its sender, and where that is up in that incarnation, counted there
-pub record IsPast (p : PrivateCluster) (m : Message) : Type 0 where
-  pub incarnation : m.incarnation ≤ p.roster.incarnation m.from
-  pub counted : p.roster.up m.from ≡ true → m.incarnation ≡ p.roster.incarnation m.from → m.count ≤ (p.at m.from).ledger.messages
-
--- what was sent has each name once, and what is sent next has others
-pub record NamesOnce (p : PrivateCluster) : Type 0 where
-  pub named : AreNamedOnce p.sent
-  pub past : Each (IsPast p) p.sent
 
 -- what was sent of an up instance in its incarnation
 pub up_to_at : (p : PrivateCluster) (i : ℕ) → p.roster.up i ≡ true → (m : Message) → IsPast p m
@@ -113,7 +104,7 @@ IsSaid p r m = (m.incarnation ≡ p.roster.incarnation m.from) × (m.count ≤ (
 
 all_said : (p : PrivateCluster) (r : ℕ → Reaction) (moment : ℕ) (is : List ℕ) → ((i : ℕ) → Turn p r i) → Each (IsSaid p r) (said_by_all moment r is)
 unfolding as_sent
-all_said p r moment [] turns = tt
+all_said p r moment [] turns = Each-nil (IsSaid p r)
 all_said p r moment (i ∷ is) turns =
     Each-append (IsSaid p r) (sent_at moment (r i).said) (said_by_all moment r is)
     (Each-map (IsNew i (p.roster.incarnation i) (p.at i).ledger.messages (r i).local.ledger.messages) (IsSaid p r) (sent_at moment (r i).said)
@@ -159,7 +150,7 @@ no_count : (i k a : ℕ) (b : Bool) (r : Reaction) (l : Local) → Counts i k l.
 no_count i k a true r l c = c
 no_count i k a false r l c = refl
 
-turns_of : (f : ℕ → Here → Local → Reaction) (m : ℕ) (p : PrivateCluster) → ((i : ℕ) (here : Here) → AreCounted here (f i here))
+pub turns_of : (f : ℕ → Here → Local → Reaction) (m : ℕ) (p : PrivateCluster) → ((i : ℕ) (here : Here) → AreCounted here (f i here))
     → (i : ℕ) → Turn p (reaction_at f m p) i
 unfolding here_at
 turns_of f m p c i = record {
@@ -361,8 +352,10 @@ module _ (g : Sent → Sent) (same : (s : Sent) → (g s).message ≡ s.message)
   )
 
   pub Each-same : (P : Message → Type 0) (xs : List Sent) → Each P xs → Each P (map g xs)
-  Each-same P [] e = tt
-  Each-same P (x ∷ xs) e = (subst P (sym (same x)) e.0, Each-same P xs e.1)
+  Each-same P [] e = Each-nil P
+  Each-same P (x ∷ xs) e =
+      Each-cons P (g x) (map g xs) (subst P (sym (same x)) (Each-head P x xs e))
+      (Each-same P xs (Each-tail P x xs e))
 
 pub delivered_kept : (decide : Decide) (m : ℕ) (o : Option Message) (p : PrivateCluster) → NamesOnce p → NamesOnce (delivered decide m o p).cluster
 delivered_kept decide m None p k = k
@@ -413,7 +406,10 @@ run_kept p [] k = k
 run_kept p (h ∷ hs) k = run_kept (after p h) hs (course_kept (decision_on p.service_key) p h k)
 
 pub nothing_sent : (is : List ℕ) (p : PrivateCluster) → p.sent ≡ [] → NamesOnce (with_all_opened is p)
-nothing_sent [] p e = record { named = subst AreNamedOnce (sym e) tt; past = subst (Each (IsPast p)) (sym e) tt }
+nothing_sent [] p e = record {
+  named = subst AreNamedOnce (sym e) tt;
+  past = subst (Each (IsPast p)) (sym e) (Each-nil (IsPast p));
+}
 nothing_sent (i ∷ is) p e = nothing_sent is (with_opened i p) e
 
 pub first_kept : (origin : Origin) (tenant : List ℕ) (rows : ℕ → List Item) → NamesOnce (opened origin tenant rows)

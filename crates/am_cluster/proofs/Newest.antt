@@ -40,7 +40,7 @@ flags_in_order flags = sym (members_again flags)
 
 -- ---- what was not refused
 
-ring_agreed : (r : Option RingRefusal) (other : Option Refused) → by_ring r other ≡ None → r ≡ None
+pub ring_agreed : (r : Option RingRefusal) (other : Option Refused) → by_ring r other ≡ None → r ≡ None
 ring_agreed None other e = refl
 ring_agreed (Some refusal) other e = absurd cc
 
@@ -49,7 +49,7 @@ not_refuted true refuted = refl
 not_refuted false refuted = absurd (refuted refl)
 
 -- an instance of a ring has the number of one
-is_member : (ring : List ℕ) (i : ℕ) → ring ≡ in_order ring → is_among i ring ≡ true → IsTrue (is_instance i)
+pub is_member : (ring : List ℕ) (i : ℕ) → ring ≡ in_order ring → is_among i ring ≡ true → IsTrue (is_instance i)
 is_member ring i e among =
     not_refuted (is_instance i) (λ isnt. false≢true (sym (stranger (flags_of ring) i isnt) ∙ ap (is_among i) (as_flags ring e) ∙ among))
 

@@ -10,6 +10,7 @@ use Rattle.am_cluster.specs.Delivery.{outcome}
 use Rattle.am_cluster.specs.Happening.{Happening, Asked, Changed, Delivered, Forced, Limited, Lost, Ticked, Tried}
 use Rattle.am_cluster.specs.Messages.{Ack, Answer, Ask, Body, Get, Got, Message, Put, State}
 use Rattle.am_cluster.specs.Moments.{effective}
+use Rattle.am_cluster.specs.Naming.{IsPast, NamesOnce}
 use Rattle.am_cluster.specs.Operating.{Decide, decision_on, start}
 use Rattle.am_cluster.specs.Origins.{Origin}
 use Rattle.am_transfer.specs.Pieces.{Piece, cut}
@@ -21,8 +22,8 @@ use Rattle.am_cluster.specs.Transfers.{forced}
 use Rattle.am_cluster.proofs.Counted.{arrive_counted, forced_counted, outcome_counted, start_counted, ticked_counted}
 use Rattle.am_cluster.proofs.Listed.{arrive_listed, forced_listed, outcome_listed, start_listed, ticked_listed}
 use Rattle.am_cluster.proofs.ListsKept.{AllWithin, Within, list_at}
-use Rattle.am_cluster.proofs.Named.{Each-same, NamesOnce, IsPast, given_up_message, handled_kept, nothing_sent}
-use Rattle.am_cluster.proofs.Names.{Each, Each-map}
+use Rattle.am_cluster.proofs.Named.{Each-same, given_up_message, handled_kept, nothing_sent}
+use Rattle.am_cluster.proofs.Names.{Each, Each-head, Each-map, Each-nil, Each-tail}
 use Rattle.am_cluster.proofs.StatePieces.{AreOne, IsOf, Not, Of, Timely, receiver_of, timely_same}
 use Rattle.am_cluster.proofs.StateTurns.{all_react_one, changed_one, fewer, if_one, react_keeps}
 
@@ -111,8 +112,12 @@ run_one p (h ∷ hs) a = run_one (after p h) hs (course_one (decision_on p.servi
 none_yet : (p : PrivateCluster) → p.sent ≡ [] → NamesOnce p → AreOne p
 none_yet p e kept = record {
   kept = kept;
-  timely = subst (Each (Timely p)) (sym e) tt;
-  one = λ name. record { list = []; pieces = subst (Each (Of name [])) (sym e) tt; kept = λ c. inr (subst (Each (Not name)) (sym e) tt) };
+  timely = subst (Each (Timely p)) (sym e) (Each-nil (Timely p));
+  one = λ name. record {
+    list = [];
+    pieces = subst (Each (Of name [])) (sym e) (Each-nil (Of name []));
+    kept = λ c. inr (subst (Each (Not name)) (sym e) (Each-nil (Not name)));
+  };
 }
 
 sent_nothing : (is : List ℕ) (p : PrivateCluster) → p.sent ≡ [] → (with_all_opened is p).sent ≡ []
@@ -142,7 +147,9 @@ contained (p ∷ ps) all x (suc k) e low is = contained ps all x k e.1 (omega (a
 all_pieces : (name : StateName) (list : List Item) (sent : List Sent) → Each (Of name list) sent → AllWithin (pieces_sent name sent) (cut list)
 unfolding pieces_sent
 all_pieces name list [] e = tt
-all_pieces name list (s ∷ more) e = by_body s.message s.message.body e.0 (all_pieces name list more e.1)
+all_pieces name list (s ∷ more) e =
+    by_body s.message s.message.body (Each-head (Of name list) s more e)
+    (all_pieces name list more (Each-tail (Of name list) s more e))
   where
     by_body : (m : Message) (body : Body) → IsOf name list m body → AllWithin (pieces_sent name more) (cut list)
         → AllWithin (cons_option (piece_in name m body) (pieces_sent name more)) (cut list)

@@ -11,13 +11,14 @@ use Rattle.am_item.specs.Retirement.{moment_after}
 use Rattle.am_cluster.specs.Courses.{after_all}
 use Rattle.am_cluster.specs.Happening.{Happening}
 use Rattle.am_cluster.specs.Messages.{Message}
+use Rattle.am_cluster.specs.Naming.{NamesOnce}
 use Rattle.am_cluster.specs.Origins.{Origin}
 use Rattle.am_cluster.specs.PrivateCluster.{PrivateCluster, here_at, opened}
 use Rattle.am_cluster.specs.Reactions.{Reaction, messages_in}
 use Rattle.am_cluster.specs.Sent.{Sent, is_lost, is_named, message_life, posted, sent_at, unlost, with_given_up}
 use Rattle.am_cluster.specs.SentFacts.{AreNamedOnce, found_as, has_name_of}
 use Rattle.am_cluster.proofs.Counted.{IsCounted}
-use Rattle.am_cluster.proofs.Named.{NamesOnce, named_with, names_are_given_once}
+use Rattle.am_cluster.proofs.Named.{named_with, names_are_given_once}
 
 -- ---- elements of lists
 

@@ -2,7 +2,8 @@
 use Rattle.std.proofs.Common.{ℕ, Bool, true, false, All, Contains, List, [], ◌∷◌, IfSome, Option, Some, None, is_some, if◌then◌else◌, flat_map}
 use Rattle.std.specs.Prelude.{◌==◌}
 use Rattle.std.specs.List.{cons_option}
-use Rattle.std.proofs.lemmas.List.Elements.{All-append, All-contains, All-contains_itself, All-head, All-map, All-nil, All-tail, All-weaker}
+use Rattle.std.proofs.lemmas.List.Elements.{All-append, All-cons, All-contains, All-contains_itself, All-head, All-map, All-nil, All-tail, All-weaker}
+use Rattle.am_http.specs.declared.request.Request.{Request}
 use Rattle.am_item.specs.declared.item.Item.{Item}
 use Rattle.am_ring.specs.Instances.{all_instances}
 use Rattle.am_ring.specs.Replicas.{replicas}
@@ -22,7 +23,7 @@ use Rattle.am_cluster.specs.Operations.{Operation}
 use Rattle.am_cluster.specs.Origins.{Origin}
 use Rattle.am_cluster.specs.PrivateCluster.{Course, PrivateCluster, here_at, opened, output_of, put_out_at, react, react_all, react_one, reaction_at, stopped, unchanged, unopened, with_all_opened, with_opened}
 use Rattle.am_cluster.specs.Reactions.{Reaction, Replies, Said, Sends, Tells, stays}
-use Rattle.am_cluster.specs.Replying.{GoesOver, IsOutOver, IsOver, KeepsConnections, ReplyOver, WaitOver, connection_in, connections_of}
+use Rattle.am_cluster.specs.Replying.{AsksAs, GoesOver, IsOutOver, IsOver, KeepsAskers, ReplyOver, WaitOver, connection_in, connections_of}
 use Rattle.am_cluster.specs.RingChanges.{just_opened, opened as opened_with, ring_learned}
 use Rattle.am_cluster.specs.Roster.{Crashes, Joins, Learns, Leaves, Restarts, RingEvent, put_at, three_at}
 use Rattle.am_cluster.specs.Ticking.{ticked}
@@ -31,14 +32,14 @@ use Rattle.am_cluster.proofs.ReplyPieces.{either_over, if_over, outcome_over, st
 use Rattle.am_cluster.proofs.ReplyTurns.{arrive_over, forced_over, just_opened_over, learned_over, restart_over, ticked_over}
 
 -- each open operation of the tenant will reply over a connection of which P holds
-abbrev pub AllWaitOver : (P : ℕ → Type 0) → PrivateCluster → Type 0
+abbrev pub AllWaitOver : (P : (connection : ℕ) → Request → Type 0) → PrivateCluster → Type 0
 AllWaitOver P p = (i : ℕ) → WaitOver P (p.at i).operations
 
 -- .. after a course, whose replies went over such connections
-abbrev pub IsCourseOver : (P : ℕ → Type 0) → Course → Type 0
+abbrev pub IsCourseOver : (P : (connection : ℕ) → Request → Type 0) → Course → Type 0
 IsCourseOver P c = AllWaitOver P c.cluster × All (IsOutOver P) c.outputs
 
-module _ (P : ℕ → Type 0) where
+module _ (P : (connection : ℕ) → Request → Type 0) where
   -- ---- what is put out
 
   pub out_over : (p : PrivateCluster) (i : ℕ) (said : List Said) → ReplyOver P said
@@ -75,7 +76,7 @@ module _ (P : ℕ → Type 0) where
   if_course_over false c d e f = f
 
   pub one_over : (f : Here → Local → Reaction) (m i : ℕ) (p : PrivateCluster)
-      → ((here : Here) → KeepsConnections P (f here)) → AllWaitOver P p → IsCourseOver P (react_one f m i p)
+      → ((here : Here) → KeepsAskers P (f here)) → AllWaitOver P p → IsCourseOver P (react_one f m i p)
   unfolding react_one
   one_over f m i p keeps w =
       let e = keeps (here_at p m i) (p.at i) (w i) in (
@@ -84,12 +85,12 @@ module _ (P : ℕ → Type 0) where
       )
 
   pub react_over : (f : Here → Local → Reaction) (m i : ℕ) (p : PrivateCluster)
-      → ((here : Here) → KeepsConnections P (f here)) → AllWaitOver P p → IsCourseOver P (react f m i p)
+      → ((here : Here) → KeepsAskers P (f here)) → AllWaitOver P p → IsCourseOver P (react f m i p)
   react_over f m i p keeps w =
       if_course_over (p.roster.up i) (react_one f m i p) (unchanged p) (one_over f m i p keeps w) (unchanged_over p w)
 
   pub all_react_over : (f : ℕ → Here → Local → Reaction) (m : ℕ) (p : PrivateCluster)
-      → ((i : ℕ) (here : Here) → KeepsConnections P (f i here)) → AllWaitOver P p → IsCourseOver P (react_all f m p)
+      → ((i : ℕ) (here : Here) → KeepsAskers P (f i here)) → AllWaitOver P p → IsCourseOver P (react_all f m p)
   unfolding react_all
   all_react_over f m p keeps w = (λ i. (each i).0, all_out_over p (λ i. reaction_at f m p i) each all_instances)
     where
@@ -101,7 +102,7 @@ module _ (P : ℕ → Type 0) where
   -- ---- the ring and its instances
 
   pub none_over : WaitOver P []
-  none_over = All-nil (λ (o : Operation). P o.connection)
+  none_over = All-nil (λ (o : Operation). P o.connection o.request)
 
   pub rows_over : (here : Here) (rows : List Item) → WaitOver P (opened_with here rows).operations
   unfolding opened_with accepted
@@ -138,7 +139,7 @@ module _ (P : ℕ → Type 0) where
       react_over (λ here local. arrive decide here message local) m message.to p
       (λ here. arrive_over P decide here message) w
 
-  pub happening_over : (decide : Decide) (p : PrivateCluster) (h : Happening) → IfSome (connection_in h) P
+  pub happening_over : (decide : Decide) (p : PrivateCluster) (h : Happening) → AsksAs P h
       → AllWaitOver P p → IsCourseOver P (handled_by decide p h)
   unfolding handled_by
   happening_over decide p (Asked connection i moment request) asked w =
@@ -156,7 +157,7 @@ module _ (P : ℕ → Type 0) where
   happening_over decide p (Changed event) asked w = changed_over event p w
   happening_over decide p Forced asked w = all_react_over (λ i. forced) p.clock p (λ i. forced_over P) w
 
-  pub course_over : (decide : Decide) (p : PrivateCluster) (h : Happening) → IfSome (connection_in h) P
+  pub course_over : (decide : Decide) (p : PrivateCluster) (h : Happening) → AsksAs P h
       → AllWaitOver P p → IsCourseOver P (course_by decide p h)
   unfolding course_by
   course_over decide p h asked w =
@@ -165,17 +166,12 @@ module _ (P : ℕ → Type 0) where
 
   -- ---- all that happens
 
-  with_first : (o : Option ℕ) (cs : List ℕ) → All P (cons_option o cs) → IfSome o P × All P cs
-  with_first None cs all = (tt, all)
-  with_first (Some c) cs all = (All-head P c cs all, All-tail P c cs all)
-
-  pub run_over : (p : PrivateCluster) (hs : List Happening) → All P (connections_of hs) → AllWaitOver P p
+  pub run_over : (p : PrivateCluster) (hs : List Happening) → All (AsksAs P) hs → AllWaitOver P p
       → AllWaitOver P (after_all p hs) × All (IsOutOver P) (told_all p hs)
   run_over p [] all w = (w, All-nil (IsOutOver P))
   run_over p (h ∷ hs) all w =
-      let parts = with_first (connection_in h) (connections_of hs) all in
-      let first = course_over (decision_on p.service_key) p h parts.0 w in
-      let more = run_over (after p h) hs parts.1 first.0 in
+      let first = course_over (decision_on p.service_key) p h (All-head (AsksAs P) h hs all) w in
+      let more = run_over (after p h) hs (All-tail (AsksAs P) h hs all) first.0 in
       (more.0, All-append (IsOutOver P) (told p h) (told_all (after p h) hs) first.1 more.1)
 
   -- ---- its start
@@ -191,18 +187,48 @@ module _ (P : ℕ → Type 0) where
 
 -- ---- the connections over which requests came
 
+module _ (Q : ℕ → Type 0) where
+  with_first : (o : Option ℕ) (cs : List ℕ) → All Q (cons_option o cs) → IfSome o Q × All Q cs
+  with_first None cs all = (tt, all)
+  with_first (Some c) cs all = (All-head Q c cs all, All-tail Q c cs all)
+
+  one_asks : (h : Happening) → IfSome (connection_in h) Q → AsksAs (λ connection request. Q connection) h
+  one_asks (Asked connection i moment request) q = q
+  one_asks (Limited limits) q = tt
+  one_asks (Ticked moment) q = tt
+  one_asks (Tried i k number tries moment status) q = tt
+  one_asks (Delivered from k to count moment) q = tt
+  one_asks (Lost from k to count) q = tt
+  one_asks (Changed event) q = tt
+  one_asks Forced q = tt
+
+  -- a predicate on the connections over which requests came alone
+  pub all_ask : (hs : List Happening) → All Q (connections_of hs) → All (AsksAs (λ connection request. Q connection)) hs
+  all_ask [] all = All-nil (AsksAs (λ connection request. Q connection))
+  all_ask (h ∷ hs) all =
+      let parts = with_first (connection_in h) (connections_of hs) all in
+      All-cons (AsksAs (λ connection request. Q connection)) h hs (one_asks h parts.0) (all_ask hs parts.1)
+
+-- the request came over one of these connections
+abbrev Came : List Happening → (connection : ℕ) → Request → Type 0
+Came hs connection request = Contains (connections_of hs) connection
+
+came : (origin : Origin) (tenant : List ℕ) (rows : ℕ → List Item) (hs : List Happening)
+    → AllWaitOver (Came hs) (after_all (opened origin tenant rows) hs)
+    × All (IsOutOver (Came hs)) (told_all (opened origin tenant rows) hs)
+came origin tenant rows hs =
+    run_over (Came hs) (opened origin tenant rows) hs
+    (all_ask (Contains (connections_of hs)) hs (All-contains_itself (connections_of hs)))
+    (opened_over (Came hs) origin tenant rows)
+
 pub operations_answer_requests : (origin : Origin) (tenant : List ℕ) (rows : ℕ → List Item) (hs : List Happening)
-    (i : ℕ) → WaitOver (Contains (connections_of hs)) ((after_all (opened origin tenant rows) hs).at i).operations
-operations_answer_requests origin tenant rows hs i =
-    let came : ℕ → Type 0 = Contains (connections_of hs) in
-    (run_over came (opened origin tenant rows) hs (All-contains_itself (connections_of hs))
-    (opened_over came origin tenant rows)).0 i
+    (i : ℕ) → WaitOver (λ connection request. Contains (connections_of hs) connection)
+    ((after_all (opened origin tenant rows) hs).at i).operations
+operations_answer_requests origin tenant rows hs i = (came origin tenant rows hs).0 i
 
 pub replies_answer_requests : (origin : Origin) (tenant : List ℕ) (rows : ℕ → List Item) (hs : List Happening)
     (connection : ℕ) (bytes : List ℕ) → Contains (told_all (opened origin tenant rows) hs) (Reply connection bytes)
     → Contains (connections_of hs) connection
 replies_answer_requests origin tenant rows hs connection bytes put_out =
-    let came : ℕ → Type 0 = Contains (connections_of hs) in
-    All-contains (IsOutOver came) (told_all (opened origin tenant rows) hs) (Reply connection bytes)
-    (run_over came (opened origin tenant rows) hs (All-contains_itself (connections_of hs))
-    (opened_over came origin tenant rows)).1 put_out
+    (All-contains (IsOutOver (Came hs)) (told_all (opened origin tenant rows) hs) (Reply connection bytes)
+    (came origin tenant rows hs).1 put_out).1

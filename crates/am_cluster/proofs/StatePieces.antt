@@ -7,11 +7,11 @@ use Rattle.am_cluster.specs.Local.{Local}
 use Rattle.am_cluster.specs.Messages.{Ack, Answer, Ask, Body, Get, Got, Message, Put, State}
 use Rattle.am_transfer.specs.Peers.{Peer, peer}
 use Rattle.am_transfer.specs.Pieces.{cut}
+use Rattle.am_cluster.specs.Naming.{NamesOnce}
 use Rattle.am_cluster.specs.PrivateCluster.{PrivateCluster}
 use Rattle.am_cluster.specs.Sent.{Sent}
 use Rattle.am_cluster.specs.SentFacts.{StateName, is_of_state}
 use Rattle.am_cluster.proofs.ListsKept.{Within, list_at}
-use Rattle.am_cluster.proofs.Named.{NamesOnce}
 use Rattle.am_cluster.proofs.Names.{Each, Each-append, Each-map}
 
 -- ---- pieces of one State

@@ -9,6 +9,7 @@ use Rattle.am_cluster.specs.Courses.{at_restart, changed, with_event}
 use Rattle.am_cluster.specs.Here.{Here}
 use Rattle.am_cluster.specs.Local.{Local, blank}
 use Rattle.am_cluster.specs.Messages.{Ack, Answer, Ask, Body, Get, Got, Message, Put, State}
+use Rattle.am_cluster.specs.Naming.{IsPast, NamesOnce}
 use Rattle.am_transfer.specs.Peers.{peer}
 use Rattle.am_cluster.specs.PrivateCluster.{Course, PrivateCluster, here_at, react, react_all, react_one, reaction_at, stopped, unchanged, with_opened}
 use Rattle.am_cluster.specs.Reactions.{Reaction, messages_in, stays}
@@ -20,8 +21,8 @@ use Rattle.am_cluster.specs.SentFacts.{StateName, is_of_state}
 use Rattle.am_cluster.proofs.Counted.{AreCounted, Counts, just_opened_counted, learned_counted, restart_counted}
 use Rattle.am_cluster.proofs.Listed.{SendsListed, just_opened_listed, learned_sends, restart_listed}
 use Rattle.am_cluster.proofs.ListsKept.{AreCut, AreListed, cut_in, list_at}
-use Rattle.am_cluster.proofs.Named.{NamesOnce, IsPast, all_react_kept, down_kept, one_kept, opened_kept, put_elsewhere, put_here, said_by_all}
-use Rattle.am_cluster.proofs.Names.{Each, Each-append, Each-map, as_sent}
+use Rattle.am_cluster.proofs.Named.{all_react_kept, down_kept, one_kept, opened_kept, put_elsewhere, put_here, said_by_all}
+use Rattle.am_cluster.proofs.Names.{Each, Each-append, Each-cons, Each-head, Each-map, Each-nil, Each-tail, as_sent}
 use Rattle.am_cluster.proofs.StatePieces.{AreOne, Carries, IsCurrent, IsNone, IsOne, New, Not, Of, Timely, new_in, receiver_of, refuted, same_state, step, timely_in, timely_same}
 
 -- ---- reactions
@@ -44,11 +45,11 @@ new_one p at i here l m (Got incarnation place) epoch up same from inc e = tt
 pub new_of : (p : PrivateCluster) (at : ℕ → Local) (i a b moment : ℕ) (here : Here) (l : Local) (ms : List Message) → here.epoch ≡ p.roster.known i
     → p.roster.up i ≡ true → at i ≡ l → Counts i (p.roster.incarnation i) a ms b → AreCut here l ms → Each (New p at) (as_sent moment ms)
 unfolding as_sent
-new_of p at i a b moment here l [] epoch up same c e = tt
-new_of p at i a b moment here l (m ∷ ms) epoch up same c e = (
-  new_one p at i here l m m.body epoch up same c.0 c.1 e.0,
-  new_of p at i (a + 1) b moment here l ms epoch up same c.3 e.1,
-)
+new_of p at i a b moment here l [] epoch up same c e = Each-nil (New p at)
+new_of p at i a b moment here l (m ∷ ms) epoch up same c e =
+    Each-cons (New p at) (record { message = m; moment = moment; given_up = false }) (as_sent moment ms)
+    (new_one p at i here l m m.body epoch up same c.0 c.1 e.0)
+    (new_of p at i (a + 1) b moment here l ms epoch up same c.3 e.1)
 
 -- what an instance says at its turn, where it is up; else it says nothing
 pub turn_new : (f : ℕ → Here → Local → Reaction) (m : ℕ) (p : PrivateCluster) (at : ℕ → Local) (i : ℕ) → AreCounted (here_at p m i) (f i (here_at p m i))
@@ -60,12 +61,12 @@ turn_new f m p at i c s true up same =
     let r : Reaction = f i (here_at p m i) (p.at i) in
     new_of p at i (p.at i).ledger.messages r.local.ledger.messages m (here_at p m i) r.local (messages_in r.said) refl up same
     (c (p.at i)) (s (p.at i)).1
-turn_new f m p at i c s false down same = tt
+turn_new f m p at i c s false down same = Each-nil (New p at)
 
 pub turns_new : (f : ℕ → Here → Local → Reaction) (m : ℕ) (p : PrivateCluster) (is : List ℕ) → ((i : ℕ) (here : Here) → AreCounted here (f i here))
     → ((i : ℕ) (here : Here) → AreListed here (f i here))
     → Each (New p (λ i. (reaction_at f m p i).local)) (said_by_all m (reaction_at f m p) is)
-turns_new f m p [] c s = tt
+turns_new f m p [] c s = Each-nil (New p (λ i. (reaction_at f m p i).local))
 turns_new f m p (i ∷ is) c s =
     Each-append (New p (λ j. (reaction_at f m p j).local)) (sent_at m (reaction_at f m p i).said) (said_by_all m (reaction_at f m p) is)
     (turn_new f m p (λ j. (reaction_at f m p j).local) i (c i (here_at p m i)) (s i (here_at p m i)) (p.roster.up i) refl refl)
@@ -132,8 +133,10 @@ react_keeps f m i p c s a =
 -- facts that follow from what is past and timely
 pub each_both : (p : PrivateCluster) (xs : List Sent) (Q : Message → Type 0) → ((m : Message) → IsPast p m → Timely p m → Q m)
     → Each (IsPast p) xs → Each (Timely p) xs → Each Q xs
-each_both p [] Q f e d = tt
-each_both p (x ∷ xs) Q f e d = (f x.message e.0 d.0, each_both p xs Q f e.1 d.1)
+each_both p [] Q f e d = Each-nil Q
+each_both p (x ∷ xs) Q f e d =
+    Each-cons Q x xs (f x.message (Each-head (IsPast p) x xs e) (Each-head (Timely p) x xs d))
+    (each_both p xs Q f (Each-tail (IsPast p) x xs e) (Each-tail (Timely p) x xs d))
 
 -- a State that is current now was current before, with the same at its sender; or it has no piece
 abbrev pub WasCurrent : PrivateCluster → PrivateCluster → StateName → Type 0

@@ -60,6 +60,8 @@ pub mod View
 pub mod Outputs
 -- facts about what was sent
 pub mod SentFacts
+-- names of messages are given once
+pub mod Naming
 -- acknowledged writes stay
 pub mod AcknowledgedWrites
 -- tenants whom nothing has named

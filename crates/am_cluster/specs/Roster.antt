@@ -1,7 +1,7 @@
 -- The instances: the rings so far, which ring each instance knows, which of them are up, and in which incarnation.
-use Rattle.std.specs.Prelude.{◌≡◌, ℕ, ◌+◌, Bool, true, false, ◌&&◌, not, nat_le, nat_lt, ◌==◌, List, [], ◌∷◌, ◌++◌, Option, Some, None, if◌then◌else◌}
+use Rattle.std.specs.Prelude.{◌≡◌, ℕ, ◌+◌, Bool, true, false, ◌&&◌, not, nat_le, nat_lt, ◌==◌, Contains, List, [], ◌∷◌, ◌++◌, Option, Some, None, if◌then◌else◌}
 use Rattle.am_ring.specs.Changes.{join_refusal, leave_refusal, with_instance, without}
-use Rattle.am_ring.specs.Instances.{in_order, is_among, is_instance}
+use Rattle.am_ring.specs.Instances.{all_instances, in_order, is_among, is_instance}
 use Rattle.am_ring.specs.declared.refusal.RingRefusal.{RingRefusal}
 use Rattle.am_ring.specs.declared.refusal.RingRefusal.TheVariants as ring
 use Rattle.am_setup.specs.Setup.{Origin as Setting}
@@ -38,6 +38,10 @@ pub record IsSameRoster (one other : Roster) : Type 0 where
   pub up : (i : ℕ) → one.up i ≡ other.up i
   pub incarnation : (i : ℕ) → one.incarnation i ≡ other.incarnation i
   pub first : one.first ≡ other.first
+
+-- only instances are up
+abbrev pub AreInstancesUp : Roster → Type 0
+AreInstancesUp roster = (i : ℕ) → roster.up i ≡ true → Contains all_instances i
 
 abbrev pub ring_now : Roster → List ℕ
 ring_now roster = newest_ring roster.rings

@@ -87,7 +87,8 @@ pub fn messages_are_found_once()
 /// and so will the reply of each open operation at each instance.
 pub fn replies_answer_requests()
     ensures operations { (origin : Origin) (tenant : List ℕ) (rows : ℕ → List Item) (hs : List Happening) (i : ℕ)
-        → WaitOver (Contains (connections_of hs)) ((after_all (opened origin tenant rows) hs).at i).operations }
+        → WaitOver (λ connection request. Contains (connections_of hs) connection)
+        ((after_all (opened origin tenant rows) hs).at i).operations }
     ensures replies { (origin : Origin) (tenant : List ℕ) (rows : ℕ → List Item) (hs : List Happening)
         (connection : ℕ) (bytes : List ℕ) → Contains (told_all (opened origin tenant rows) hs) (Reply connection bytes)
         → Contains (connections_of hs) connection }
