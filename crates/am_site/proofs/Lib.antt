@@ -4,6 +4,7 @@ pub mod Answers
 pub mod Arrived
 pub mod Arrives
 pub mod Begun
+pub mod Brought
 pub mod Came
 pub mod CarriedOut
 pub mod Carrying

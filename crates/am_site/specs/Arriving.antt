@@ -1,7 +1,9 @@
 -- What an instance does with a message that comes, and why it stops at one.
-use Rattle.std.specs.Prelude.{◌≡◌, ◌⊎◌, ℕ, Bool, true, false, List, [], Option, None, IfSome, Result, if◌then◌else◌}
+use Rattle.std.specs.Prelude.{◌≡◌, ◌⊎◌, ℕ, Bool, true, false, List, [], Option, Some, None, IfSome, Result}
+use Rattle.std.specs.Prelude.{if◌then◌else◌}
 use Rattle.am_api.specs.Replied.{Decision, refused}
-use Rattle.am_cluster.specs.Arriving.{answer_get, arrive, does, is_meant}
+use Rattle.am_cluster.specs.Arriving.{Arrival, Counted, Dropped, Taken, answer_get, arrival, arrive, does, is_meant}
+use Rattle.am_cluster.specs.Here.{Here}
 use Rattle.am_cluster.specs.Local.{Local}
 use Rattle.am_cluster.specs.Messages.{Ack, Answer, Ask, Body, Get, Got, Message, Put, State}
 use Rattle.am_cluster.specs.Operating.{acked}
@@ -11,8 +13,12 @@ use Rattle.am_item.specs.declared.fault.Fault.{Fault}
 use Rattle.am_item.specs.declared.fault.Fault.TheVariants.{OutOfMemory, CountsExhausted, PatternNotBuilt, StoreRefused}
 use Rattle.am_item.specs.declared.item.Item.{Item}
 use Rattle.am_muting.specs.Failing.{AddsAmong}
+use Rattle.am_node.specs.Accepting.{accepted_for}
+use Rattle.am_node.specs.Local.{Local as NodeLocal}
+use Rattle.am_node.specs.Storing.{LeavesStore}
 use Rattle.am_pattern.specs.Asking.{Asked, Grows}
 use Rattle.am_pattern.specs.Cache.{Cache}
+use Rattle.am_rows.specs.Refusing.{Medium}
 use Rattle.am_transfer.specs.Peers.{peer}
 use Rattle.am_site.specs.Deciding.{IsDecided, StopsAnswering, asked_by, decides_on}
 use Rattle.am_site.specs.Here.{here_of}
@@ -133,6 +139,26 @@ brought_by (Ack operation incarnation) = []
 brought_by (Ask incarnation) = []
 brought_by (Got incarnation place) = []
 
+-- the items that a message has for a replica to hold, where it is of a kind that has any
+abbrev pub brought_in : Body → Option (List Item)
+brought_in (Put operation items) = Some items
+brought_in (State incarnation place is_last items) = Some items
+brought_in (Get operation) = None
+brought_in (Answer operation incarnation items) = None
+brought_in (Ack operation incarnation) = None
+brought_in (Ask incarnation) = None
+brought_in (Got incarnation place) = None
+
+-- .. by what becomes of it: only one that is taken brings them
+abbrev pub brought_as : Arrival → Body → Option (List Item)
+brought_as Taken body = brought_in body
+brought_as Dropped body = None
+brought_as Counted body = None
+
+-- .. at an instance that has this of the tenant
+abbrev pub brought_at : Here → Message → Local → Option (List Item)
+brought_at here message local = brought_as (arrival here message local) message.body
+
 abbrev pub is_plain : Body → Bool
 is_plain (Put operation items) = false
 is_plain (State incarnation place is_last items) = false
@@ -141,3 +167,24 @@ is_plain (Answer operation incarnation items) = true
 is_plain (Ack operation incarnation) = true
 is_plain (Ask incarnation) = true
 is_plain (Got incarnation place) = true
+
+-- ---- what it leaves in the store
+
+-- what an instance has of each tenant where these items of one are accepted at a moment, if there are any
+abbrev pub with_brought : Option (List Item) → (tenant : List ℕ) → (moment : ℕ) → (List ℕ → NodeLocal) → List ℕ
+    → NodeLocal
+with_brought None tenant moment locals t = locals t
+with_brought (Some items) tenant moment locals t = accepted_for tenant moment items t (locals t)
+
+-- there are any, and no store takes them
+abbrev pub IsRejected : (Rejects : List ℕ → List Item → Type 0) → (tenant : List ℕ) → Option (List Item) → Type 0
+IsRejected Rejects tenant None = ⊥
+IsRejected Rejects tenant (Some items) = Rejects tenant items
+
+-- what a call leaves there that accepts these items, if there are any: where there are none, the rows of before
+abbrev pub LeavesBrought : (Rejects : List ℕ → List Item → Type 0) → Option (List Item) → (tenant : List ℕ)
+    → (moment : ℕ) → (before : List ℕ → NodeLocal) → Option Fault → (old new : Medium) → List (List ℕ × Item)
+    → Type 0
+LeavesBrought Rejects brought tenant moment before fault old new pairs =
+    LeavesStore before (with_brought brought tenant moment before) (IsRejected Rejects tenant brought)
+    fault old new pairs

@@ -3,11 +3,11 @@
 ghost use Rattle.std.specs.Prelude.{◌≡◌, ◌≤◌, ℕ, List, IfErr, OnOk, length, true};
 ghost use Rattle.am_cluster.specs.Arriving.{is_meant};
 ghost use Rattle.am_cluster.specs.Messages.{is_answer};
-ghost use Rattle.am_node.specs.Accepting.{accepted_for};
 ghost use Rattle.am_node.specs.Held.{local_of as local_in_node};
-ghost use Rattle.am_node.specs.Storing.{AreStored, LeavesStore};
+ghost use Rattle.am_node.specs.Storing.{AreStored};
 ghost use Rattle.am_replica.specs.Storing.{fault_in};
-ghost use Rattle.am_site.specs.Arriving.{Arrives, AsksAt, AsksFor, StopsArriving, StopsAt, Takes, brought_by, is_plain};
+ghost use Rattle.am_site.specs.Arriving.{Arrives, AsksAt, AsksFor, LeavesBrought, StopsArriving, StopsAt, Takes};
+ghost use Rattle.am_site.specs.Arriving.{brought_at, brought_in, is_plain};
 ghost use Rattle.am_site.specs.Here.{here_of};
 ghost use Rattle.am_site.specs.InOrder.{IsInOrder};
 ghost use Rattle.am_site.specs.Locals.{local_of};
@@ -32,7 +32,7 @@ impl Site {
     ///
     /// # Errors
     /// Those of what the message is for; and `CountsExhausted` where the Asks would pass a count. The rows are as
-    /// before, or as committed.
+    /// before; or as committed, of a Put or a State that is meant and of the epoch that is known.
     pub fn arrive<R: Rows>(
         &mut self,
         alloc: Global,
@@ -55,10 +55,9 @@ impl Site {
         ensures open { OnOk result (R.is_open store.new ≡ true) }
         ensures stores { R.is_clean store.new ≡ true → AreStored self.old.node (R.pairs store.old)
             → OnOk result (AreStored self.new.node (R.pairs store.new)) }
-        ensures left { R.is_clean store.new ≡ true → AreStored self.old.node (R.pairs store.old) → LeavesStore
-            (λ t. local_in_node t self.old.node) (λ t. accepted_for here.now.tenant.now here.now.moment
-            (brought_by message.body) t (local_in_node t self.old.node))
-            (R.rejects here.now.tenant.now (brought_by message.body))
+        ensures left { R.is_clean store.new ≡ true → AreStored self.old.node (R.pairs store.old) → LeavesBrought
+            R.rejects (brought_at (here_of here.now) message (local_of here.now.tenant.now self.old))
+            here.now.tenant.now here.now.moment (λ t. local_in_node t self.old.node)
             (fault_in result) (R.medium store.old) (R.medium store.new) (R.pairs store.new) }
     {
         if !self.is_meant(here, &message) {
@@ -102,10 +101,9 @@ impl Site {
         ensures open { OnOk result (R.is_open store.new ≡ true) }
         ensures stores { R.is_clean store.new ≡ true → AreStored self.old.node (R.pairs store.old)
             → OnOk result (AreStored self.new.node (R.pairs store.new)) }
-        ensures left { R.is_clean store.new ≡ true → AreStored self.old.node (R.pairs store.old) → LeavesStore
-            (λ t. local_in_node t self.old.node) (λ t. accepted_for here.now.tenant.now here.now.moment
-            (brought_by message.body) t (local_in_node t self.old.node))
-            (R.rejects here.now.tenant.now (brought_by message.body))
+        ensures left { R.is_clean store.new ≡ true → AreStored self.old.node (R.pairs store.old) → LeavesBrought
+            R.rejects (brought_in message.body)
+            here.now.tenant.now here.now.moment (λ t. local_in_node t self.old.node)
             (fault_in result) (R.medium store.old) (R.medium store.new) (R.pairs store.new) }
     {
         let from = Peer {

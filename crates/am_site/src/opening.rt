@@ -1,14 +1,13 @@
 //! What an instance begins with: the rows that its store kept of the tenants of which it is a replica.
 
-ghost use Rattle.std.specs.Prelude.{◌≡◌, ℕ, List, IfErr, OnOk, Some, true};
+ghost use Rattle.std.specs.Prelude.{◌≡◌, ℕ, List, IfErr, OnOk, true};
 ghost use Rattle.am_cluster.specs.Local.{blank};
 ghost use Rattle.am_node.specs.Storing.{AreStored};
 ghost use Rattle.am_pattern.specs.Asking.{Asked};
-ghost use Rattle.am_rows.specs.Refusing.{IsCaused, MayRefuse, Wears};
+ghost use Rattle.am_rows.specs.Refusing.{IsCaused, IsJudged, MayRefuse, Wears};
 ghost use Rattle.am_rows.specs.Rows.{Makes as MakesRows};
 ghost use Rattle.am_site.specs.Locals.{local_of};
-ghost use Rattle.am_site.specs.Opening.{AreOpened, FailsToOpen, KeepsOwn, KeepsOwnAmong, KeepsRest, own_rows};
-ghost use Rattle.am_site.specs.Reacting.{position_in};
+ghost use Rattle.am_site.specs.Opening.{AreOpened, HoldsNoAlerts, KeepsOwn, KeepsOwnAmong, KeepsRest, own_rows};
 
 use crate::site::Site;
 use am_pattern::PatternCache;
@@ -20,7 +19,8 @@ use std::alloc::Global;
 
 impl Site {
     /// Opens a store, and accepts at a moment what it has of the tenants of which the instance is a replica in a ring,
-    /// where nothing is had of any. What it has of other tenants is dropped from it.
+    /// where nothing is had of any. What it has of other tenants is dropped from it. No alert is held then, whatever
+    /// the disk returned.
     ///
     /// # Errors
     /// `F2` where a call of the database was refused, `F3` where it is no store, or out of memory. What it has of other
@@ -37,20 +37,20 @@ impl Site {
         requires { (t : List ℕ) → local_of t self.old ≡ blank }
         ensures opened { R.is_clean store.new ≡ true → OnOk result
             (AreOpened ring.now.instances instance moment (R.pairs store.old) self.new) }
-        ensures positions { R.is_clean store.new ≡ true → OnOk result
-            ((t : List ℕ) → position_in t self.new ≡ Some 0) }
+        ensures alerts { OnOk result (HoldsNoAlerts self.new) }
         ensures rest { KeepsRest self.old self.new }
         ensures asked { Asked result cache.old cache.new }
         ensures clean { R.is_clean store.new ≡ true → R.is_clean store.old ≡ true }
         ensures open { OnOk result (R.is_open store.new ≡ true) }
         ensures stores { R.is_clean store.new ≡ true → OnOk result (AreStored self.new.node (R.pairs store.new)) }
-        ensures fails { R.is_clean store.new ≡ true → IfErr result (FailsToOpen R.Rows store.old store.new) }
+        ensures fails { R.is_clean store.new ≡ true
+            → IfErr result (IsJudged (R.is_foreign store.old) (MayRefuse (R.medium store.old) (R.medium store.new))) }
     {
         store.open(alloc)?;
         keep_own(alloc, ring, instance, store)?;
         // A node without anything of any tenant may still have its groups wait by another position.
         self.node.clear(alloc);
-        self.node.hold(alloc, moment, cache, store)
+        self.node.hold_open(alloc, moment, cache, store)
     }
 }
 

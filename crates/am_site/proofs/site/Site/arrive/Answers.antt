@@ -1,5 +1,9 @@
-use Rattle.std.proofs.Common.{sym, ◌∙◌}
+use Rattle.std.proofs.Common.{None, sym, ◌∙◌}
 use Rattle.std.proofs.lemmas.Result.{err_from_is_err_and}
+use Rattle.am_cluster.specs.Transfers.{asks_first}
+use Rattle.am_site.specs.Here.{here_of}
+use Rattle.am_site.specs.Locals.{local_of}
+use Rattle.am_site.proofs.Brought.{counted_brings, late_brings, left_alone, left_as, left_then, stops_unrefused, taken_brings, unmeant_brings}
 use Rattle.am_site.proofs.Arrives.{another_epoch, arrives_counted, arrives_late, arrives_taken, arrives_unmeant, same_epoch, stops_asking}
 use Rattle.am_site.proofs.site.Site.arrive.Goals as goal
 
@@ -31,3 +35,48 @@ returns-in_err-ask_first-clause-fault g c =
     (stops_asking c.args.here.now c.args.cache.now.refused c.take-2.new.cache.refused c.args.message c.args.self.now c.take-2.new.self c.args.outbox.now.items c.take-2.new.outbox.items
     (sym c.is_meant.ensures ∙ c.if-not-is_meant.false) c.in_ok-take-2.ensures.takes c.in_err-ask_first.field-0.0
     (same_epoch c.args.message.epoch c.args.here.now.epoch c.if-not-is_current.false) c.in_err-ask_first.ensures.fault)
+
+pub returns-then-not-is_meant-clause-left : goal.returns-then-not-is_meant-clause-left
+returns-then-not-is_meant-clause-left g c clean stored =
+    left_alone g.R.Rows.rejects _ _ _ _ _ _ _ (unmeant_brings (here_of c.args.here.now) c.args.message (local_of c.args.here.now.tenant.now c.args.self.now) (sym c.is_meant.ensures ∙ c.if-not-is_meant.true)) stored
+
+pub returns-else-is_answer-clause-left : goal.returns-else-is_answer-clause-left
+returns-else-is_answer-clause-left g c clean stored =
+    left_alone g.R.Rows.rejects _ _ _ _ _ _ _
+    (late_brings (here_of c.args.here.now) c.args.message (local_of c.args.here.now.tenant.now c.args.self.now)
+    (sym c.is_meant.ensures ∙ c.if-not-is_meant.false) (another_epoch c.args.message.epoch c.args.here.now.epoch c.if-not-is_current.true) (sym c.is_answer.ensures ∙ c.if-is_answer.false)) stored
+
+pub returns-in_ok-take-clause-left : goal.returns-in_ok-take-clause-left
+returns-in_ok-take-clause-left g c clean stored =
+    left_as g.R.Rows.rejects _ _ _ _ _ _ _ _ _
+    (counted_brings (here_of c.args.here.now) c.args.message (local_of c.args.here.now.tenant.now c.args.self.now)
+    (sym c.is_meant.ensures ∙ c.if-not-is_meant.false) (another_epoch c.args.message.epoch c.args.here.now.epoch c.if-not-is_current.true) (sym c.is_answer.ensures ∙ c.if-is_answer.true))
+    (c.in_ok-take.ensures.left clean stored)
+
+pub returns-in_err-take-clause-left : goal.returns-in_err-take-clause-left
+returns-in_err-take-clause-left g c clean stored =
+    let p = err_from_is_err_and c.from_residual.result c.from_residual.ensures.1 in
+    rw (p.1, p.2)
+    (left_as g.R.Rows.rejects _ _ _ _ _ _ _ _ _
+    (counted_brings (here_of c.args.here.now) c.args.message (local_of c.args.here.now.tenant.now c.args.self.now)
+    (sym c.is_meant.ensures ∙ c.if-not-is_meant.false) (another_epoch c.args.message.epoch c.args.here.now.epoch c.if-not-is_current.true) (sym c.is_answer.ensures ∙ c.if-is_answer.true))
+    (c.in_err-take.ensures.left clean stored))
+
+pub returns-clause-left : goal.returns-clause-left
+returns-clause-left g c clean stored =
+    left_then g.R.Rows.rejects _ _ _ _ _ _ _ None None (λ refused. let clash = refused in cc)
+    (left_as g.R.Rows.rejects _ _ _ _ _ _ _ _ _ (taken_brings (here_of c.args.here.now) c.args.message (local_of c.args.here.now.tenant.now c.args.self.now) (sym c.is_meant.ensures ∙ c.if-not-is_meant.false) (same_epoch c.args.message.epoch c.args.here.now.epoch c.if-not-is_current.false)) (c.in_ok-take-2.ensures.left clean stored))
+
+pub returns-in_err-take-2-clause-left : goal.returns-in_err-take-2-clause-left
+returns-in_err-take-2-clause-left g c clean stored =
+    let p = err_from_is_err_and c.from_residual-in_err-take-2.result c.from_residual-in_err-take-2.ensures.1 in
+    rw (p.1, p.2)
+    (left_as g.R.Rows.rejects _ _ _ _ _ _ _ _ _ (taken_brings (here_of c.args.here.now) c.args.message (local_of c.args.here.now.tenant.now c.args.self.now) (sym c.is_meant.ensures ∙ c.if-not-is_meant.false) (same_epoch c.args.message.epoch c.args.here.now.epoch c.if-not-is_current.false)) (c.in_err-take-2.ensures.left clean stored))
+
+pub returns-in_err-ask_first-clause-left : goal.returns-in_err-ask_first-clause-left
+returns-in_err-ask_first-clause-left g c clean stored =
+    let p = err_from_is_err_and c.from_residual-in_err-ask_first.result c.from_residual-in_err-ask_first.ensures.1 in
+    rw (p.1, p.2)
+    (left_then g.R.Rows.rejects _ _ _ _ _ _ _ None _
+    (stops_unrefused c.args.here.now.tenant.now (asks_first (here_of c.args.here.now)) c.take-2.new.self c.in_err-ask_first.field-0.0 c.in_err-ask_first.ensures.fault)
+    (left_as g.R.Rows.rejects _ _ _ _ _ _ _ _ _ (taken_brings (here_of c.args.here.now) c.args.message (local_of c.args.here.now.tenant.now c.args.self.now) (sym c.is_meant.ensures ∙ c.if-not-is_meant.false) (same_epoch c.args.message.epoch c.args.here.now.epoch c.if-not-is_current.false)) (c.in_ok-take-2.ensures.left clean stored)))

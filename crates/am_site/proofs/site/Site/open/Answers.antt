@@ -1,52 +1,49 @@
-use Rattle.std.proofs.Common.{◌≡◌, inl, inr, refl, true}
+use Rattle.std.proofs.Common.{◌≡◌, refl, true}
 use Rattle.std.proofs.lemmas.Result.{IfErr-weaker, err_from_is_err_and, on_ok_weaker}
 use Rattle.am_rows.proofs.Wearing.{judged_later, wears_then}
-use Rattle.am_site.proofs.Opened.{first_positions, own_behind, opens}
+use Rattle.am_site.proofs.Opened.{none_held, opens, own_behind}
 use Rattle.am_site.proofs.site.Site.open.Goals as goal
 
 pub returns-clause-opened : goal.returns-clause-opened
 returns-clause-opened g c = λ clean.
-    let left : g.R.Rows.is_clean c.keep_own.new.store ≡ true = c.hold.ensures.clean clean in
+    let left : g.R.Rows.is_clean c.keep_own.new.store ≡ true = c.hold_open.ensures.clean clean in
     let found : g.R.Rows.is_clean c.open.new.self ≡ true = c.keep_own.ensures.clean left in
     let pairs = g.R.Rows.pairs in
     let ring = c.args.ring.now.instances in
-    on_ok_weaker c.hold.result
-    (λ held. opens ring c.args.instance c.args.moment c.args.self.now c.hold.new.self c.requires (pairs c.args.store.now) (pairs c.keep_own.new.store)
+    on_ok_weaker c.hold_open.result
+    (λ held. opens ring c.args.instance c.args.moment c.args.self.now c.hold_open.new.self c.requires (pairs c.args.store.now) (pairs c.keep_own.new.store)
     (own_behind ring c.args.instance (pairs c.args.store.now) (pairs c.open.new.self) (pairs c.keep_own.new.store) (c.in_ok-open.ensures.opened found) (c.in_ok-keep_own.ensures.kept left))
     held)
-    (c.hold.ensures.held clean)
+    (c.hold_open.ensures.held clean)
 
-pub returns-clause-positions : goal.returns-clause-positions
-returns-clause-positions g c = λ clean.
-    on_ok_weaker c.hold.result (λ held. first_positions c.args.moment c.hold.new.self (g.R.Rows.pairs c.keep_own.new.store) held) (c.hold.ensures.held clean)
+pub returns-clause-alerts : goal.returns-clause-alerts
+returns-clause-alerts g c = on_ok_weaker c.hold_open.result (none_held c.args.self.now c.hold_open.new.self) c.hold_open.ensures.alerts
 
 pub returns-clause-rest : goal.returns-clause-rest
 returns-clause-rest g c = record { operations = refl; settling = refl }
 
+pub returns-clause-stores : goal.returns-clause-stores
+returns-clause-stores g c = λ clean. on_ok_weaker c.hold_open.result (λ still. still.stores) (c.hold_open.ensures.stores clean)
+
 pub returns-clause-fails : goal.returns-clause-fails
 returns-clause-fails g c = λ clean.
     let m = g.R.Rows.medium in
-    let left = c.hold.ensures.clean clean in
+    let left = c.hold_open.ensures.clean clean in
     let found = c.keep_own.ensures.clean left in
-    IfErr-weaker c.hold.result _ _
-    (λ failure judged. inr (record {
-      left = c.keep_own.new.store;
-      clean = left;
-      opened = c.in_ok-keep_own.ensures.«open»;
-      wears = wears_then (m c.args.store.now) (m c.open.new.self) (m c.keep_own.new.store) (c.open.ensures.wears found) (c.keep_own.ensures.wears left);
-      judged = judged;
-    }))
-    (c.hold.ensures.fails clean)
+    let worn = wears_then (m c.args.store.now) (m c.open.new.self) (m c.keep_own.new.store) (c.open.ensures.wears found) (c.keep_own.ensures.wears left) in
+    IfErr-weaker c.hold_open.result _ _
+    (judged_later (m c.args.store.now) (m c.keep_own.new.store) (m c.hold_open.new.store) worn (c.hold_open.ensures.wears clean) (g.R.Rows.is_foreign c.args.store.now))
+    (c.hold_open.ensures.fails clean)
 
 pub returns-in_err-open-clause-fails : goal.returns-in_err-open-clause-fails
 returns-in_err-open-clause-fails g c = λ clean.
     let p = err_from_is_err_and c.from_residual.result c.from_residual.ensures.1 in
-    rw (p.1, p.2) (inl (c.in_err-open.ensures.fails clean))
+    rw (p.1, p.2) (c.in_err-open.ensures.fails clean)
 
 pub returns-in_err-keep_own-clause-fails : goal.returns-in_err-keep_own-clause-fails
 returns-in_err-keep_own-clause-fails g c = λ clean.
     let m = g.R.Rows.medium in
     let p = err_from_is_err_and c.from_residual-in_err-keep_own.result c.from_residual-in_err-keep_own.ensures.1 in
     rw (p.1, p.2)
-    (inl (judged_later (m c.args.store.now) (m c.open.new.self) (m c.keep_own.new.store) (c.open.ensures.wears (c.keep_own.ensures.clean clean)) (c.keep_own.ensures.wears clean)
-    (g.R.Rows.is_foreign c.args.store.now) _ (c.in_err-keep_own.ensures.fails clean)))
+    (judged_later (m c.args.store.now) (m c.open.new.self) (m c.keep_own.new.store) (c.open.ensures.wears (c.keep_own.ensures.clean clean)) (c.keep_own.ensures.wears clean)
+    (g.R.Rows.is_foreign c.args.store.now) _ (c.in_err-keep_own.ensures.fails clean))
