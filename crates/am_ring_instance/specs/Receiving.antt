@@ -1,5 +1,5 @@
 -- What an instance does with a message that comes.
-use Rattle.std.specs.Prelude.{◌≡◌, ◌⊎◌, ℕ, List}
+use Rattle.std.specs.Prelude.{◌≡◌, ◌⊎◌, ℕ, List, Option}
 use Rattle.am_api.specs.Replied.{Decision}
 use Rattle.am_cluster.specs.Arriving.{arrive}
 use Rattle.am_cluster.specs.Events.{Output}
@@ -7,11 +7,12 @@ use Rattle.am_cluster.specs.Messages.{Message}
 use Rattle.am_item.specs.declared.fault.Fault.{Fault}
 use Rattle.am_item.specs.declared.fault.Fault.TheVariants.{OutOfMemory}
 use Rattle.am_muting.specs.Failing.{AddsAmong}
-use Rattle.am_site.specs.Arriving.{IsMade, StopsArriving, decided_by}
+use Rattle.am_item.specs.declared.item.Item.{Item}
+use Rattle.am_site.specs.Arriving.{IsMade, StopsArriving, brought_at, decided_by}
 use Rattle.am_site.specs.Deciding.{asked_by}
 use Rattle.am_site.specs.declared.here.Here.{Here as Given}
 use Rattle.am_ring_instance.specs.declared.instance.Instance.{Instance}
-use Rattle.am_ring_instance.specs.Here.{Circumstances, IsGiven}
+use Rattle.am_ring_instance.specs.Here.{Circumstances, IsGiven, here_on}
 use Rattle.am_ring_instance.specs.Instance.{local_in, refused_in}
 use Rattle.am_ring_instance.specs.Reacting.{Reacts}
 
@@ -26,6 +27,10 @@ pub record Receives (around : Circumstances) (message : Message) (x x' : Instanc
   pub reacts : Reacts around message.tenant (λ here. arrive (λ _ _ _ _. decision) here message) x x' before after
   pub adds : AddsAmong (asked_by given (decided_by given message (local_in message.tenant x)))
       (refused_in x) (refused_in x')
+
+-- the items that a message brings to hold, where it is taken and has any
+abbrev pub brought_on : Circumstances → Instance → Message → Option (List Item)
+brought_on around x message = brought_at (here_on around x message.tenant) message (local_in message.tenant x)
 
 -- what it does with one stops it, where builds of these patterns were refused before and afterwards
 pub record StopsDoing (before after : List (List ℕ)) (around : Circumstances) (message : Message) (x : Instance)

@@ -2,8 +2,8 @@
 
 ghost use Rattle.std.specs.Prelude.{◌≡◌, ◌<◌, ℕ, List, [], true, IfOk, IfErr, OnOk, length};
 ghost use Rattle.am_cluster.specs.RingChanges.{opened};
+ghost use Rattle.am_rows.specs.Refusing.{IsJudged, MayRefuse};
 ghost use Rattle.am_rows.specs.Rows.{rows_of};
-ghost use Rattle.am_site.specs.Opening.{FailsToOpen};
 ghost use Rattle.am_ring_instance.specs.Here.{Circumstances, circumstances, here_on};
 ghost use Rattle.am_ring_instance.specs.Instance.{IsDown, IsSameNode, ReadsAlike, Starts, local_in, refused_in};
 ghost use Rattle.am_ring_instance.specs.Shelves.{IsBacked, shelf_of};
@@ -137,10 +137,11 @@ impl Instance {
             ≡ opened (here_on (circumstances occasion.now) self.old t) (rows_of t (R.pairs store.old))) }
         ensures front { ReadsAlike self.old self.new }
         ensures stays { IsSameNode self.old self.new }
-        ensures whole { R.is_clean store.new ≡ true → OnOk result (IsWhole (circumstances occasion.now) self.new) }
+        ensures whole { OnOk result (IsWhole (circumstances occasion.now) self.new) }
         ensures clean { R.is_clean store.new ≡ true → R.is_clean store.old ≡ true }
         ensures backed { OnOk result (IsBacked self.new (shelf_of R.Rows store.new)) }
-        ensures fails { R.is_clean store.new ≡ true → IfErr result (FailsToOpen R.Rows store.old store.new) }
+        ensures fails { R.is_clean store.new ≡ true
+            → IfErr result (IsJudged (R.is_foreign store.old) (MayRefuse (R.medium store.old) (R.medium store.new))) }
     {
         let ring = &occasion.rings[self.known as usize];
         let (number, moment) = (self.number, occasion.moment);

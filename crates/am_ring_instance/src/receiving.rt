@@ -1,13 +1,12 @@
 //! Messages that come.
 
 ghost use Rattle.std.specs.Prelude.{◌≡◌, ℕ, List, true, IfErr, OnErr, OnOk};
-ghost use Rattle.am_node.specs.Accepting.{accepted_for};
 ghost use Rattle.am_replica.specs.Storing.{fault_in};
-ghost use Rattle.am_site.specs.Arriving.{brought_by};
+ghost use Rattle.am_site.specs.Arriving.{IsRejected, with_brought};
 ghost use Rattle.am_ring_instance.specs.Here.{circumstances};
 ghost use Rattle.am_ring_instance.specs.Instance.{ReadsOn, node_local_in, refused_in};
 ghost use Rattle.am_ring_instance.specs.Leaving.{LeavesShelf};
-ghost use Rattle.am_ring_instance.specs.Receiving.{Receives, StopsReceiving};
+ghost use Rattle.am_ring_instance.specs.Receiving.{Receives, StopsReceiving, brought_on};
 ghost use Rattle.am_ring_instance.specs.Shelves.{IsBacked, shelf_of};
 ghost use Rattle.am_ring_instance.specs.Whole.{IsWhole};
 
@@ -25,8 +24,8 @@ impl Instance {
     ///
     /// # Errors
     /// `CountsExhausted` where a count of the tenant here would pass 2^62, or a message is too long; `PatternNotBuilt`
-    /// where a pattern that is in use gave no answer; `StoreRefused`; or out of memory. The rows are as before, or as
-    /// committed.
+    /// where a pattern that is in use gave no answer; `StoreRefused`; or out of memory. The rows are as before; or as
+    /// committed, of a Put or a State that is taken.
     pub fn receive<R: Rows>(
         &mut self,
         alloc: Global,
@@ -48,9 +47,9 @@ impl Instance {
         ensures clean { R.is_clean store.new ≡ true → R.is_clean store.old ≡ true }
         ensures backed { OnOk result (IsBacked self.new (shelf_of R.Rows store.new)) }
         ensures left { LeavesShelf (λ t. node_local_in t self.old)
-            (λ t. accepted_for message.tenant occasion.now.moment (brought_by message.body)
-            t (node_local_in t self.old))
-            (R.rejects message.tenant (brought_by message.body))
+            (with_brought (brought_on (circumstances occasion.now) self.old message)
+            message.tenant occasion.now.moment (λ t. node_local_in t self.old))
+            (IsRejected R.rejects message.tenant (brought_on (circumstances occasion.now) self.old message))
             (fault_in result) (shelf_of R.Rows store.old) (shelf_of R.Rows store.new) }
     {
         let tenant = message.tenant;

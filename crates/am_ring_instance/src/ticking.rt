@@ -1,6 +1,6 @@
 //! Ticks.
 
-ghost use Rattle.std.specs.Prelude.{◌≡◌, ℕ, List, true, IfErr, IfOk, OnErr, OnOk};
+ghost use Rattle.std.specs.Prelude.{◌≡◌, ℕ, List, true, false, IfErr, IfOk, OnErr, OnOk};
 ghost use Rattle.am_cluster.specs.Ticking.{handled};
 ghost use Rattle.am_node.specs.Retiring.{retired as retired_in_node};
 ghost use Rattle.am_node.specs.Ticks.{muted_for};
@@ -49,6 +49,7 @@ impl Instance {
             (λ t. retired_in_node occasion.now.moment (node_local_in t self.old)) ⊥
             (stop_for self.new.up self.new.cause)
             (shelf_of R.Rows store.old) (shelf_of R.Rows store.new) }
+        ensures idle { self.old.up ≡ false → store.new ≡ store.old }
     {
         if !self.up {
             return true;

@@ -1,14 +1,14 @@
 use Rattle.std.proofs.Common.{ℕ, ◌≤◌, ◌∙◌, List, length, inl, None, refl, rules, sym, subst}
 use Rattle.std.proofs.lemmas.Result.{err_from_is_err_and}
 use Rattle.am_cluster.specs.Arriving.{arrive}
-use Rattle.am_site.specs.Arriving.{IsMade, brought_by, decided_by}
+use Rattle.am_site.specs.Arriving.{IsMade, decided_by}
 use Rattle.am_site.specs.Here.{here_of}
 use Rattle.am_site.specs.Locals.{local_of}
 use Rattle.am_ring_instance.specs.Instance.{local_in, node_local_in}
 use Rattle.am_muting.specs.Failing.{AddsAmong}
 use Rattle.am_site.specs.Deciding.{asked_by}
 use Rattle.am_ring_instance.proofs.Growing.{asks_among, asks_more}
-use Rattle.am_ring_instance.proofs.Leaves.{left_ending, left_here, memory_unrefused}
+use Rattle.am_ring_instance.proofs.Leaves.{brought_there, left_ending, left_here, memory_unrefused}
 use Rattle.am_ring_instance.proofs.Reacting.{moves_here, when, which, who, whose}
 use Rattle.am_ring_instance.proofs.Whole.{order_given, whole_moved}
 use Rattle.am_ring_instance.proofs.instance.Instance.receive.Goals as goal
@@ -89,18 +89,20 @@ returns-clause-backed g c = record {
 pub returns-clause-left : goal.returns-clause-left
 unfolding local_in local_of node_local_in
 returns-clause-left g c clean =
-    left_here g.R.Rows.rejects (brought_by c.args.message.body) _ _ _ _ _ _ _ _ _
+    left_here g.R.Rows.rejects _ _ _ _ _ _ _ _ _ _ _
     (whose (circumstances c.args.occasion.now) c.args.self.now c.args.message.tenant c.here-here.result c.here-here.ensures)
     (when (circumstances c.args.occasion.now) c.args.self.now c.args.message.tenant c.here-here.result c.here-here.ensures)
+    (brought_there (circumstances c.args.occasion.now) c.args.self.now c.args.message c.here-here.result c.here-here.ensures)
     (c.in_ok-arrive.ensures.left clean (c.requires.backed.stores c.requires.up (c.arrive.ensures.clean clean)))
 
 pub returns-in_err-arrive-clause-left : goal.returns-in_err-arrive-clause-left
 unfolding local_in local_of node_local_in
 returns-in_err-arrive-clause-left g c clean =
     let p = err_from_is_err_and c.from_residual.result c.from_residual.ensures.1 in
-    rw (p.1, p.2) (left_here g.R.Rows.rejects (brought_by c.args.message.body) _ _ _ _ _ _ _ _ _
+    rw (p.1, p.2) (left_here g.R.Rows.rejects _ _ _ _ _ _ _ _ _ _ _
     (whose (circumstances c.args.occasion.now) c.args.self.now c.args.message.tenant c.here-here.result c.here-here.ensures)
     (when (circumstances c.args.occasion.now) c.args.self.now c.args.message.tenant c.here-here.result c.here-here.ensures)
+    (brought_there (circumstances c.args.occasion.now) c.args.self.now c.args.message c.here-here.result c.here-here.ensures)
     (c.in_err-arrive.ensures.left clean (c.requires.backed.stores c.requires.up (c.arrive.ensures.clean clean))))
 
 pub returns-in_err-put_out-clause-left : goal.returns-in_err-put_out-clause-left
@@ -108,7 +110,8 @@ unfolding local_in local_of node_local_in
 returns-in_err-put_out-clause-left g c clean =
     let p = err_from_is_err_and c.from_residual-in_err-put_out.result c.from_residual-in_err-put_out.ensures.1 in
     rw (p.1, p.2) (left_ending _ _ _ None _ _ _
-    (left_here g.R.Rows.rejects (brought_by c.args.message.body) _ _ _ _ _ _ _ _ _
+    (left_here g.R.Rows.rejects _ _ _ _ _ _ _ _ _ _ _
     (whose (circumstances c.args.occasion.now) c.args.self.now c.args.message.tenant c.here-here.result c.here-here.ensures)
     (when (circumstances c.args.occasion.now) c.args.self.now c.args.message.tenant c.here-here.result c.here-here.ensures)
+    (brought_there (circumstances c.args.occasion.now) c.args.self.now c.args.message c.here-here.result c.here-here.ensures)
     (c.in_ok-arrive.ensures.left clean (c.requires.backed.stores c.requires.up (c.arrive.ensures.clean clean)))) _ memory_unrefused)

@@ -29,12 +29,11 @@ pub returns-in_err-open-clause-stays : goal.returns-in_err-open-clause-stays
 returns-in_err-open-clause-stays g c = record { number = refl; incarnation = refl; known = refl; refused = asked_more _ _ _ c.open.ensures.asked }
 
 pub returns-clause-whole : goal.returns-clause-whole
-unfolding here_on three_on has_stayed_on
-returns-clause-whole g c clean = record {
+unfolding local_in here_on three_on has_stayed_on
+returns-clause-whole g c = record {
   known = c.requires.whole.known;
-  order = λ t. opened_in_order (here_on (circumstances c.args.occasion.now) c.args.self.now t) (g.R.Rows.pairs c.args.store.now) c.open.new.self
-      (c.in_ok-open.ensures.opened clean (here_on (circumstances c.args.occasion.now) c.args.self.now t) refl refl
-      (ap (replicas t) (ring_there c.args.occasion.now.rings.now c.args.self.now.known c.index-occasion-self.result c.requires.whole.known c.index-occasion-self.is)));
+  order = λ t. opened_in_order (here_on (circumstances c.args.occasion.now) c.args.self.now t) c.args.self.now.site c.open.new.self
+      c.in_ok-open.ensures.rest (c.requires.down.lost t) c.in_ok-open.ensures.alerts;
   timed = subst AreTimed (sym c.in_ok-open.ensures.rest.settling) c.requires.whole.timed;
   incarnation = ap (λ o. o.incarnation) c.in_ok-open.ensures.rest.operations ∙ c.requires.whole.incarnation;
 }

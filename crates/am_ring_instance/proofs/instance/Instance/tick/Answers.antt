@@ -66,3 +66,9 @@ returns-in-Ok-clause-left g c up clean = rw (c.tell.ensures.stays.goes.up ∙ up
 pub returns-in-Err-clause-left : goal.returns-in-Err-clause-left
 returns-in-Err-clause-left g c up clean =
     rw (c.stop.ensures.down.up, c.stop.ensures.cause) (c.in-Err.ensures.left clean)
+
+pub returns-in-Ok-clause-idle : goal.returns-in-Ok-clause-idle
+returns-in-Ok-clause-idle g c down = absurd (let clash = sym down ∙ c.if-not-self.false in cc)
+
+pub returns-in-Err-clause-idle : goal.returns-in-Err-clause-idle
+returns-in-Err-clause-idle g c down = absurd (let clash = sym down ∙ c.if-not-self.false in cc)
