@@ -1,0 +1,65 @@
+use Rattle.std.proofs.lemmas.Result.{IfErr-weaker, on_ok_weaker}
+use Rattle.am_ring_world.proofs.InstancesBacked.{backed_stored}
+use Rattle.am_ring_world.proofs.InstancesLemmas.{at_here, changed, here_at, turns_here}
+use Rattle.am_ring_world.proofs.instances.Instances.take_outcome.Goals as goal
+
+pub take_outcome-requires : goal.take_outcome-requires
+take_outcome-requires c =
+    let xs = c.self.inside.list.items in
+    let here = here_at xs c.place.result c.args.number _ c.self.invariant c.place.ensures.place c.place.ensures.range
+    c.index_mut.ensures.value in
+    (rw (← c.self.view_is) at c.requires) _ here
+
+pub invariant_of-self : goal.invariant_of-self
+invariant_of-self c =
+    let xs = c.self.inside.list.items in
+    let change = changed xs c.place.result c.args.number _ c.take_outcome.new.self c.self.invariant
+    c.place.ensures.place c.place.ensures.range c.index_mut.ensures.value c.take_outcome.ensures.stays.goes.number in
+    change.at.numbered
+
+pub returns-clause-reacts : goal.returns-clause-reacts
+returns-clause-reacts c =
+    let xs = c.self.inside.list.items in
+    let change = changed xs c.place.result c.args.number _ c.take_outcome.new.self c.self.invariant
+    c.place.ensures.place c.place.ensures.range c.index_mut.ensures.value c.take_outcome.ensures.stays.goes.number in
+    rw (← c.self.view_is) (on_ok_weaker c.take_outcome.result (turns_here _ c.args.number xs _ _ _ change)
+    c.take_outcome.ensures.reacts)
+
+pub returns-clause-cause : goal.returns-clause-cause
+returns-clause-cause c =
+    let xs = c.self.inside.list.items in
+    let change = changed xs c.place.result c.args.number _ c.take_outcome.new.self c.self.invariant
+    c.place.ensures.place c.place.ensures.range c.index_mut.ensures.value c.take_outcome.ensures.stays.goes.number in
+    rw (← c.self.view_is) (IfErr-weaker c.take_outcome.result _ _
+    (λ fault cause. at_here _ c.args.number xs _ change.here cause) c.take_outcome.ensures.cause)
+
+pub returns-clause-stays : goal.returns-clause-stays
+returns-clause-stays c =
+    let xs = c.self.inside.list.items in
+    let change = changed xs c.place.result c.args.number _ c.take_outcome.new.self c.self.invariant
+    c.place.ensures.place c.place.ensures.range c.index_mut.ensures.value c.take_outcome.ensures.stays.goes.number in
+    rw (← c.self.view_is) (turns_here _ c.args.number xs _ _ _ change
+    (c.take_outcome.ensures.stays, c.take_outcome.ensures.refused))
+
+pub returns-clause-at : goal.returns-clause-at
+returns-clause-at c =
+    let xs = c.self.inside.list.items in
+    let change = changed xs c.place.result c.args.number _ c.take_outcome.new.self c.self.invariant
+    c.place.ensures.place c.place.ensures.range c.index_mut.ensures.value c.take_outcome.ensures.stays.goes.number in
+    rw (← c.self.view_is) change.at
+
+pub returns-clause-whole : goal.returns-clause-whole
+returns-clause-whole c =
+    let xs = c.self.inside.list.items in
+    let change = changed xs c.place.result c.args.number _ c.take_outcome.new.self c.self.invariant
+    c.place.ensures.place c.place.ensures.range c.index_mut.ensures.value c.take_outcome.ensures.stays.goes.number in
+    on_ok_weaker c.take_outcome.result (at_here _ c.args.number _ _ change.there) c.take_outcome.ensures.whole
+
+pub returns-clause-backed : goal.returns-clause-backed
+returns-clause-backed c =
+    let xs = c.self.inside.list.items in
+    let change = changed xs c.place.result c.args.number _ c.take_outcome.new.self c.self.invariant
+    c.place.ensures.place c.place.ensures.range c.index_mut.ensures.value c.take_outcome.ensures.stays.goes.number in
+    rw (← c.self.view_is) (on_ok_weaker c.take_outcome.result (λ stored. turns_here _ c.args.number xs _ _ _ change
+    (backed_stored _ c.take_outcome.new.self c.take_outcome.ensures.stays.goes.up stored))
+    c.take_outcome.ensures.stored)
