@@ -31,4 +31,5 @@ export const REFUSALS = {
   A2: { cause: "it ends before it starts, judged with its defaults.", remedy: "" },
   Li1: { cause: "with the post more alerts would be held than the limit, likewise.", remedy: "Send fewer, or have the limit raised." },
   Li3: { cause: "a posted configuration has more bytes than the limit; before C1.", remedy: "Shorten it, or have the limit raised." },
+  Q1: { cause: "too few of the tenant's replicas answered within five seconds; of a write nothing is known, it may be kept.", remedy: "Ask again: a write may be repeated. A new silence may then stand twice." },
 };

@@ -1,27 +1,32 @@
 -- What a gateway does with its world: each piece that a connection brings is an event of the world, under the connection's own
--- number and at the gateway's moment, and what the world puts out of it is what the server is given.
-use Rattle.std.specs.Prelude.{ℕ, ◌≡◌, ◌⊎◌, ◌↔◌, ◌+◌, ◌-◌, Bool, true, false, List, ◌∷◌, Option, None, Some, IsSome, Result, OnOk, OnErr, IsTrue, length, if◌then◌else◌}
+-- number and at the gateway's moment; the messages that come of it are passed on at once; and what the world puts out of
+-- all this is what the server is given.
+use Rattle.std.specs.Prelude.{ℕ, ◌≡◌, ◌⊎◌, ◌↔◌, ◌+◌, ◌-◌, Bool, true, false, List, ◌∷◌, Option, None, Some, IsSome}
+use Rattle.std.specs.Prelude.{Result, OnOk, OnErr, IsTrue, length, if◌then◌else◌}
+use Rattle.am_event.specs.declared.event.Event.{Event}
+use Rattle.am_event.specs.declared.event.Event.TheVariants as event
+use Rattle.am_event.specs.declared.output.Output.{Output}
 use Rattle.am_serve.specs.Lanes.{comes_before, is_ready, under_way_of, waiting_of}
 use Rattle.am_serve.specs.Weights.{IsHeaviest}
 use Rattle.am_serve.specs.declared.host.Verdict.{Verdict}
-use Rattle.am_serve.specs.declared.host.Verdict.TheVariants.{Undecided, Reply, Gone}
+use Rattle.am_serve.specs.declared.host.Verdict.TheVariants.{Undecided, Reply, Later, Gone}
 use Rattle.am_server.specs.declared.service.Notice.{Notice}
 use Rattle.am_tenant.specs.Names.{same}
-use Rattle.am_world.specs.declared.event.Event.{Event}
-use Rattle.am_world.specs.declared.event.Event.TheVariants as event
-use Rattle.am_instance.specs.declared.output.Output.{Output}
-use Rattle.am_world.specs.declared.state.State.{State}
 use Rattle.am_world.specs.Refusal.{refusal}
-use Rattle.am_world.specs.Runs.{Forgets}
-use Rattle.am_world.specs.Simulation.{put_out, Step}
-use Rattle.am_gateway.specs.Sorting.{reply_on, Queues, QueuesSome}
+use Rattle.am_world.specs.Runs.{Forgets, Run}
+use Rattle.am_world.specs.Simulation.{put_out}
+use Rattle.am_world.specs.Stopping.{Step}
+use Rattle.am_world.specs.declared.state.State.{State}
+use Rattle.am_gateway.specs.Passing.{has_message, passes}
+use Rattle.am_gateway.specs.Sorting.{reply_on, Keeps, KeepsSome, Queues, QueuesSome}
 use Rattle.am_gateway.specs.declared.gateway.Gateway.{Gateway}
 use Rattle.am_gateway.specs.declared.gateway.Try.{Try}
 
--- a world took an event, and all that it had put out then was taken away
-pub record Handles (w : State) (e : Event) (outs : List Output) (w' : State) : Type 0 where
+-- a world took an event, then each message that it put out was delivered at the moment and lost, in order of sending,
+-- and all that it had put out then was taken away
+pub record Handles (w : State) (e : Event) (moment : ℕ) (outs : List Output) (w' : State) : Type 0 where
   pub handled : State
-  pub step : Step w e handled
+  pub run : Run w (e ∷ passes moment outs) handled
   pub outputs : put_out handled ≡ outs
   pub taken : Forgets handled w'
 
@@ -41,13 +46,23 @@ SameUnderWay old new = (t : List ℕ) → under_way_of t new.notices.lanes ≡ u
 abbrev pub piece_event : {R : Type 0} → Gateway R → ℕ → List ℕ → Event
 piece_event gateway c piece = event.Bytes c gateway.moment piece
 
--- the world handled an event: its notices wait, and this is the reply that it put out on the connection. There is none where the
--- request isn't whole yet, or the instance stopped.
-pub record GivesReply {R : Type 0} (c : ℕ) (e : Event) (reply : Option (List ℕ)) (old new : Gateway R) : Type 0 where
-  pub outs : List Output
-  pub handles : Handles old.world.now.state e outs new.world.now.state
-  pub reply_is : reply_on (Some c) outs ≡ reply
+-- what was put out of an event waits: the notices, and the replies on other connections than the named one
+pub record Sorts {R : Type 0} (named : Option ℕ) (outs : List Output) (old new : Gateway R) : Type 0 where
   pub queues : Queues old.notices.lanes outs new.notices.lanes
+  pub keeps : Keeps named old.replies.items outs new.replies.items
+
+-- .. or of each tenant a first part of the notices does, and a first part of the replies
+pub record SortsSome {R : Type 0} (named : Option ℕ) (outs : List Output) (old new : Gateway R) : Type 0 where
+  pub queues : QueuesSome old.notices.lanes outs new.notices.lanes
+  pub keeps : KeepsSome named old.replies.items outs new.replies.items
+
+-- The world handled an event, what it put out waits, and this is the reply that it put out on the connection. There is
+-- none where the request isn't whole yet, where no quorum has answered it, or where the instance stopped.
+pub record GivesReply {R : Type 0} (c : ℕ) (e : Event) (reply : Option (List ℕ)) (outs : List Output)
+    (old new : Gateway R) : Type 0 where
+  pub handles : Handles old.world.now.state e old.moment outs new.world.now.state
+  pub reply_is : reply_on (Some c) outs ≡ reply
+  pub sorts : Sorts (Some c) outs old new
   pub under_way : SameUnderWay old new
   pub same : IsSameGateway old new
 
@@ -56,11 +71,11 @@ pub record RefusesEvent {R : Type 0} (e : Event) (old new : Gateway R) : Type 0 
   pub refused : IsSome (refusal old.world.now.state e)
   pub unchanged : new ≡ old
 
--- memory ran out before the world had the event; or the world handled it, and what it put out was lost, but for a first part of
--- the notices of each tenant
-pub record LosesEvent {R : Type 0} (e : Event) (old new : Gateway R) : Type 0 where
-  pub reached : (new.world.now ≡ old.world.now) ⊎ ((outs : List Output) × Handles old.world.now.state e outs new.world.now.state
-      × QueuesSome old.notices.lanes outs new.notices.lanes)
+-- memory ran out before the world had the event of a connection; or the world handled it, and of what it put out all but
+-- a first part was lost
+pub record LosesEvent {R : Type 0} (c : ℕ) (e : Event) (old new : Gateway R) : Type 0 where
+  pub reached : (new.world.now ≡ old.world.now) ⊎ ((outs : List Output)
+      × Handles old.world.now.state e old.moment outs new.world.now.state × SortsSome (Some c) outs old new)
   pub is_tick_due : new.is_tick_due ≡ old.is_tick_due
   pub under_way : SameUnderWay old new
   pub same : IsSameGateway old new
@@ -74,17 +89,22 @@ pub record ClosesConnection {R : Type 0} (old : Gateway R) (c : ℕ) (new : Gate
 -- memory ran out, and the connection was closed
 pub record ClosesForMemory {R : Type 0} (c : ℕ) (e : Event) (old new : Gateway R) : Type 0 where
   pub mid : Gateway R
-  pub loses : LosesEvent e old mid
+  pub loses : LosesEvent c e old mid
   pub closed : ClosesConnection mid c new
 
 -- a tick is due once the world answered `GET /ready`, as it was before
 abbrev pub LetsTick : {R : Type 0} → Gateway R → List ℕ → Gateway R → Type 0
 LetsTick old reply new = IsTrue new.is_tick_due ↔ (IsTrue old.is_tick_due ⊎ (reply ≡ old.ready))
 
--- what the server is told of a connection, by what became of an event of it
+-- what the server is told of a connection, by what became of an event of it: a request is whole where it has messages
+-- sent, and its reply is then still to come
 abbrev pub IsVerdictOn : {R : Type 0} → ℕ → Event → Gateway R → Verdict → Gateway R → Type 0
-IsVerdictOn c e old Undecided new = GivesReply c e None old new × (new.is_tick_due ≡ old.is_tick_due)
-IsVerdictOn c e old (Reply bytes) new = GivesReply c e (Some bytes.items) old new × LetsTick old bytes.items new
+IsVerdictOn c e old Undecided new = (outs : List Output) × GivesReply c e None outs old new
+    × (has_message outs ≡ false) × (new.is_tick_due ≡ old.is_tick_due)
+IsVerdictOn c e old Later new = (outs : List Output) × GivesReply c e None outs old new
+    × (has_message outs ≡ true) × (new.is_tick_due ≡ old.is_tick_due)
+IsVerdictOn c e old (Reply bytes) new = (outs : List Output) × GivesReply c e (Some bytes.items) outs old new
+    × LetsTick old bytes.items new
 IsVerdictOn c e old Gone new = RefusesEvent e old new ⊎ ClosesForMemory c e old new
 
 -- a piece of a connection went to the world, and this is what the server is told
@@ -100,12 +120,12 @@ pub record OpensConnection {R : Type 0} (old : Gateway R) (c : ℕ) (result : Bo
 
 -- ---- the clock and the calls
 
--- the world handled an event of no connection; what it put out of each tenant waits, or where memory ran out a first part of it
+-- the world handled an event of no connection; what it put out waits, or where memory ran out a first part of it
 pub record TellsWorld {R : Type 0} {X E : Type 0} (result : Result X E) (e : Event) (old new : Gateway R) : Type 0 where
   pub outs : List Output
-  pub handles : Handles old.world.now.state e outs new.world.now.state
-  pub queues : OnOk result (Queues old.notices.lanes outs new.notices.lanes)
-  pub loses : OnErr result (QueuesSome old.notices.lanes outs new.notices.lanes)
+  pub handles : Handles old.world.now.state e old.moment outs new.world.now.state
+  pub sorts : OnOk result (Sorts None outs old new)
+  pub loses : OnErr result (SortsSome None outs old new)
 
 -- the notice that waited longest of the tenant whose turn it is, which has fewer calls under way than there are places free, is
 -- under way now

@@ -1,2 +1,3 @@
+pub mod Passing
 pub mod Sorting
 pub mod Gateway

@@ -1,14 +1,16 @@
 //! What stands between a server and its world.
-ghost use Rattle.std.specs.Prelude.{◌≡◌, ◌↔◌, ℕ, List, [], None, Some, false, true, min, IfOk, IfSome, IfNone, IsOk, IsTrue, OnErr, OnOk};
+ghost use Rattle.std.specs.Prelude.{◌≡◌, ◌↔◌, ◌∷◌, ℕ, List, [], None, Some, false, true, min, IfOk, IfSome, IfNone, IsOk, IsTrue, OnErr, OnOk, if◌then◌else◌};
 ghost use Rattle.am_http.specs.Replies.{ready_reply as the_ready_reply};
 ghost use Rattle.am_serve.specs.Lanes.{is_ready, under_way_of, waiting_of};
-ghost use Rattle.am_world.specs.Moments.{last_moment};
+ghost use Rattle.am_cluster.specs.Moments.{last_moment};
+ghost use Rattle.am_event.specs.declared.event.Event.TheVariants as event;
+ghost use Rattle.am_serve.specs.declared.host.Verdict.TheVariants as Verdict;
 ghost use Rattle.am_world.specs.Places.{cause_at};
 ghost use Rattle.am_world.specs.Runs.{Forgets};
 ghost use Rattle.am_world.specs.Simulation.{put_out};
-ghost use Rattle.am_world.specs.declared.event.Event.TheVariants as event;
 
-use crate::sorting::sort;
+use crate::passing::{has_message, pass_all};
+use crate::sorting::{LateReply, sort};
 use am_http::{ConnectionId, ready_reply};
 use am_rows::Rows;
 use am_serve::{Host, Lanes, Verdict};
@@ -16,6 +18,7 @@ use am_server::{Notice, Service};
 use am_text::Octets;
 use am_world::{AttemptName, Event, LAST_MOMENT, World};
 use std::alloc::{AllocError, Global};
+use std::collections::VecDeque;
 
 /// A try that went out of the world, of which no outcome came yet.
 #[derive(Drop)]
@@ -26,7 +29,8 @@ pub struct Try {
     pub tries: u8,
 }
 
-/// A world, with the notices that it put out and whose calls weren't begun yet.
+/// A world, with what it put out and the server hasn't taken yet: notices whose calls weren't begun, and replies that came
+/// later than their requests.
 #[derive(Drop)]
 pub struct Gateway<'w, R: Rows> {
     alloc: Global,
@@ -39,11 +43,13 @@ pub struct Gateway<'w, R: Rows> {
     ready: Octets,
     is_tick_due: bool,
     notices: Lanes<Notice<Try>>,
+    replies: VecDeque<LateReply>,
 }
 
 impl<'w, R: Rows> Gateway<'w, R> {
-    ghost use Rattle.am_gateway.specs.Gateway.{IsSameGateway, IsVerdictOn, LetsTick, LosesEvent, SameUnderWay, TakesPiece, TellsWorld, piece_event};
-    ghost use Rattle.am_gateway.specs.Sorting.{Queues, QueuesSome, reply_on};
+    ghost use Rattle.am_gateway.specs.Gateway.{IsSameGateway, IsVerdictOn, LetsTick, LosesEvent, SameUnderWay, Sorts};
+    ghost use Rattle.am_gateway.specs.Gateway.{SortsSome, TakesPiece, TellsWorld, piece_event};
+    ghost use Rattle.am_gateway.specs.Sorting.{reply_on};
 
     /// A gateway to a world that was just opened, whose connections are all opened to one instance.
     ///
@@ -61,6 +67,7 @@ impl<'w, R: Rows> Gateway<'w, R> {
         ensures is_tick_due { IfOk result (λ gateway. gateway.is_tick_due ≡ false) }
         ensures waiting { IfOk result (λ gateway. (t : List ℕ) → waiting_of t gateway.notices.lanes ≡ []) }
         ensures under_way { IfOk result (λ gateway. (t : List ℕ) → under_way_of t gateway.notices.lanes ≡ 0) }
+        ensures replies { IfOk result (λ gateway. gateway.replies.items ≡ []) }
     {
         let ready = ready_reply(alloc)?;
         Ok(Gateway {
@@ -71,26 +78,27 @@ impl<'w, R: Rows> Gateway<'w, R> {
             ready,
             is_tick_due: false,
             notices: Lanes::new(alloc),
+            replies: VecDeque::new(alloc),
         })
     }
 
-    // Takes away what the world has put out: its notices wait behind those of their tenants, and the first reply on a
-    // connection is given, where one is named. A reply on another is dropped: the world puts none out yet. Out of memory: the
-    // reply is lost, and of the notices all but a first part.
+    // Takes away what the world has put out: its notices wait behind those of their tenants, the first reply on a
+    // connection is given, where one is named, and those on others wait. Out of memory: the reply is lost, and of the
+    // others and of the notices all but a first part.
     fn sort(&mut self, connection: Option<u64>) -> Result<Option<Octets>, AllocError>
         ensures reply { IfOk result (λ reply. reply ≡ reply_on connection (put_out self.old.world.now.state)) }
-        ensures queued { OnOk result (Queues self.old.notices.lanes (put_out self.old.world.now.state) self.new.notices.lanes) }
-        ensures err { OnErr result (QueuesSome self.old.notices.lanes (put_out self.old.world.now.state) self.new.notices.lanes) }
+        ensures sorted { OnOk result (Sorts connection (put_out self.old.world.now.state) self.old self.new) }
+        ensures err { OnErr result (SortsSome connection (put_out self.old.world.now.state) self.old self.new) }
         ensures forgets { Forgets self.old.world.now.state self.new.world.now.state }
         ensures is_tick_due { self.new.is_tick_due ≡ self.old.is_tick_due }
         ensures under_way { SameUnderWay self.old self.new }
         ensures same { IsSameGateway self.old self.new }
     {
         let outputs = self.world.take_outputs(self.alloc);
-        sort(&mut self.notices, outputs, connection)
+        sort(&mut self.notices, &mut self.replies, outputs, connection)
     }
 
-    // Hands the world an event of no connection.
+    // Hands the world an event of no connection, and the messages that come of it.
     fn tell(&mut self, event: &Event) -> Result<(), AllocError>
         ensures told { TellsWorld result event.now self.old self.new }
         ensures is_tick_due { self.new.is_tick_due ≡ self.old.is_tick_due }
@@ -98,6 +106,7 @@ impl<'w, R: Rows> Gateway<'w, R> {
         ensures same { IsSameGateway self.old self.new }
     {
         let _ = self.world.step(self.alloc, event);
+        pass_all(self.world, self.alloc, self.moment);
         match self.sort(None) {
             Ok(_) => Ok(()),
             Err(error) => Err(error),
@@ -107,7 +116,7 @@ impl<'w, R: Rows> Gateway<'w, R> {
     // What the world makes of a piece of a connection.
     fn take_piece(&mut self, connection: ConnectionId, piece: &[u8]) -> Result<Verdict, AllocError>
         ensures takes { IfOk result (λ verdict. TakesPiece self.old connection piece.now verdict self.new) }
-        ensures err { OnErr result (LosesEvent (piece_event self.old connection piece.now) self.old self.new) }
+        ensures err { OnErr result (LosesEvent connection (piece_event self.old connection piece.now) self.old self.new) }
     {
         let event = Event::Bytes {
             connection,
@@ -117,20 +126,22 @@ impl<'w, R: Rows> Gateway<'w, R> {
         self.answer(connection.number(), &event)
     }
 
-    // What the world makes of an event of a connection.
+    // What the world makes of an event of a connection, and of the messages that come of it.
     fn answer(&mut self, connection: u64, event: &Event) -> Result<Verdict, AllocError>
         ensures verdict { IfOk result (λ verdict. IsVerdictOn connection event.now self.old verdict self.new) }
-        ensures err { OnErr result (LosesEvent event.now self.old self.new) }
+        ensures err { OnErr result (LosesEvent connection event.now self.old self.new) }
     {
         if self.world.step(self.alloc, event).is_err() {
             return Ok(Verdict::Gone);
         }
+        pass_all(self.world, self.alloc, self.moment);
+        let is_whole = has_message(self.world.outputs());
         match self.sort(Some(connection)) {
             Ok(Some(reply)) => {
                 self.note(&reply);
                 Ok(Verdict::Reply(reply.into_vec()))
             }
-            Ok(None) => Ok(Verdict::Undecided),
+            Ok(None) => Ok(unreplied(is_whole)),
             Err(error) => Err(error),
         }
     }
@@ -143,6 +154,17 @@ impl<'w, R: Rows> Gateway<'w, R> {
         if *reply == self.ready {
             self.is_tick_due = true;
         }
+    }
+}
+
+// The verdict on a request that got no reply yet.
+fn unreplied(is_whole: bool) -> Verdict
+    ensures { result ≡ (if is_whole then Verdict.Later else Verdict.Undecided) }
+{
+    if is_whole {
+        Verdict::Later
+    } else {
+        Verdict::Undecided
     }
 }
 
@@ -217,6 +239,17 @@ impl<R: Rows> Service for Gateway<'_, R> {
             moment: self.moment,
         };
         self.tell(&event)
+    }
+
+    fn next_reply(&mut self) -> Option<(u64, Vec<u8>)>
+        ensures gives { IfSome result (λ given. self.old.replies.items
+            ≡ record { connection = given.0; bytes = given.1.items } ∷ self.new.replies.items) }
+        ensures none { IfNone result (self.old.replies.items ≡ []) }
+        ensures stays { IfNone result (self.new.replies.items ≡ []) }
+        ensures rest { self.new ≡ record self.old { replies = self.new.replies } }
+    {
+        let late = self.replies.pop_front()?;
+        Some((late.connection.number(), late.bytes.into_vec()))
     }
 
     // Tenants take turns.

@@ -1,4 +1,11 @@
-mod Deciding
+mod Brought
+mod Flushes
 pub mod Growing
 pub mod Leaves
-mod Ticking
+pub mod Opening
+pub mod Reacting
+pub mod Rings
+pub mod Saying
+mod Ticked
+mod Turns
+pub mod Whole

@@ -1,17 +1,21 @@
--- What a reader sees of an instance: its number, which start of it it is, whether it is up and which fault stopped it,
--- the bytes of connections, what it has of each tenant, and the patterns that it was refused the build of.
-use Rattle.std.specs.Prelude.{◌≡◌, ℕ, Bool, false, is_some, List, ◌++◌, Option, None}
+-- What is seen of an instance: its number, which start of it it is, which ring it knows, whether it is up and which
+-- fault stopped it, the bytes of connections, what it has of each tenant, and the patterns that it was refused the
+-- build of.
+use Rattle.std.specs.Prelude.{◌≡◌, ℕ, Bool, true, false, is_some, List, ◌++◌, Option, None}
+use Rattle.am_cluster.specs.Local.{Local, blank}
 use Rattle.am_http.specs.Connections.{bytes_of}
-use Rattle.am_http.specs.declared.request.Request.{Request}
-use Rattle.am_node.specs.Held.{local_of}
-use Rattle.am_node.specs.Local.{Local, blank}
-use Rattle.am_instance.specs.declared.given.Occasion.{Occasion}
+use Rattle.am_node.specs.Held.{local_of as local_in_node}
+use Rattle.am_node.specs.Local.{Local as NodeLocal}
+use Rattle.am_site.specs.Locals.{local_of}
 use Rattle.am_instance.specs.declared.instance.Instance.{Instance}
-use Rattle.am_instance.specs.Reaction.{Here, Terms, terms_of}
 
 -- all that the instance has of the tenant
 unfoldable pub local_in : List ℕ → Instance → Local
-local_in t x = local_of t x.node
+local_in t x = local_of t x.site
+
+-- .. without operations, messages and settling
+unfoldable pub node_local_in : List ℕ → Instance → NodeLocal
+node_local_in t x = local_in_node t x.site.node
 
 -- the bytes so far of a connection that it reads
 abbrev pub bytes_in : ℕ → Instance → Option (List ℕ)
@@ -31,20 +35,6 @@ pub record IsDown (x : Instance) : Type 0 where
   pub unread : (c : ℕ) → bytes_in c x ≡ None
   pub lost : (t : List ℕ) → local_in t x ≡ blank
 
--- ---- what it goes by
-
--- the terms on which tenants are served on an occasion
-abbrev pub terms_in : Occasion → List ℕ → Terms
-terms_in occasion = λ t. terms_of occasion.service_key.now occasion.limits.now t
-
--- what the instance goes by at a moment, for a tenant on these terms
-abbrev pub here_of : Instance → ℕ → Terms → Here
-here_of x moment terms = record { instance = x.number; incarnation = x.incarnation; moment = moment; terms = terms }
-
--- .. at a request on an occasion
-abbrev pub situation : Instance → Occasion → Request → Here
-situation x occasion = λ request. here_of x occasion.moment (terms_in occasion request.tenant)
-
 -- ---- what stays
 
 -- the later texts begin with the earlier ones
@@ -55,11 +45,12 @@ HasMore old new = (more : List (List ℕ)) × (new ≡ old ++ more)
 abbrev pub ReadsAlike : Instance → Instance → Type 0
 ReadsAlike x x' = x'.front ≡ x.front
 
--- it is the same instance still: its number, which start of it it is, and that it forgets no pattern which was refused
--- its build
+-- it is the same instance still: its number, which start of it it is, which ring it knows, and that it forgets no
+-- pattern which was refused its build
 pub record IsSameNode (x x' : Instance) : Type 0 where
   pub number : x'.number ≡ x.number
   pub incarnation : x'.incarnation ≡ x.incarnation
+  pub known : x'.known ≡ x.known
   pub refused : HasMore (refused_in x) (refused_in x')
 
 -- .. which is up, or down, as it was
@@ -67,4 +58,15 @@ pub record GoesOn (x x' : Instance) : Type 0 where
   pub up : x'.up ≡ x.up
   pub number : x'.number ≡ x.number
   pub incarnation : x'.incarnation ≡ x.incarnation
+  pub known : x'.known ≡ x.known
   pub refused : HasMore (refused_in x) (refused_in x')
+
+-- .. and reads the same connections
+pub record ReadsOn (x x' : Instance) : Type 0 where
+  pub goes : GoesOn x x'
+  pub front : ReadsAlike x x'
+
+-- it is up now, and was refused the build of no pattern more
+pub record Starts (x x' : Instance) : Type 0 where
+  pub up : x'.up ≡ true
+  pub refused : refused_in x' ≡ refused_in x

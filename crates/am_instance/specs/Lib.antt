@@ -1,7 +1,18 @@
+-- what is seen of an instance
 pub mod Instance
-pub mod Keeping
-pub mod Leaving
-pub mod Reaction
-pub mod Shelves
-pub mod Taking
+-- what it goes by for a tenant
+pub mod Here
+-- what is so of it between calls
+pub mod Whole
+-- what it does for one tenant
+pub mod Reacting
+-- .. and with bytes of a connection
+pub mod Bringing
+-- .. and with a message
+pub mod Receiving
+-- .. and at a tick
 pub mod Ticks
+-- its store
+pub mod Shelves
+-- .. and what a call leaves there
+pub mod Leaving

@@ -1,4 +1,4 @@
--- what is seen of a store, and what it has beside the instance whose store it is
+-- What is seen of a store, and what it has beside the instance whose store it is.
 use Rattle.std.specs.Prelude.{◌≡◌, ℕ, Bool, true, List}
 use Rattle.am_item.specs.declared.item.Item.{Item}
 use Rattle.am_rows.specs.Refusing.{Medium}

@@ -2,9 +2,10 @@
 
 use am_http::ConnectionId;
 use am_limit::LimitBook;
+use am_ring::Ring;
 use am_text::Moment;
 
-/// When it happens, and what is set for all tenants then.
+/// When it happens, and what is so of all tenants then.
 #[derive(Drop)]
 pub struct Occasion<'a> {
     /// The moment at which it happens.
@@ -13,6 +14,12 @@ pub struct Occasion<'a> {
     pub service_key: &'a [u8; 32],
     /// The limits of all tenants.
     pub limits: &'a LimitBook,
+    /// The rings so far, by epoch.
+    pub rings: &'a [Ring],
+    /// The first incarnation, which is that of every instance until it is joined or restarted.
+    pub first: u32,
+    /// The present incarnations of the instances 1 to 8, in their order.
+    pub incarnations: &'a [u32],
 }
 
 /// Bytes that came on a connection.

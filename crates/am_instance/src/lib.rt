@@ -1,10 +1,18 @@
-//! One instance by itself: what it reads, what it has of all tenants, and what each thing that happens does there.
+//! One instance of several by itself: the bytes of its connections, what it has of all tenants, and what each thing
+//! that happens does there. A program that carries its messages could drive it alone.
 #![tactic(auto)]
 
+mod connections;
+mod feeding;
 mod given;
+mod here;
 mod instance;
-mod output;
+mod notices;
+mod outputs;
+mod receiving;
+mod ticking;
 
 pub use given::{Occasion, Piece};
-pub use instance::Instance;
-pub use output::{AttemptName, Output};
+pub use instance::{Begin, Instance};
+pub use notices::Ended;
+pub use outputs::Speaker;

@@ -1,6 +1,7 @@
 -- The command lines that the program takes, as clap describes a command, and what they ask for.
-use Rattle.std.specs.Prelude.{◌≡◌, ◌≢◌, ◌⊎◌, ℕ, Bool, ◌&&◌, nat_le, if◌then◌else◌, true, List, [], ◌∷◌, Option, None, Some, option_and_then, option_map, codes, is_some, replicate, unwrap_or, ◌-◌, ◌^◌}
+use Rattle.std.specs.Prelude.{◌≡◌, ◌≢◌, ◌⊎◌, ℕ, Bool, ◌&&◌, ◌==◌, nat_le, if◌then◌else◌, true, List, [], ◌∷◌, Option, None, Some, option_and_then, option_map, codes, is_some, replicate, unwrap_or, ◌-◌, ◌^◌}
 use Rattle.std.specs.Str.{bytes_eq}
+use Rattle.std.specs.List.{slice_split}
 use Rattle.std.specs.Result.{result_ok}
 use Rattle.am_setup.specs.Setup.{Settings}
 use Rattle.clap.specs.Words.{App, Row, Rule, Text, IsAmong, fault_of, first_of, new_app, new_rule, subcommand_of, with_rule, with_subcommand}
@@ -8,7 +9,7 @@ use Rattle.clap.specs.Kinds.{Kinds}
 use Rattle.clap.specs.declared.error.kind.ErrorKind.{ErrorKind}
 use Rattle.clap.specs.declared.error.kind.ErrorKind.TheVariants.{DisplayHelp, DisplayVersion, OutOfMemory}
 use Rattle.hex.specs.Hex.{decode_sized}
-use Rattle.am_ring.specs.Instances.{in_order}
+use Rattle.am_ring.specs.Instances.{in_order, may_be_ring}
 use Rattle.am_scenario.specs.Line.{◌>>=◌}
 use Rattle.am_scenario.specs.Number.{number_of}
 use Rattle.am_options.specs.declared.command_line.CommandLine.{CommandLine}
@@ -37,8 +38,8 @@ top = record (new_app (codes "amring")) {
 -- a subcommand with the options of all of them
 abbrev pub app_named : Text → App
 app_named name =
-    with_rule (with_rule (with_rule (with_rule (new_app name) (option_or (codes "cache") (codes "512"))) (option (codes "key"))) (option (codes "start")))
-    (option (codes "store"))
+    with_rule (with_rule (with_rule (with_rule (with_rule (new_app name) (option_or (codes "cache") (codes "512"))) (option (codes "key")))
+    (option_or (codes "ring") (codes "1,2,3"))) (option (codes "start"))) (option (codes "store"))
 
 abbrev pub serve : App
 serve = with_rule (with_rule (app_named (codes "serve")) (option (codes "port"))) (option (codes "count"))
@@ -51,12 +52,17 @@ command_line = with_subcommand (with_subcommand top (app_named (codes "run")).to
 abbrev pub kinds : List Text → Kinds
 kinds words = fault_of command_line words
 
--- the number that the option of this name says, where it is one from the least to the most
+-- the number that a text says, where it is one from the least to the most
+abbrev pub number_within : ℕ → ℕ → Text → Option ℕ
+number_within least most text = do
+  number ← number_of text
+  if nat_le least number && nat_le number most then Some number else None
+
+-- .. that the option of this name says
 abbrev pub number_in : Text → ℕ → ℕ → List Row → Option ℕ
 number_in name least most rows = do
   text ← first_of name rows
-  number ← number_of text
-  if nat_le least number && nat_le number most then Some number else None
+  number_within least most text
 
 -- the 32 bytes that 64 hexadecimal digits say
 abbrev pub key_of : Text → Option (List ℕ)
@@ -79,15 +85,36 @@ number_or_none (Some text) name most rows = option_map Some (number_in name 1 mo
 abbrev pub given_in : Text → ℕ → List Row → Option (Option ℕ)
 given_in name most rows = number_or_none (first_of name rows) name most rows
 
--- the settings that the options say: so many cached patterns, the service key, the ring of 1, 2 and 3, and the first
--- incarnation, which is 1 where none is given
+-- the instances that these texts name by their numbers; none where one of them names none
+abbrev pub instances_of : List Text → Option (List ℕ)
+instances_of [] = Some []
+instances_of (text ∷ texts) = do
+  instance ← number_within 1 8 text
+  instances ← instances_of texts
+  Some (instance ∷ instances)
+
+-- .. that the options name for the ring, with commas between
+abbrev pub instances_in : List Row → Option (List ℕ)
+instances_in rows = do
+  text ← first_of (codes "ring") rows
+  instances_of (slice_split (λ b. b == 44) text)
+
+-- the ring that the options say: three to eight different instances
+abbrev pub ring_in : List Row → Option (List ℕ)
+ring_in rows = do
+  instances ← instances_in rows
+  if may_be_ring instances then Some (in_order instances) else None
+
+-- the settings that the options say: so many cached patterns, the service key, the first incarnation, which is 1 where
+-- none is given, and the ring
 abbrev pub settings_in : List Row → Option Settings
 settings_in rows = do
   cache ← number_in (codes "cache") 1 65536 rows
   key ← key_in rows
   start ← given_in (codes "start") (2 ^ 32 - 1) rows
+  ring ← ring_in rows
   Some (record {
-    origin = record { service_key = key; ring = in_order (1 ∷ 2 ∷ 3 ∷ []); first = unwrap_or start 1 };
+    origin = record { service_key = key; ring = ring; first = unwrap_or start 1 };
     cache = cache;
   })
 

@@ -1,9 +1,9 @@
 //! What the words of a command line ask for, by the forms that `clap` reads.
-ghost use Rattle.std.specs.Prelude.{◌≡◌, IfOk, MatchResult, None, Some, codes, false, map, true};
+ghost use Rattle.std.specs.Prelude.{◌≡◌, IfOk, MatchResult, None, Some, codes, false, map, option_map, true};
 ghost use Rattle.clap.specs.Words.{app_of, found_of, has_subcommand, kind_of, rows_of, rule_of};
 ghost use Rattle.clap.specs.Simple.{subcommand_rows_of};
 ghost use Rattle.clap.specs.declared.builder.command.Command.TheViews.{out-Command as fields_of};
-ghost use Rattle.am_options.specs.CommandLine.{Asks, Tells, app_named, asked_by, asked_of, command_line, given_in, has_start, key_in, number_in, option, option_or, running_in, serve, serving_in, settings_in, store_in};
+ghost use Rattle.am_options.specs.CommandLine.{Asks, Tells, app_named, asked_by, asked_of, command_line, given_in, has_start, instances_in, instances_of, key_in, number_in, number_within, option, option_or, running_in, serve, serving_in, settings_in, store_in};
 
 use am_scenario::number;
 use am_setup::Setup;
@@ -18,7 +18,11 @@ use std::fmt;
 /// What `--version` prints.
 const VERSION: &str = "0.1.0";
 
+const CACHE_HELP: &str = "How many patterns each instance keeps built, 1 to 65536";
+
 const KEY_HELP: &str = "The service key, 64 hexadecimal digits; zeros without it";
+
+const RING_HELP: &str = "The instances of the ring, 3 to 8 different numbers of 1 to 8";
 
 const START_HELP: &str = "The first incarnation, 1 to 4294967295, greater than any before";
 
@@ -34,8 +38,8 @@ const MOST_CACHED: u64 = 65_536;
 /// The greatest port.
 const MOST_PORT: u64 = 65_535;
 
-/// The instances of the ring.
-const RING: [u8; 3] = [1, 2, 3];
+/// The greatest number of an instance.
+const MOST_INSTANCE: u64 = 8;
 
 /// The greatest incarnation.
 const MOST_START: u64 = 4_294_967_295;
@@ -84,6 +88,7 @@ pub enum CommandLine {
 enum BadOption {
     Cache,
     Key,
+    Ring,
     Start,
     Port,
     Count,
@@ -94,6 +99,10 @@ impl fmt::Display for BadOption {
         match self {
             BadOption::Cache => write!(f, "--cache takes a number from 1 to {MOST_CACHED}"),
             BadOption::Key => write!(f, "--key takes 64 hexadecimal digits"),
+            BadOption::Ring => write!(
+                f,
+                "--ring takes 3 to 8 different numbers of 1 to 8, with commas between"
+            ),
             BadOption::Start => write!(f, "--start takes a number from 1 to {MOST_START}"),
             BadOption::Port => write!(f, "serve needs --port, a number from 1 to 65535"),
             BadOption::Count => write!(f, "--count takes a number from 1 on"),
@@ -145,22 +154,11 @@ fn form_of<'a>(alloc: Global, name: &'a str, about: &'a str) -> Result<Command<'
 {
     Command::new(alloc, name)
         .about(about)
-        .arg(cache(alloc))?
+        .arg(option_or(alloc, "cache", "N", "512", CACHE_HELP))?
         .arg(option(alloc, "key", "K", KEY_HELP))?
+        .arg(option_or(alloc, "ring", "A,B,C", "1,2,3", RING_HELP))?
         .arg(option(alloc, "start", "N", START_HELP))?
         .arg(option(alloc, "store", "DIR", STORE_HELP))
-}
-
-/// The option of how many patterns are kept built.
-fn cache<'a>(alloc: Global) -> Arg<'a>
-    ensures rule { rule_of result ≡ option_or (codes "cache") (codes "512") }
-    ensures local { result.global ≡ false }
-{
-    Arg::new(alloc, "cache")
-        .long("cache")
-        .value_name("N")
-        .default_value("512")
-        .help("How many patterns each instance keeps built, 1 to 65536")
 }
 
 /// An option that may be absent.
@@ -174,6 +172,20 @@ fn option<'a>(alloc: Global, name: &'a str, value: &'a str, help: &'a str) -> Ar
         .help(help)
 }
 
+/// An option that has this value where it is absent.
+fn option_or<'a>(
+    alloc: Global,
+    name: &'a str,
+    value: &'a str,
+    absent: &'a str,
+    help: &'a str,
+) -> Arg<'a>
+    ensures rule { rule_of result ≡ option_or name.entry.now absent.entry.now }
+    ensures local { result.global ≡ false }
+{
+    option(alloc, name, value, help).default_value(absent)
+}
+
 /// What the subcommand of a command line asks for.
 fn asked(
     alloc: Global,
@@ -185,11 +197,12 @@ fn asked(
         (λ _. asked_of (subcommand_rows_of matches.now) ≡ None)) }
 {
     let (name, options) = matches.subcommand().unwrap();
+    let instances = instances_in(alloc, options)?;
     let store = store_in(alloc, options)?;
     if name == "serve" {
-        Ok(serving_in(options, store).map(CommandLine::Serve))
+        Ok(serving_in(options, instances, store).map(CommandLine::Serve))
     } else {
-        Ok(running_in(options, store).map(CommandLine::Run))
+        Ok(running_in(options, instances, store).map(CommandLine::Run))
     }
 }
 
@@ -203,25 +216,62 @@ fn store_in(alloc: Global, matches: &ArgMatches<'_>) -> Result<Option<Text>, All
     }
 }
 
-/// How the options of `run` say to play, over the stores of this folder.
-fn running_in(run: &ArgMatches<'_>, store: Option<Text>) -> Result<Running, BadOption>
-    requires { store ≡ store_in (rows_of (found_of run.now)) }
+/// The instances that the options name for the ring; none where they name anything else.
+fn instances_in(alloc: Global, matches: &ArgMatches<'_>) -> Result<Option<Vec<u8>>, AllocError>
+    ensures { IfOk result (λ named. option_map (λ v. v.items) named ≡ instances_in (rows_of (found_of matches.now))) }
+{
+    match matches.get_str("ring") {
+        Some(text) => {
+            let texts: Vec<&str> = text.split(',').collect(alloc)?;
+            instances_of(alloc, &texts)
+        }
+        None => Ok(None),
+    }
+}
+
+/// The instances that these texts name by their numbers; none where one of them names none.
+fn instances_of(alloc: Global, texts: &[&str]) -> Result<Option<Vec<u8>>, AllocError>
+    ensures { IfOk result (λ named. option_map (λ v. v.items) named ≡ instances_of (map (λ t. t.now) texts.now)) }
+{
+    let mut instances = Vec::new(alloc);
+    for text in texts {
+        match number_within(text, 1, MOST_INSTANCE) {
+            Some(instance) => instances.push(instance as u8)?,
+            None => return Ok(None),
+        }
+    }
+    Ok(Some(instances))
+}
+
+/// How the options of `run` say to play, with these instances named for the ring, over the stores of this folder.
+fn running_in(
+    run: &ArgMatches<'_>,
+    instances: Option<Vec<u8>>,
+    store: Option<Text>,
+) -> Result<Running, BadOption>
+    requires instances { option_map (λ v. v.items) instances ≡ instances_in (rows_of (found_of run.now)) }
+    requires store { store ≡ store_in (rows_of (found_of run.now)) }
     ensures { MatchResult result
         (λ running. running_in (rows_of (found_of run.now)) ≡ Some running)
         (λ _. running_in (rows_of (found_of run.now)) ≡ None) }
 {
-    let setup = settings_in(run)?;
+    let setup = settings_in(run, instances)?;
     Ok(Running { setup, store })
 }
 
-/// How the options of `serve` say to serve, over the stores of this folder.
-fn serving_in(serve: &ArgMatches<'_>, store: Option<Text>) -> Result<Serving, BadOption>
-    requires { store ≡ store_in (rows_of (found_of serve.now)) }
+/// How the options of `serve` say to serve, with these instances named for the ring, over the stores of this folder.
+fn serving_in(
+    serve: &ArgMatches<'_>,
+    instances: Option<Vec<u8>>,
+    store: Option<Text>,
+) -> Result<Serving, BadOption>
+    requires instances { option_map (λ v. v.items) instances ≡ instances_in (rows_of (found_of serve.now)) }
+    requires store { store ≡ store_in (rows_of (found_of serve.now)) }
     ensures { MatchResult result
         (λ serving. serving_in (rows_of (found_of serve.now)) ≡ Some serving)
         (λ _. serving_in (rows_of (found_of serve.now)) ≡ None) }
 {
-    let setup = settings_in(serve)?;
+    let setup = settings_in(serve, instances)?;
     let port = number_in(serve, "port", 1, MOST_PORT).ok_or(BadOption::Port)?;
     let count = given_in(serve, "count", u64::MAX).ok_or(BadOption::Count)?;
     Ok(Serving {
@@ -243,8 +293,9 @@ fn has_start(serve: &ArgMatches<'_>) -> bool
     }
 }
 
-/// The settings that the options of a subcommand say.
-fn settings_in(run: &ArgMatches<'_>) -> Result<Setup, BadOption>
+/// The settings that the options of a subcommand say, with these instances named for the ring.
+fn settings_in(run: &ArgMatches<'_>, instances: Option<Vec<u8>>) -> Result<Setup, BadOption>
+    requires { option_map (λ v. v.items) instances ≡ instances_in (rows_of (found_of run.now)) }
     ensures { MatchResult result
         (λ setup. settings_in (rows_of (found_of run.now)) ≡ Some setup)
         (λ _. settings_in (rows_of (found_of run.now)) ≡ None) }
@@ -253,7 +304,8 @@ fn settings_in(run: &ArgMatches<'_>) -> Result<Setup, BadOption>
     let key = key_in(run).ok_or(BadOption::Key)?;
     let start = given_in(run, "start", MOST_START).ok_or(BadOption::Start)?;
     let start = start.unwrap_or(START);
-    Ok(Setup::new(key, &RING, cache as u32, start as u32).unwrap())
+    let ring = instances.ok_or(BadOption::Ring)?;
+    Setup::new(key, &ring, cache as u32, start as u32).ok_or(BadOption::Ring)
 }
 
 /// The number, from 1 to the most, that an option says which may be absent; none where it is absent.
@@ -270,7 +322,14 @@ fn given_in(matches: &ArgMatches<'_>, name: &str, most: u64) -> Option<Option<u6
 fn number_in(matches: &ArgMatches<'_>, name: &str, least: u64, most: u64) -> Option<u64>
     ensures { result ≡ number_in name.now least most (rows_of (found_of matches.now)) }
 {
-    let number = number(matches.get_str(name)?)?;
+    number_within(matches.get_str(name)?, least, most)
+}
+
+/// The number that a text says, where it is one from the least to the most.
+fn number_within(text: &str, least: u64, most: u64) -> Option<u64>
+    ensures { result ≡ number_within least most text.now }
+{
+    let number = number(text)?;
     (least <= number && number <= most).then_some(number)
 }
 

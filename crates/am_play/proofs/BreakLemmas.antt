@@ -3,7 +3,8 @@ use Rattle.std.proofs.Common.{◌≡◌, ℕ, List, [], ◌++◌, Option, None, 
 use Rattle.std.proofs.lemmas.List.Concat.{flat_map-append}
 use Rattle.std.specs.Io.KnownBytes.{Appends}
 use Rattle.am_item.specs.declared.item.Item.{Item}
-use Rattle.am_world.specs.Simulation.{Opens, fault_count}
+use Rattle.am_world.specs.Opening.{Opens}
+use Rattle.am_world.specs.Simulation.{fault_count}
 use Rattle.am_world.specs.declared.state.State.{State}
 use Rattle.am_play.proofs.ScenarioLemmas.{Rest, Upto}
 use Rattle.am_play.proofs.TraceLemmas.{course_alone, course_until_fault}

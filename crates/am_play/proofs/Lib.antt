@@ -1,5 +1,6 @@
 pub mod BreakLemmas
 pub mod LinesLemmas
+pub mod MailLemmas
 pub mod NamesLemmas
 pub mod PlayingLemmas
 pub mod ScenarioLemmas

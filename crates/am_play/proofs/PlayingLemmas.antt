@@ -3,19 +3,21 @@ use Rattle.std.proofs.Common.{◌≡◌, ℕ, suc, ◌+◌, ◌<◌, ◌≤◌, 
 use Rattle.std.proofs.lemmas.Bool.Decides.{nat_tests}
 use Rattle.std.proofs.lemmas.List.Concat.{flat_map-append}
 use Rattle.std.specs.List.{flat_map}
-use Rattle.am_world.specs.declared.event.Event.{Event}
-use Rattle.am_world.specs.declared.event.Event.TheVariants as event
-use Rattle.am_world.specs.declared.event.Refused.{Refused}
+use Rattle.am_event.specs.declared.event.Event.{Event}
+use Rattle.am_event.specs.declared.event.Event.TheVariants as event
+use Rattle.am_event.specs.declared.refused.Refused.{Refused}
 use Rattle.am_world.specs.declared.state.State.{State}
 use Rattle.am_world.specs.Places.{up_at}
 use Rattle.am_world.specs.Refusal.{refusal}
 use Rattle.am_world.specs.Runs.{Forgets}
-use Rattle.am_world.specs.Simulation.{Step, put_out}
+use Rattle.am_world.specs.Simulation.{put_out}
+use Rattle.am_world.specs.Stopping.{Step}
 use Rattle.am_instance.specs.Ticks.{Either}
 use Rattle.am_play.specs.declared.play.Player.{Player}
 use Rattle.am_play.specs.declared.report.Report.{Report}
 use Rattle.am_play.specs.declared.report.Try.{Try}
 use Rattle.am_play.specs.Link.{Answers, Carries}
+use Rattle.am_play.specs.Mail.{letters_in}
 use Rattle.am_play.specs.Playing.{Happens, Gives, Settles, happened, goes_on, is_piece}
 use Rattle.am_play.specs.Trace.{Happened, Grows, Reports, text_of, outputs, printed, output_line, refusal_line}
 use Rattle.am_play.specs.Tries.{try_of, tries_in}
@@ -65,8 +67,10 @@ refusal_same w w' (event.Open c i) forgets = rw forgets.instances refl
 refusal_same w w' (event.Bytes c moment piece) forgets = rw forgets.instances refl
 refusal_same w w' (event.Close c) forgets = rw forgets.instances refl
 refusal_same w w' (event.Limits tenant limits) forgets = refl
-refusal_same w w' (event.Tick moment) forgets = rw forgets.clock refl
+refusal_same w w' (event.Tick moment) forgets = rw forgets.beside.clock refl
 refusal_same w w' (event.Outcome attempt tries moment status) forgets = rw forgets.instances refl
+refusal_same w w' (event.Deliver name moment) forgets = rw forgets.messages refl
+refusal_same w w' (event.Lose name) forgets = rw forgets.messages refl
 
 -- whether an event was refused, by what came of it
 pub taken_none : {T : Type 0} (o : Option Refused) (r : Result T Refused) (x : T) → r ≡ Ok x →
@@ -89,11 +93,12 @@ pub reports_event : {R : Type 0} (p : Player R) (e : Event) (p' : Player R) (bef
     Forgets p.world.state before → Step before e p'.world.state → refusal before e ≡ refused →
     (IsSome refused → p'.world.state ≡ before) →
     p'.connections ≡ p.connections → p'.moment ≡ p.moment → p'.hook ≡ p.hook →
+    p'.mail ≡ p.mail ++ letters_in (put_out p'.world.state) →
     string_bytes new.text ≡
     (string_bytes old.text ++ flat_map (output_line p.connections) (put_out p'.world.state)) ++ refusal_line refused →
     new.tries.items ≡ old.tries.items ++ tries_in (put_out p'.world.state) →
     Reports old new (Happens p e p')
-reports_event p e p' before refused old new forgets step is same connections moment hook text tries =
+reports_event p e p' before refused old new forgets step is same connections moment hook mail text tries =
     let seen : refusal p.world.state e ≡ refused = sym (refusal_same p.world.state before e forgets) ∙ is in
     let lines = flat_map (output_line p.connections) (put_out p'.world.state) in (
       happened p e p' ∷ [],
@@ -110,6 +115,7 @@ reports_event p e p' before refused old new forgets step is same connections mom
         connections = connections;
         moment = moment;
         hook = hook;
+        mail = mail;
         traced = refl;
       },
     )

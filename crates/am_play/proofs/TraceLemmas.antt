@@ -1,26 +1,37 @@
 -- The trace of a scenario has the steps that its world made.
-use Rattle.std.proofs.Common.{◌≡◌, ◌∙◌, ℕ, ◌+◌, Bool, true, false, is_none, List, [], ◌∷◌, ◌++◌, MatchOption, Option, None, Some, refl, sym, ap}
-use Rattle.am_world.specs.declared.event.Event.TheVariants as event
-use Rattle.am_world.specs.declared.event.Event.{Event}
-use Rattle.am_instance.specs.declared.output.Output.{Output}
+use Rattle.std.proofs.Common.{◌≡◌, ◌∙◌, ℕ, ◌+◌, Bool, true, false, is_none, List, [], ◌∷◌, ◌++◌, MatchOption, Option, None, Some, refl, sym, ap, inl, inr, ◌⊎◌}
+use Rattle.am_event.specs.declared.event.Event.TheVariants as event
+use Rattle.am_event.specs.declared.event.Event.{Event}
+use Rattle.am_event.specs.declared.output.Output.{Output}
 use Rattle.am_item.specs.declared.item.Item.{Item}
 use Rattle.am_world.specs.declared.state.State.{State}
 use Rattle.am_world.specs.Refusal.{refusal}
 use Rattle.am_world.specs.Runs.{Alone, Forgets}
-use Rattle.am_setup.specs.Setup.{Origin}
-use Rattle.am_world.specs.Simulation.{Opens, Step, fault_count, put_out, refused_by}
+use Rattle.am_cluster.specs.Origins.{Origin}
+use Rattle.am_world.specs.Opening.{Opens}
+use Rattle.am_world.specs.Simulation.{fault_count, message_named, put_out, refused_by}
+use Rattle.am_world.specs.Stopping.{Step}
 use Rattle.am_instance.specs.Ticks.{Either}
-use Rattle.am_world.specs.View.{first_watch, names_once}
-use Rattle.am_world.proofs.Steps.{Steps, alone}
+use Rattle.am_cluster.specs.View.{first_watch, names_once}
+use Rattle.am_world.proofs.RunTaken.{Steps, alone}
 use Rattle.am_scenario.specs.Line.{command_of}
 use Rattle.am_play.specs.Link.{Answers, Carries}
+use Rattle.am_play.specs.Mail.{name_said}
 use Rattle.am_play.specs.Playing.{Happens, Come, Gives, Calls, Obeys, Settles, Does, Plays, goes_on}
+use Rattle.am_play.specs.Playing.{Hands, PassedOver, Reaches, Travels}
 use Rattle.am_play.specs.Scenario.{Course, AloneUntilFault}
 use Rattle.am_play.specs.Streams.{KnownLines}
 use Rattle.am_play.specs.Trace.{Happened, events, outputs, no_fault, unbuilt, unbuilt_after}
 use Rattle.am_play.specs.Tries.{tries_in}
 use Rattle.am_scenario.specs.declared.command.Command.{Command}
 use Rattle.am_scenario.specs.declared.command.Command.TheVariants.{Skip, At, Tick, Open, Bytes, Call, Limits, Pump, Hook}
+use Rattle.am_scenario.specs.declared.command.Command.TheVariants.{Drop, Deliver}
+use Rattle.am_messages.specs.declared.name.MessageName.{MessageName}
+use Rattle.am_wire.specs.Messages.{IsRefusalOf}
+use Rattle.am_wire.specs.declared.message.Message.{Message}
+use Rattle.am_wire.specs.declared.refusal.EncodeRefusal.{EncodeRefusal}
+use Rattle.am_world.specs.Consistent.{Contents}
+use Rattle.am_play.specs.declared.mail.Letter.{Letter}
 use Rattle.am_play.specs.declared.play.Played.{Played}
 use Rattle.am_play.specs.declared.play.Played.TheVariants.{BadLine}
 use Rattle.am_play.specs.declared.play.Player.{Player}
@@ -75,19 +86,64 @@ calls_traced {R} carries c p i text p' trace (mid, first, rest, happens, both, m
     by true gives = come_traced carries c mid gives.pieces gives.left p' rest gives.come
     by false (same, nothing) = traced_nothing mid p' rest (ap (λ (x : Player R). x.world.state) same) nothing
 
+-- .. of what waits alone
+world_kept : {R : Type 0} (b : Bool) (mid p' forgotten : Player R) → forgotten.world ≡ mid.world →
+    Either b (p' ≡ forgotten) (p' ≡ mid) → p'.world.state ≡ mid.world.state
+world_kept {R} true mid p' forgotten same is =
+    ap (λ (x : Player R). x.world.state) is ∙ ap (λ (w : Contents). w.state) same
+world_kept {R} false mid p' forgotten same is = ap (λ (x : Player R). x.world.state) is
+
+-- a letter was handed over
+passed_traced : {R : Type 0} (p p' : Player R) (is_done : Bool) (trace : List Happened) → PassedOver p is_done p' trace →
+    Traced p.world.state trace p'.world.state
+passed_traced {R} p p' is_done trace (is, same, nothing) =
+    traced_nothing p p' trace (ap (λ (x : Player R). x.world.state) same) nothing
+
+reaches_traced : {R : Type 0} (b : Bool) (name : MessageName) (p p' : Player R) (is_done : Bool) (trace : List Happened) →
+    Either b (Reaches name p is_done p' trace) (PassedOver p is_done p' trace) →
+    Traced p.world.state trace p'.world.state
+reaches_traced true name p p' is_done trace (happens, is) = happens_traced p _ p' trace happens
+reaches_traced false name p p' is_done trace passed = passed_traced p p' is_done trace passed
+
+over_traced : {R : Type 0} (carries : Carries) (o : Option Message) (name : MessageName) (p p' : Player R) (is_done : Bool)
+    (trace : List Happened) →
+    MatchOption o (PassedOver p is_done p' trace)
+    (λ message. Travels carries message name p is_done p' trace
+    ⊎ ((why : EncodeRefusal) × IsRefusalOf message why × PassedOver p is_done p' trace)) →
+    Traced p.world.state trace p'.world.state
+over_traced carries None name p p' is_done trace passed = passed_traced p p' is_done trace passed
+over_traced carries (Some message) name p p' is_done trace (inl travels) =
+    reaches_traced travels.came name p p' is_done trace travels.reaches
+over_traced carries (Some message) name p p' is_done trace (inr (why, refused, passed)) =
+    passed_traced p p' is_done trace passed
+
+hands_traced : {R : Type 0} (carries : Carries) (handed : List (Letter × Bool)) (p p' : Player R) (trace : List Happened) →
+    Hands carries handed p p' trace → Traced p.world.state trace p'.world.state
+hands_traced {R} carries [] p p' trace (same, nothing) =
+    traced_nothing p p' trace (ap (λ (x : Player R). x.world.state) same) nothing
+hands_traced {R} carries (one ∷ more) p p' trace (mail, mid, first, rest, waits, over, both, later) =
+    rw both (traced_more p.world.state first rest mid.world.state p'.world.state
+    (over_traced carries (message_named one.0.name p.world.state) one.0.name (record p { mail = mail }) mid one.1 first over)
+    (hands_traced carries more mid p' rest later))
+
 obeys_traced : {R : Type 0} (carries : Carries) (p : Player R) (command : Command) (p' : Player R) (trace : List Happened) →
     Obeys carries p command p' trace →
     Traced p.world.state trace p'.world.state
 obeys_traced {R} carries p Skip p' trace (same, nothing) =
     traced_nothing p p' trace (ap (λ (x : Player R). x.world.state) same) nothing
-obeys_traced {R} carries p Pump p' trace (same, nothing) =
-    traced_nothing p p' trace (ap (λ (x : Player R). x.world.state) same) nothing
+obeys_traced {R} carries p Pump p' trace pumps =
+    rw (ap (λ (x : Player R). x.world.state) pumps.kept) (hands_traced carries pumps.handed p pumps.until trace pumps.hands)
 obeys_traced {R} carries p (At moment) p' trace (same, nothing) =
     traced_nothing p p' trace (ap (λ (x : Player R). x.world.state) same)
     nothing
 obeys_traced {R} carries p (Hook status) p' trace (same, nothing) =
     traced_nothing p p' trace (ap (λ (x : Player R). x.world.state) same)
     nothing
+obeys_traced {R} carries p (Drop way) p' trace (same, nothing) =
+    traced_nothing p p' trace (ap (λ (x : Player R). x.world.state) same) nothing
+obeys_traced {R} carries p (Deliver said) p' trace (mid, happens, forgets) =
+    rw (world_kept (is_none (refusal p.world.state (event.Deliver (name_said said) p.moment))) mid p' _ refl forgets)
+    (happens_traced p _ mid trace happens)
 obeys_traced {R} carries p Tick p' trace happens = happens_traced p (event.Tick p.moment) p' trace happens
 obeys_traced {R} carries p (Limits tenant limits) p' trace happens =
     happens_traced p (event.Limits tenant limits) p' trace happens

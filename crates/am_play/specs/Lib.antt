@@ -1,6 +1,7 @@
 pub mod Ending
 pub mod Lines
 pub mod Link
+pub mod Mail
 pub mod Names
 pub mod Output
 pub mod Playing

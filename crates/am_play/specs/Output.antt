@@ -3,9 +3,9 @@ use Rattle.std.specs.Prelude.{ℕ, Bool, false, List, [], ◌∷◌, ◌++◌, �
 use Rattle.std.specs.List.{list_any}
 use Rattle.std.specs.Str.Lossy.{utf8_lossy}
 use Rattle.json.specs.Print.{quoted}
-use Rattle.am_instance.specs.declared.output.AttemptName.{AttemptName}
-use Rattle.am_instance.specs.declared.output.Output.{Output}
-use Rattle.am_instance.specs.declared.output.Output.TheVariants.{Reply, Notice}
+use Rattle.am_event.specs.declared.output.AttemptName.{AttemptName}
+use Rattle.am_event.specs.declared.output.Output.{Output}
+use Rattle.am_event.specs.declared.output.Output.TheVariants.{Reply, Notice, Send}
 
 -- bytes as a JSON text, in which those that are no UTF-8 stand as U+FFFD
 abbrev pub json_text : List ℕ → List ℕ
@@ -29,6 +29,7 @@ notice_line attempt tries url bytes =
 abbrev pub is_reply_to : ℕ → Output → Bool
 is_reply_to connection (Reply c bytes) = c == connection
 is_reply_to connection (Notice attempt tries url bytes) = false
+is_reply_to connection (Send message) = false
 
 -- whether the outputs answer this connection
 abbrev pub is_answered : ℕ → List Output → Bool

@@ -1,22 +1,31 @@
 -- What playing a scenario does: the trace of the events that the world gets, and what is written of each.
-use Rattle.std.specs.Prelude.{◌≡◌, ℕ, ◌+◌, nat_lt, nat_le, Bool, true, false, ◌&&◌, not, is_none, ◌⊎◌, List, [], ◌∷◌, ◌++◌, length, min, Option, Some, MatchOption, IsSome, codes, decimal}
-use Rattle.std.specs.List.{concat, list_all}
-use Rattle.am_world.specs.declared.event.Event.{Event}
-use Rattle.am_world.specs.declared.event.Event.TheVariants as event
+use Rattle.std.specs.Prelude.{◌≡◌, ℕ, ◌+◌, ◌≤◌, nat_lt, nat_le, Bool, true, false, ◌&&◌, not, is_none}
+use Rattle.std.specs.Prelude.{◌⊎◌, List, [], ◌∷◌, ◌++◌, length, min, filter, Option, Some, MatchOption, IsSome, codes, decimal}
+use Rattle.std.specs.List.{All as Each, concat, list_all}
+use Rattle.am_event.specs.declared.event.Event.{Event}
+use Rattle.am_event.specs.declared.event.Event.TheVariants as event
 use Rattle.am_world.specs.declared.state.State.{State}
 use Rattle.am_world.specs.Runs.{Forgets}
-use Rattle.am_setup.specs.Setup.{Origin}
 use Rattle.am_world.specs.Refusal.{refusal}
-use Rattle.am_world.specs.Simulation.{Opens, Step, fault_count, put_out, refused_by}
+use Rattle.am_world.specs.Simulation.{fault_count, message_named, put_out, refused_by}
+use Rattle.am_world.specs.Stopping.{Step}
 use Rattle.am_instance.specs.Ticks.{Either}
+use Rattle.am_messages.specs.declared.name.MessageName.{MessageName}
 use Rattle.am_scenario.specs.declared.command.Command.{Command}
-use Rattle.am_scenario.specs.declared.command.Command.TheVariants.{Skip, At, Tick, Open, Bytes, Call, Limits, Pump, Hook}
+use Rattle.am_scenario.specs.declared.command.Command.TheVariants.{Skip, At, Tick, Open, Bytes, Call}
+use Rattle.am_scenario.specs.declared.command.Command.TheVariants.{Limits, Pump, Drop, Deliver, Hook}
+use Rattle.am_wire.specs.Messages.{IsRefusalOf, Spells}
+use Rattle.am_wire.specs.declared.message.Message.{Message}
+use Rattle.am_wire.specs.declared.refusal.EncodeRefusal.{EncodeRefusal}
+use Rattle.am_play.specs.declared.mail.Letter.{Letter}
 use Rattle.am_play.specs.declared.play.Played.{Played}
 use Rattle.am_play.specs.declared.play.Played.TheVariants.{All, BadLine}
 use Rattle.am_play.specs.declared.play.Player.{Player}
 use Rattle.am_play.specs.declared.report.Try.{Try}
+use Rattle.am_scenario.specs.declared.command.Way.{Way}
 use Rattle.am_scenario.specs.Line.{command_of}
 use Rattle.am_play.specs.Link.{Answers, Carries}
+use Rattle.am_play.specs.Mail.{goes, is_named, is_there, kept_of, letters_in, name_said, without_first}
 use Rattle.am_play.specs.Names.{place_of, with_name}
 use Rattle.am_play.specs.Output.{is_answered}
 use Rattle.am_scenario.specs.Request.{request_text}
@@ -34,7 +43,8 @@ happened p e p' = record {
   unbuilt = refused_by p'.world.state;
 }
 
--- an event came to the world, which forgot its outputs first; a refused one did nothing
+-- an event came to the world, which forgot its outputs first; a refused one did nothing. The messages that this sent
+-- wait behind the others
 pub record Happens {R : Type 0} (p : Player R) (e : Event) (p' : Player R) (trace : List Happened) : Type 0 where
   pub before : State
   pub forgets : Forgets p.world.state before
@@ -43,6 +53,7 @@ pub record Happens {R : Type 0} (p : Player R) (e : Event) (p' : Player R) (trac
   pub connections : p'.connections ≡ p.connections
   pub moment : p'.moment ≡ p.moment
   pub hook : p'.hook ≡ p.hook
+  pub mail : p'.mail ≡ p.mail ++ letters_in (put_out p'.world.state)
   pub traced : trace ≡ happened p e p' ∷ []
 
 -- what stands on a line goes on after an event: it wasn't refused, and didn't answer the line's connection
@@ -82,6 +93,70 @@ pub record Gives {R : Type 0} (carries : Carries) (c : ℕ) (p : Player R) (byte
   pub sizes : list_all is_piece pieces ≡ true
   pub come : Come carries c p pieces left p' trace
 
+-- the bytes of a message went over the link in pieces: all of them came, or the next piece was lost
+pub record Crosses (carries : Carries) (bytes : List ℕ) (came : Bool) : Type 0 where
+  pub pieces : List (List ℕ)
+  pub left : List ℕ
+  pub cut : bytes ≡ concat pieces ++ left
+  pub sizes : list_all is_piece pieces ≡ true
+  pub carried : Each (λ piece. carries piece true) pieces
+  pub ends : Either came (left ≡ []) (Loses carries left)
+
+-- nothing happened, and no more has to be done
+abbrev pub PassedOver : {R : Type 0} → Player R → Bool → Player R → List Happened → Type 0
+PassedOver p is_done p' trace = (is_done ≡ true) × (p' ≡ p) × (trace ≡ [])
+
+-- the message of this name was delivered, which is done unless that was refused
+abbrev pub Reaches : {R : Type 0} → MessageName → Player R → Bool → Player R → List Happened → Type 0
+Reaches name p is_done p' trace =
+    Happens p (event.Deliver name p.moment) p' trace
+    × (is_done ≡ is_none (refusal p.world.state (event.Deliver name p.moment)))
+
+-- a message has bytes, and was delivered where all of them came over the link
+pub record Travels {R : Type 0} (carries : Carries) (message : Message) (name : MessageName) (p : Player R)
+    (is_done : Bool) (p' : Player R) (trace : List Happened) : Type 0 where
+  pub bytes : List ℕ
+  pub spells : Spells bytes message
+  pub came : Bool
+  pub crosses : Crosses carries bytes came
+  pub reaches : Either came (Reaches name p is_done p' trace) (PassedOver p is_done p' trace)
+
+-- a letter was handed over: one whose message is lost, or has no bytes, is passed over
+abbrev pub HandsOver : {R : Type 0} → Carries → MessageName → Player R → Bool → Player R → List Happened → Type 0
+HandsOver carries name p is_done p' trace = MatchOption (message_named name p.world.state)
+    (PassedOver p is_done p' trace)
+    (λ message. Travels carries message name p is_done p' trace
+    ⊎ ((why : EncodeRefusal) × IsRefusalOf message why × PassedOver p is_done p' trace))
+
+-- these letters were handed over, each the oldest of those that waited, one after the other; of each it is said
+-- whether it is done with
+abbrev pub Hands : {R : Type 0} → Carries → List (Letter × Bool) → Player R → Player R → List Happened → Type 0
+Hands {R} carries [] p p' trace = (p' ≡ p) × (trace ≡ [])
+Hands {R} carries (handed ∷ more) p p' trace =
+    (mail : List Letter) × (mid : Player R) × (first rest : List Happened) × (p.mail ≡ handed.0 ∷ mail)
+    × HandsOver carries handed.0.name (record p { mail = mail }) handed.1 mid first
+    × (trace ≡ first ++ rest) × Hands carries more mid p' rest
+
+-- letters were handed over until none waited, at most a million; those that aren't done with wait before the others
+pub record Pumps {R : Type 0} (carries : Carries) (p p' : Player R) (trace : List Happened) : Type 0 where
+  pub handed : List (Letter × Bool)
+  pub until : Player R
+  pub hands : Hands carries handed p until trace
+  pub bound : length handed ≤ 1000000
+  pub over : (until.mail ≡ []) ⊎ (length handed ≡ 1000000)
+  pub kept : p' ≡ record until { mail = kept_of handed ++ until.mail }
+
+-- the oldest message that is there and goes this way waits no more
+abbrev pub dropping : {R : Type 0} → Way → Player R → Player R
+dropping way p = record p { mail = without_first (goes way) (filter (is_there p.world.state) p.mail) }
+
+-- a message was delivered by its name, and waits no more unless that was refused
+abbrev pub Delivers : {R : Type 0} → MessageName → Player R → Player R → List Happened → Type 0
+Delivers {R} name p p' trace =
+    (mid : Player R) × Happens p (event.Deliver name p.moment) mid trace
+    × Either (is_none (refusal p.world.state (event.Deliver name p.moment)))
+    (p' ≡ record mid { mail = filter (λ letter. not (is_named name letter)) mid.mail }) (p' ≡ mid)
+
 -- the name of a connection is known from now on
 abbrev pub naming : {R : Type 0} → List ℕ → Player R → Player R
 naming name p = record p { connections = with_name name p.connections }
@@ -103,7 +178,7 @@ OnNamed p name Holds = (c : ℕ) × (place_of name (naming name p).connections �
 -- a command was done
 abbrev pub Obeys : {R : Type 0} → Carries → Player R → Command → Player R → List Happened → Type 0
 Obeys carries p Skip p' trace = (p' ≡ p) × (trace ≡ [])
-Obeys carries p Pump p' trace = (p' ≡ p) × (trace ≡ [])
+Obeys carries p Pump p' trace = Pumps carries p p' trace
 Obeys carries p (At moment) p' trace = (p' ≡ record p { moment = moment }) × (trace ≡ [])
 Obeys carries p (Hook status) p' trace = (p' ≡ record p { hook = status }) × (trace ≡ [])
 Obeys carries p Tick p' trace = Happens p (event.Tick p.moment) p' trace
@@ -113,6 +188,8 @@ Obeys carries p (Open name i) p' trace =
 Obeys carries p (Bytes name text) p' trace = OnNamed p name (λ c q. Gives carries c q text p' trace)
 Obeys carries p (Call name i request) p' trace =
     OnNamed p name (λ c q. Calls carries c q (instance_of i) (request_text request) p' trace)
+Obeys carries p (Drop way) p' trace = (p' ≡ dropping way p) × (trace ≡ [])
+Obeys carries p (Deliver said) p' trace = Delivers (name_said said) p p' trace
 
 -- each of these tries got its outcome, one after the other: with the status that was read of what the receiver, to
 -- which its request went, answers now
@@ -147,9 +224,11 @@ Plays {R} carries answers n p (line ∷ lines) played trace p' = MatchOption (co
     (λ command. (mid : Player R) × (first rest : List Happened) × Does carries answers p command mid first
     × (trace ≡ first ++ rest) × Plays carries answers (n + 1) mid lines played rest p')
 
--- where a scenario begins: a world, no connection, the moment 0, and a receiver that takes all notices
+-- where a scenario begins: a world, no connection, the moment 0, a receiver that takes all notices, and no message
+-- that waits
 pub record IsStart {R : Type 0} (w : State) (p : Player R) : Type 0 where
   pub begins : p.world.state ≡ w
   pub connections : p.connections ≡ []
   pub moment : p.moment ≡ 0
   pub hook : p.hook ≡ Some 200
+  pub mail : p.mail ≡ []

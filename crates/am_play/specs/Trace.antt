@@ -1,11 +1,11 @@
 -- The trace of a scenario: what happened, event by event, and the lines that are written of it.
 use Rattle.std.specs.Prelude.{◌≡◌, ℕ, List, [], ◌∷◌, ◌++◌, map, slice_get, Option, None, Some, codes, string_bytes}
 use Rattle.std.specs.List.{flat_map}
-use Rattle.am_world.specs.declared.event.Event.{Event}
-use Rattle.am_instance.specs.declared.output.Output.{Output}
-use Rattle.am_instance.specs.declared.output.Output.TheVariants.{Reply, Notice}
-use Rattle.am_world.specs.declared.event.Refused.{Refused}
-use Rattle.am_world.specs.Refusal.{code_of}
+use Rattle.am_event.specs.declared.event.Event.{Event}
+use Rattle.am_event.specs.declared.output.Output.{Output}
+use Rattle.am_event.specs.declared.output.Output.TheVariants.{Reply, Notice, Send}
+use Rattle.am_event.specs.declared.refused.Refused.{Refused}
+use Rattle.am_event.specs.Codes.{code_of}
 use Rattle.am_play.specs.declared.report.Report.{Report}
 use Rattle.am_play.specs.Output.{reply_line, notice_line}
 use Rattle.am_play.specs.Tries.{tries_in}
@@ -15,10 +15,11 @@ abbrev pub named_line : List ℕ → Option (List ℕ) → List ℕ
 named_line bytes None = []
 named_line bytes (Some name) = reply_line name bytes
 
--- the line of an output, where a connection's number is the place of its name
+-- the line of an output, where a connection's number is the place of its name; a message has none
 abbrev pub output_line : List (List ℕ) → Output → List ℕ
 output_line names (Reply c bytes) = named_line bytes (slice_get names c)
 output_line names (Notice attempt tries url bytes) = notice_line attempt tries url bytes
+output_line names (Send message) = []
 
 -- the line of a refusal
 abbrev pub refusal_line : Option Refused → List ℕ

@@ -6,6 +6,8 @@ pub mod ending;
 pub mod lines;
 pub mod link;
 pub mod loopback;
+mod mail;
+mod mailing;
 pub mod play;
 mod report;
 pub mod stops;

@@ -14,20 +14,22 @@ ghost use Rattle.am_play.specs.Writing.{AppendsPart};
 
 use crate::connections::Connections;
 use crate::link::Link;
+use crate::mail::Mail;
+use crate::mailing::name_said;
 use crate::report::{Report, Try};
 use crate::stops::Stops;
 use crate::streams::{Sink, Source, StreamFailure};
+use am_event::{Event, Output};
 use am_http::ConnectionId;
 use am_rows::Rows;
 use am_scenario::{Command, LineFault, Request, read_command};
 use am_text::{Octets, Text};
-use am_world::event::{Event, Output};
-use am_world::world::World;
+use am_world::World;
 use std::alloc::{AllocError, Global};
 use std::mem;
 
-/// The most bytes that one event gives to the world.
-const PIECE: usize = 4096;
+/// The most bytes that one event gives to the world, and that go over the link at once.
+pub(crate) const PIECE: usize = 4096;
 
 /// What the program's own receiver answers at first: the status 200.
 const TAKEN: u16 = 200;
@@ -78,6 +80,7 @@ pub fn play<R: Rows + Drop, L: Link, S: Source, K: Sink, E: Sink>(
         connections: Connections::new(alloc),
         moment: 0,
         hook: Some(TAKEN),
+        mail: Mail::new(alloc),
     };
     let played = player.play_lines(alloc, link, source, writer, errors)?;
     writer.flush()?;
@@ -87,12 +90,13 @@ pub fn play<R: Rows + Drop, L: Link, S: Source, K: Sink, E: Sink>(
 
 /// A scenario at one of its lines.
 #[derive(Drop)]
-struct Player<R: Rows> {
-    world: World<R>,
+pub(crate) struct Player<R: Rows> {
+    pub(crate) world: World<R>,
     connections: Connections,
-    moment: u64,
+    pub(crate) moment: u64,
     /// The status that the program's own receiver answers; `None` where it doesn't answer.
     hook: Option<u16>,
+    pub(crate) mail: Mail,
 }
 
 impl<R: Rows + Drop> Player<R> {
@@ -201,18 +205,15 @@ impl<R: Rows + Drop> Player<R> {
         ensures { OnOk result (Reports report.old report.new (Obeys L.carries self.old command self.new)) }
     {
         match command {
-            Command::Skip | Command::Pump => Ok(()),
-            Command::At(moment) => {
-                self.moment = moment;
-                Ok(())
-            }
-            Command::Hook(hook) => {
-                self.hook = hook;
-                Ok(())
-            }
-            Command::Tick => self.tick(alloc, report),
+            Command::Skip => {}
+            Command::At(moment) => self.moment = moment,
+            Command::Hook(hook) => self.hook = hook,
+            Command::Tick => self.tick(alloc, report)?,
+            Command::Pump => self.pump(alloc, link, report)?,
+            Command::Drop(way) => self.drop_oldest(&way),
+            Command::Deliver(said) => self.deliver(alloc, name_said(&said), report)?,
             Command::Limits { tenant, limits } => {
-                self.bring(alloc, &Event::Limits { tenant, limits }, report)
+                self.bring(alloc, &Event::Limits { tenant, limits }, report)?;
             }
             Command::Open {
                 connection,
@@ -220,11 +221,10 @@ impl<R: Rows + Drop> Player<R> {
             } => {
                 let connection = self.connections.id(alloc, connection.as_str())?;
                 self.open(alloc, connection, instance, report)?;
-                Ok(())
             }
             Command::Bytes { connection, text } => {
                 let connection = self.connections.id(alloc, connection.as_str())?;
-                self.give(alloc, link, connection, text.as_str().as_bytes(), report)
+                self.give(alloc, link, connection, text.as_str().as_bytes(), report)?;
             }
             Command::Call {
                 connection,
@@ -233,9 +233,10 @@ impl<R: Rows + Drop> Player<R> {
             } => {
                 let connection = self.connections.id(alloc, connection.as_str())?;
                 let text = request.to_text(alloc)?;
-                self.call(alloc, link, connection, instance, text.as_bytes(), report)
+                self.call(alloc, link, connection, instance, text.as_bytes(), report)?;
             }
         }
+        Ok(())
     }
 
     /// Hands the world a tick at the present moment.
@@ -330,8 +331,9 @@ impl<R: Rows + Drop> Player<R> {
         Ok(())
     }
 
-    /// Hands an event to the world and reports its outputs, and then its refusal. Says whether it was taken.
-    fn happen(
+    /// Hands an event to the world and reports its outputs, and then its refusal; the messages that it sent wait. Says
+    /// whether it was taken.
+    pub(crate) fn happen(
         &mut self,
         alloc: Global,
         event: &Event,
@@ -343,6 +345,7 @@ impl<R: Rows + Drop> Player<R> {
         self.world.clear_outputs();
         let taken = self.world.step(alloc, event);
         self.push_outputs(alloc, report)?;
+        self.mail.post(self.world.outputs())?;
         match taken {
             Ok(()) => Ok(true),
             Err(refused) => {
@@ -387,6 +390,7 @@ impl<R: Rows + Drop> Player<R> {
                 url,
                 bytes,
             } => report.push_notice(alloc, attempt, *tries, url.as_str(), bytes.as_slice()),
+            Output::Send(_) => Ok(()),
         }
     }
 }
@@ -407,6 +411,6 @@ fn is_answered(outputs: &[Output], connection: ConnectionId) -> bool
             connection: answered,
             ..
         } => *answered == connection,
-        Output::Notice { .. } => false,
+        Output::Notice { .. } | Output::Send(_) => false,
     })
 }

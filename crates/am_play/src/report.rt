@@ -1,11 +1,11 @@
 //! What is reported of the events of a line: what is to be written of them, and the tries that went out.
 ghost use Rattle.std.specs.Prelude.{◌≡◌, ◌++◌, ◌∷◌, [], Some, IfOk, OnOk, string_bytes};
-ghost use Rattle.am_world.specs.declared.event.Event.TheVariants as event;
+ghost use Rattle.am_event.specs.declared.event.Event.TheVariants as event;
 ghost use Rattle.am_play.specs.Output.{json_text, reply_line, try_name, notice_line};
 ghost use Rattle.am_play.specs.Trace.{refusal_line};
 
+use am_event::{AttemptName, Event, Refused};
 use am_text::Octets;
-use am_world::event::{AttemptName, Event, Refused};
 use serde_json::Value;
 use std::alloc::{AllocError, Global};
 

@@ -4,7 +4,7 @@ ghost use Rattle.am_play.specs.Streams.{IsFailureOf};
 
 use crate::streams::{Sink, StreamFailure};
 use am_rows::Rows;
-use am_world::world::World;
+use am_world::World;
 use std::alloc::Global;
 
 /// Of which instances it was told that they stopped, by number from 1 on.

@@ -1,8 +1,10 @@
 //! Whole scenarios. What they must print was computed apart from this program.
 
+mod asked;
 mod isolation;
 mod kept;
 pub mod links;
+mod pieces;
 mod streams;
 
 use am_expect::{equal, holds};
@@ -15,7 +17,6 @@ use am_setup::Setup;
 use am_test_store::TestStore;
 use am_world::{OpenRefusal, World};
 use links::Direct;
-use serde_json::Value;
 use std::alloc::{AllocError, Global};
 use std::io;
 use std::test::Fail;
@@ -130,7 +131,9 @@ const MANY_LABELS: (&str, &str) = (
     r#"at 1750000000000
 tick
 call p 1 a POST /alertmanager/api/v2/alerts "[{\"labels\":{\"l39\":\"v\",\"l38\":\"v\",\"l37\":\"v\",\"l36\":\"v\",\"l35\":\"v\",\"l34\":\"v\",\"l33\":\"v\",\"l32\":\"v\",\"l31\":\"v\",\"l30\":\"v\",\"l29\":\"v\",\"l28\":\"v\",\"l27\":\"v\",\"l26\":\"v\",\"l25\":\"v\",\"l24\":\"v\",\"l23\":\"v\",\"l22\":\"v\",\"l21\":\"v\",\"l20\":\"v\",\"l19\":\"v\",\"l18\":\"v\",\"l17\":\"v\",\"l16\":\"v\",\"l15\":\"v\",\"l14\":\"v\",\"l13\":\"v\",\"l12\":\"v\",\"l11\":\"v\",\"l10\":\"v\",\"l09\":\"v\",\"l08\":\"v\",\"l07\":\"v\",\"l06\":\"v\",\"l05\":\"v\",\"l04\":\"v\",\"l03\":\"v\",\"l02\":\"v\",\"l01\":\"v\",\"l00\":\"v\"}}]"
+pump
 call g 1 a GET /alertmanager/api/v2/alerts
+pump
 "#,
     r#"reply p "HTTP/1.1 200 OK\r\nContent-Type: application/json\r\nContent-Length: 0\r\nConnection: close\r\n\r\n"
 reply g "HTTP/1.1 200 OK\r\nContent-Type: application/json\r\nContent-Length: 689\r\nConnection: close\r\n\r\n[{\"annotations\":{},\"endsAt\":\"2025-06-15T15:11:40.000Z\",\"fingerprint\":\"3c1d79935b26728d\",\"generatorURL\":\"\",\"labels\":{\"l00\":\"v\",\"l01\":\"v\",\"l02\":\"v\",\"l03\":\"v\",\"l04\":\"v\",\"l05\":\"v\",\"l06\":\"v\",\"l07\":\"v\",\"l08\":\"v\",\"l09\":\"v\",\"l10\":\"v\",\"l11\":\"v\",\"l12\":\"v\",\"l13\":\"v\",\"l14\":\"v\",\"l15\":\"v\",\"l16\":\"v\",\"l17\":\"v\",\"l18\":\"v\",\"l19\":\"v\",\"l20\":\"v\",\"l21\":\"v\",\"l22\":\"v\",\"l23\":\"v\",\"l24\":\"v\",\"l25\":\"v\",\"l26\":\"v\",\"l27\":\"v\",\"l28\":\"v\",\"l29\":\"v\",\"l30\":\"v\",\"l31\":\"v\",\"l32\":\"v\",\"l33\":\"v\",\"l34\":\"v\",\"l35\":\"v\",\"l36\":\"v\",\"l37\":\"v\",\"l38\":\"v\",\"l39\":\"v\"},\"receivers\":[{\"name\":\"default\"}],\"startsAt\":\"2025-06-15T15:06:40.000Z\",\"status\":{\"inhibitedBy\":[],\"silencedBy\":[],\"state\":\"active\"},\"updatedAt\":\"2025-06-15T15:06:40.000Z\"}]"
@@ -138,7 +141,8 @@ faults 0
 "#,
 );
 
-// A connection's name that is opened again while its request is being read begins anew.
+// A connection's name that is opened again while its request is being read begins anew. Once a request is whole no more
+// bytes are taken, be it answered or not.
 const OPENED_AGAIN: (&str, &str) = (
     r#"open c 1
 bytes c "POST /alertmanager/api/v2/alerts HTTP/1.1\r\nX-Scope-OrgID: b\r\nContent-Length: 99\r\n\r\n[{"
@@ -146,8 +150,11 @@ open c 1
 bytes c "GET /alertmanager/api/v2/alerts HTTP/1.1\r\nX-Scope-OrgID: a\r\n"
 bytes c "\r\n"
 bytes c "\r\n"
+pump
+bytes c "\r\n"
 "#,
-    r#"reply c "HTTP/1.1 200 OK\r\nContent-Type: application/json\r\nContent-Length: 2\r\nConnection: close\r\n\r\n[]"
+    r#"refused We5
+reply c "HTTP/1.1 200 OK\r\nContent-Type: application/json\r\nContent-Length: 2\r\nConnection: close\r\n\r\n[]"
 refused We5
 faults 0
 "#,
@@ -158,9 +165,13 @@ faults 0
 const RECEIVERS: (&str, &str) = (
     r#"at 1750000000000
 call r 1 a GET /alertmanager/api/v2/receivers
+pump
 call p 1 a POST /alertmanager/api/v2/receivers "{}"
+pump
 call c 1 a POST /api/v1/alerts "{}"
+pump
 call k 1 a GET /api/v1/alerts
+pump
 "#,
     r#"reply r "HTTP/1.1 200 OK\r\nContent-Type: application/json\r\nContent-Length: 20\r\nConnection: close\r\n\r\n[{\"name\":\"default\"}]"
 reply p "HTTP/1.1 405 Method Not Allowed\r\nContent-Type: application/json\r\nContent-Length: 13\r\nConnection: close\r\n\r\n{\"code\":\"H6\"}"
@@ -177,17 +188,27 @@ tick
 limits team-b 1 1000 131072 16384 60
 
 call a1 1 team-a POST /api/v1/alerts "{\"alertmanager_config\":\"{\\\"route\\\":{\\\"receiver\\\":\\\"rest\\\",\\\"routes\\\":[{\\\"receiver\\\":\\\"disks\\\",\\\"matchers\\\":[\\\"alertname=~\\\\\\\"Disk.*\\\\\\\"\\\"]}]},\\\"receivers\\\":[{\\\"name\\\":\\\"rest\\\"},{\\\"name\\\":\\\"disks\\\"}]}\"}"
+pump
 call b1 1 team-b POST /api/v1/alerts "{\"alertmanager_config\":\"{\\\"route\\\":{\\\"receiver\\\":\\\"on-call\\\"},\\\"receivers\\\":[{\\\"name\\\":\\\"on-call\\\"}]}\"}"
+pump
 
 call a2 1 team-a POST /alertmanager/api/v2/alerts "[{\"labels\":{\"alertname\":\"DiskFull\"}},{\"labels\":{\"alertname\":\"NoPing\"}}]"
+pump
 call b2 1 team-b POST /alertmanager/api/v2/alerts "[{\"labels\":{\"alertname\":\"DiskFull\"}},{\"labels\":{\"alertname\":\"NoPing\"}}]"
+pump
 call b3 1 team-b POST /alertmanager/api/v2/alerts "[{\"labels\":{\"alertname\":\"DiskFull\"}}]"
+pump
 
 call a3 1 team-a GET /alertmanager/api/v2/alerts?receiver=disks
+pump
 call a4 1 team-a GET /alertmanager/api/v2/receivers
+pump
 call b4 1 team-b GET /alertmanager/api/v2/alerts
+pump
 call b5 1 team-b DELETE /api/v1/alerts
+pump
 call b6 1 team-b GET /alertmanager/api/v2/receivers
+pump
 "#,
     r#"reply a1 "HTTP/1.1 201 Created\r\nContent-Type: application/json\r\nContent-Length: 0\r\nConnection: close\r\n\r\n"
 reply b1 "HTTP/1.1 201 Created\r\nContent-Type: application/json\r\nContent-Length: 0\r\nConnection: close\r\n\r\n"
@@ -203,33 +224,50 @@ faults 0
 "#,
 );
 
-// A group's notice is tried three times: the receiver answers 500, then not at all, then 200. A minute after its first
-// notice the group tells that its alert is resolved.
+// A group's notice is told by one of the three, instance 3 here; the others wait 15 and 30 seconds more, and tell
+// nothing, since it was put to them that the webhook was told. The receiver answers 500 first, and takes the notice ten
+// seconds later. A minute after the first flush it is told that the alert is resolved: first it doesn't answer, then it
+// takes it.
 const NOTIFIED: (&str, &str) = (
     r#"at 1750000000000
 tick
 hook 500
 call c 1 shop POST /api/v1/alerts "{\"alertmanager_config\":\"{\\\"route\\\":{\\\"receiver\\\":\\\"pager\\\",\\\"group_wait\\\":\\\"10s\\\",\\\"group_interval\\\":\\\"1m\\\"},\\\"receivers\\\":[{\\\"name\\\":\\\"pager\\\",\\\"webhook_configs\\\":[{\\\"url\\\":\\\"http://localhost:8080/pager\\\"}]}]}\"}"
+pump
 call p 1 shop POST /alertmanager/api/v2/alerts "[{\"labels\":{\"alertname\":\"DiskFull\"},\"startsAt\":\"2025-06-15T15:06:40Z\",\"endsAt\":\"2025-06-15T15:07:40Z\"}]"
+pump
 at 1750000010000
 tick
-hook none
+hook 200
 at 1750000019999
 tick
 at 1750000020000
 tick
-hook 200
+pump
+at 1750000025000
+tick
+pump
 at 1750000040000
 tick
+hook none
 at 1750000070000
+tick
+hook 200
+at 1750000080000
+tick
+pump
+at 1750000085000
+tick
+pump
+at 1750000100000
 tick
 "#,
     r#"reply c "HTTP/1.1 201 Created\r\nContent-Type: application/json\r\nContent-Length: 0\r\nConnection: close\r\n\r\n"
 reply p "HTTP/1.1 200 OK\r\nContent-Type: application/json\r\nContent-Length: 0\r\nConnection: close\r\n\r\n"
-notice shop 1 1 1 http://localhost:8080/pager "POST /pager HTTP/1.1\r\nHost: localhost:8080\r\nContent-Type: application/json\r\nContent-Length: 418\r\nConnection: close\r\n\r\n{\"alerts\":[{\"annotations\":{},\"endsAt\":\"0001-01-01T00:00:00Z\",\"fingerprint\":\"744e61ca074bea90\",\"generatorURL\":\"\",\"labels\":{\"alertname\":\"DiskFull\"},\"startsAt\":\"2025-06-15T15:06:40.000Z\",\"status\":\"firing\"}],\"commonAnnotations\":{},\"commonLabels\":{\"alertname\":\"DiskFull\"},\"externalURL\":\"http://localhost/alertmanager\",\"groupKey\":\"0{}\",\"groupLabels\":{},\"receiver\":\"pager\",\"status\":\"firing\",\"truncatedAlerts\":0,\"version\":\"4\"}"
-notice shop 1 1 2 http://localhost:8080/pager "POST /pager HTTP/1.1\r\nHost: localhost:8080\r\nContent-Type: application/json\r\nContent-Length: 418\r\nConnection: close\r\n\r\n{\"alerts\":[{\"annotations\":{},\"endsAt\":\"0001-01-01T00:00:00Z\",\"fingerprint\":\"744e61ca074bea90\",\"generatorURL\":\"\",\"labels\":{\"alertname\":\"DiskFull\"},\"startsAt\":\"2025-06-15T15:06:40.000Z\",\"status\":\"firing\"}],\"commonAnnotations\":{},\"commonLabels\":{\"alertname\":\"DiskFull\"},\"externalURL\":\"http://localhost/alertmanager\",\"groupKey\":\"0{}\",\"groupLabels\":{},\"receiver\":\"pager\",\"status\":\"firing\",\"truncatedAlerts\":0,\"version\":\"4\"}"
-notice shop 1 1 3 http://localhost:8080/pager "POST /pager HTTP/1.1\r\nHost: localhost:8080\r\nContent-Type: application/json\r\nContent-Length: 418\r\nConnection: close\r\n\r\n{\"alerts\":[{\"annotations\":{},\"endsAt\":\"0001-01-01T00:00:00Z\",\"fingerprint\":\"744e61ca074bea90\",\"generatorURL\":\"\",\"labels\":{\"alertname\":\"DiskFull\"},\"startsAt\":\"2025-06-15T15:06:40.000Z\",\"status\":\"firing\"}],\"commonAnnotations\":{},\"commonLabels\":{\"alertname\":\"DiskFull\"},\"externalURL\":\"http://localhost/alertmanager\",\"groupKey\":\"0{}\",\"groupLabels\":{},\"receiver\":\"pager\",\"status\":\"firing\",\"truncatedAlerts\":0,\"version\":\"4\"}"
-notice shop 1 2 1 http://localhost:8080/pager "POST /pager HTTP/1.1\r\nHost: localhost:8080\r\nContent-Type: application/json\r\nContent-Length: 426\r\nConnection: close\r\n\r\n{\"alerts\":[{\"annotations\":{},\"endsAt\":\"2025-06-15T15:07:40.000Z\",\"fingerprint\":\"744e61ca074bea90\",\"generatorURL\":\"\",\"labels\":{\"alertname\":\"DiskFull\"},\"startsAt\":\"2025-06-15T15:06:40.000Z\",\"status\":\"resolved\"}],\"commonAnnotations\":{},\"commonLabels\":{\"alertname\":\"DiskFull\"},\"externalURL\":\"http://localhost/alertmanager\",\"groupKey\":\"0{}\",\"groupLabels\":{},\"receiver\":\"pager\",\"status\":\"resolved\",\"truncatedAlerts\":0,\"version\":\"4\"}"
+notice shop 3 1 1 http://localhost:8080/pager "POST /pager HTTP/1.1\r\nHost: localhost:8080\r\nContent-Type: application/json\r\nContent-Length: 418\r\nConnection: close\r\n\r\n{\"alerts\":[{\"annotations\":{},\"endsAt\":\"0001-01-01T00:00:00Z\",\"fingerprint\":\"744e61ca074bea90\",\"generatorURL\":\"\",\"labels\":{\"alertname\":\"DiskFull\"},\"startsAt\":\"2025-06-15T15:06:40.000Z\",\"status\":\"firing\"}],\"commonAnnotations\":{},\"commonLabels\":{\"alertname\":\"DiskFull\"},\"externalURL\":\"http://localhost/alertmanager\",\"groupKey\":\"0{}\",\"groupLabels\":{},\"receiver\":\"pager\",\"status\":\"firing\",\"truncatedAlerts\":0,\"version\":\"4\"}"
+notice shop 3 1 2 http://localhost:8080/pager "POST /pager HTTP/1.1\r\nHost: localhost:8080\r\nContent-Type: application/json\r\nContent-Length: 418\r\nConnection: close\r\n\r\n{\"alerts\":[{\"annotations\":{},\"endsAt\":\"0001-01-01T00:00:00Z\",\"fingerprint\":\"744e61ca074bea90\",\"generatorURL\":\"\",\"labels\":{\"alertname\":\"DiskFull\"},\"startsAt\":\"2025-06-15T15:06:40.000Z\",\"status\":\"firing\"}],\"commonAnnotations\":{},\"commonLabels\":{\"alertname\":\"DiskFull\"},\"externalURL\":\"http://localhost/alertmanager\",\"groupKey\":\"0{}\",\"groupLabels\":{},\"receiver\":\"pager\",\"status\":\"firing\",\"truncatedAlerts\":0,\"version\":\"4\"}"
+notice shop 3 2 1 http://localhost:8080/pager "POST /pager HTTP/1.1\r\nHost: localhost:8080\r\nContent-Type: application/json\r\nContent-Length: 426\r\nConnection: close\r\n\r\n{\"alerts\":[{\"annotations\":{},\"endsAt\":\"2025-06-15T15:07:40.000Z\",\"fingerprint\":\"744e61ca074bea90\",\"generatorURL\":\"\",\"labels\":{\"alertname\":\"DiskFull\"},\"startsAt\":\"2025-06-15T15:06:40.000Z\",\"status\":\"resolved\"}],\"commonAnnotations\":{},\"commonLabels\":{\"alertname\":\"DiskFull\"},\"externalURL\":\"http://localhost/alertmanager\",\"groupKey\":\"0{}\",\"groupLabels\":{},\"receiver\":\"pager\",\"status\":\"resolved\",\"truncatedAlerts\":0,\"version\":\"4\"}"
+notice shop 3 2 2 http://localhost:8080/pager "POST /pager HTTP/1.1\r\nHost: localhost:8080\r\nContent-Type: application/json\r\nContent-Length: 426\r\nConnection: close\r\n\r\n{\"alerts\":[{\"annotations\":{},\"endsAt\":\"2025-06-15T15:07:40.000Z\",\"fingerprint\":\"744e61ca074bea90\",\"generatorURL\":\"\",\"labels\":{\"alertname\":\"DiskFull\"},\"startsAt\":\"2025-06-15T15:06:40.000Z\",\"status\":\"resolved\"}],\"commonAnnotations\":{},\"commonLabels\":{\"alertname\":\"DiskFull\"},\"externalURL\":\"http://localhost/alertmanager\",\"groupKey\":\"0{}\",\"groupLabels\":{},\"receiver\":\"pager\",\"status\":\"resolved\",\"truncatedAlerts\":0,\"version\":\"4\"}"
 faults 0
 "#,
 );
@@ -262,7 +300,7 @@ const SCENARIOS: [(&str, &str); 19] = [
         "bytes c \t\"a\" \r\nbytes c \"\"",
         "refused We5\nfaults 0\n",
     ),
-    ("call c 2 - GET /x \"body\"", "refused We2\nfaults 0\n"),
+    ("call c 4 - GET /x \"body\"", "refused We2\nfaults 0\n"),
     (
         "hook 100\nhook 999\nhook none\nhook 99\nhook 1000",
         "faults 0\n",
@@ -270,7 +308,7 @@ const SCENARIOS: [(&str, &str); 19] = [
 ];
 
 // Lines that are no command.
-const BAD_LINES: [&[u8]; 30] = [
+const BAD_LINES: [&[u8]; 32] = [
     b"ticks",
     b"tick ",
     b" tick",
@@ -298,6 +336,8 @@ const BAD_LINES: [&[u8]; 30] = [
     b"call c 1  GET /x",
     b"call c 1 a GET /x []",
     b"join 4",
+    b"drop a 1 1",
+    b"deliver a 1 1 2",
     b"hook",
     b"hook none ",
     b"open \xff 1",
@@ -395,64 +435,11 @@ fn scenarios(rt: HostRuntime) -> Result<(), Fail> {
     plays(rt.alloc(), b"# \xff", "faults 0\n", Played::All)
 }
 
-/// A `bytes` line for each piece of a text.
-fn push_pieces(
-    alloc: Global,
-    lines: &mut String,
-    connection: &str,
-    text: &str,
-    size: usize,
-) -> Result<(), Fail> {
-    for piece in text.as_bytes().chunks(size.max(1)) {
-        let piece = Value::String(String::from_utf8_lossy(alloc, piece)?).to_string(alloc)?;
-        lines.push_str(format!(in alloc; "bytes {connection} {piece}\n")?.as_str())?;
-    }
-    Ok(())
-}
-
-/// What is posted is read by a request in pieces of this size.
-fn is_read_in_pieces(alloc: Global, size: usize) -> Result<(), Fail> {
-    let (whole, wanted) = POSTED_AND_READ;
-    let posts = whole.split_once("call g").ok_or("no second request")?.0;
-    let mut scenario = String::from_str(alloc, posts)?;
-    scenario.push_str("open g 1\n")?;
-    push_pieces(alloc, &mut scenario, "g", READ, size)?;
-    plays(alloc, scenario.as_bytes(), wanted, Played::All)
-}
-
-#[test]
-fn a_request_may_be_cut_anywhere(rt: HostRuntime) -> Result<(), Fail> {
-    for size in 1..READ.len() {
-        is_read_in_pieces(rt.alloc(), size)?;
-    }
-    Ok(())
-}
-
-/// A scenario in which a post comes in five pieces.
-fn many_pieces(alloc: Global) -> Result<String, Fail> {
-    let (whole, _) = POSTED_AND_READ;
-    let (posts, reads) = whole.split_once("]\"").ok_or("no post")?;
-    let mut scenario = String::from_str(alloc, posts)?;
-    for _ in 0..20_000 {
-        scenario.push(' ')?;
-    }
-    scenario.push_str("]\"")?;
-    scenario.push_str(reads)?;
-    Ok(scenario)
-}
-
-#[test]
-fn a_request_of_many_pieces(rt: HostRuntime) -> Result<(), Fail> {
-    let scenario = many_pieces(rt.alloc())?;
-    let (_, wanted) = POSTED_AND_READ;
-    plays(rt.alloc(), scenario.as_bytes(), wanted, Played::All)
-}
-
 /// A scenario whose fourth line is no command ends there.
 fn ends_at(alloc: Global, line: &[u8]) -> Result<(), Fail> {
-    let mut scenario = b"# first\n\nopen c 2\n".to_vec(alloc)?;
+    let mut scenario = b"# first\n\nopen c 4\n".to_vec(alloc)?;
     scenario.extend_from_slice(line)?;
-    scenario.extend_from_slice(b"\nopen c 2\n")?;
+    scenario.extend_from_slice(b"\nopen c 4\n")?;
     plays(alloc, &scenario, "refused We2\n", Played::BadLine(4))
 }
 

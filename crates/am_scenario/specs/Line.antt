@@ -9,7 +9,7 @@ use Rattle.am_scenario.specs.Number.{number_of}
 use Rattle.am_scenario.specs.declared.line.LineFault.{LineFault}
 use Rattle.am_scenario.specs.declared.line.LineFault.TheVariants.{NotACommand, OutOfMemory}
 use Rattle.am_scenario.specs.declared.command.Command.{Command}
-use Rattle.am_scenario.specs.declared.command.Command.TheVariants.{Skip, At, Tick, Open, Bytes, Call, Limits, Pump, Hook}
+use Rattle.am_scenario.specs.declared.command.Command.TheVariants.{Skip, At, Tick, Open, Bytes, Call, Limits, Pump, Drop, Deliver, Hook}
 use Rattle.am_scenario.specs.declared.command.Request.{Request}
 use denote.Ref.{Bor}
 
@@ -123,6 +123,28 @@ limits_of s = do
   notices ← number_of d.1
   Some (Limits tenant (record { alerts = a.0; silences = b.0; configuration = c.0; silence = d.0; notices = notices }))
 
+-- what stands behind `drop `: a tenant, the kind of a message, its sender and its receiver
+unfoldable pub drop_of : List ℕ → Option Command
+drop_of s = do
+  t ← word_then s
+  tenant ← tenant_named t.0
+  kind ← number_then t.1
+  from ← number_then kind.1
+  to ← number_of from.1
+  Some (Drop (record { tenant = tenant; kind = kind.0; from = from.0; to = to }))
+
+-- what stands behind `deliver `: a tenant, and the name of a message: its sender and that one's incarnation, its
+-- receiver, and its count
+unfoldable pub deliver_of : List ℕ → Option Command
+deliver_of s = do
+  t ← word_then s
+  tenant ← tenant_named t.0
+  from ← number_then t.1
+  incarnation ← number_then from.1
+  to ← number_then incarnation.1
+  count ← number_of to.1
+  Some (Deliver (record { tenant = tenant; from = from.0; incarnation = incarnation.0; to = to.0; count = count }))
+
 -- the status of an answer that has this number: none where it isn't of three digits
 abbrev pub status_in : ℕ → Option ℕ
 status_in n = if nat_le 100 n && nat_le n 999 then Some n else None
@@ -147,6 +169,8 @@ named_command name rest =
     else if bytes_eq name (codes "bytes") then bytes_of rest
     else if bytes_eq name (codes "call") then call_of rest
     else if bytes_eq name (codes "limits") then limits_of rest
+    else if bytes_eq name (codes "drop") then drop_of rest
+    else if bytes_eq name (codes "deliver") then deliver_of rest
     else if bytes_eq name (codes "hook") then hook_of rest
     else None
 

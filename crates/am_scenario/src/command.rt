@@ -38,8 +38,31 @@ pub enum Command {
     },
     /// Every message that waits is delivered.
     Pump,
+    /// The oldest message that waits and goes this way isn't delivered by `pump`.
+    Drop(Way),
+    /// The message of this name is delivered, again too.
+    Deliver(SaidName),
     /// The program's own receiver answers notices with this status from now on, or not at all.
     Hook(Option<u16>),
+}
+
+/// Which messages a `drop` line means: those about a tenant, of a kind, from one instance to another.
+#[derive(Drop)]
+pub struct Way {
+    pub tenant: TenantName,
+    pub kind: u64,
+    pub from: u64,
+    pub to: u64,
+}
+
+/// The name of a message, as a `deliver` line says it.
+#[derive(Drop)]
+pub struct SaidName {
+    pub tenant: TenantName,
+    pub from: u64,
+    pub incarnation: u64,
+    pub to: u64,
+    pub count: u64,
 }
 
 /// The request of a `call` line.

@@ -2,9 +2,9 @@ ghost use Rattle.std.specs.Prelude.{◌≡◌, option_map};
 ghost use Rattle.serde_json.specs.Find.{as_str};
 ghost use Rattle.serde_json.specs.View.{view};
 ghost use Rattle.am_scenario.specs.Number.{number_of};
-ghost use Rattle.am_scenario.specs.Line.{Reads, split, both, word_of, word_then, string_of, command_of, text_command, lone_command, named_command, at_of, open_of, bytes_of, call_of, limits_of, hook_of, status_in, number_then, request_of, target_of, tenant_named};
+ghost use Rattle.am_scenario.specs.Line.{Reads, split, both, word_of, word_then, string_of, command_of, text_command, lone_command, named_command, at_of, open_of, bytes_of, call_of, limits_of, drop_of, deliver_of, hook_of, status_in, number_then, request_of, target_of, tenant_named};
 
-use crate::command::{Command, Request};
+use crate::command::{Command, Request, SaidName, Way};
 use crate::numbers::number;
 use am_limit::Limits;
 use am_tenant::TenantName;
@@ -85,6 +85,10 @@ fn named_command(alloc: Global, name: &str, rest: &str) -> Result<Command, LineF
         read_call(alloc, rest)
     } else if name == "limits" {
         read_limits(rest)
+    } else if name == "drop" {
+        read_drop(rest)
+    } else if name == "deliver" {
+        read_deliver(rest)
     } else if name == "hook" {
         read_hook(rest)
     } else {
@@ -159,6 +163,44 @@ fn read_limits(rest: &str) -> Result<Command, LineFault>
         notices,
     };
     Ok(Command::Limits { tenant, limits })
+}
+
+/// A tenant, the kind of a message, its sender and its receiver.
+#[tactic(auto, unfolding(crate::specs::Line::drop_of))]
+fn read_drop(rest: &str) -> Result<Command, LineFault>
+    ensures { Reads (λ c. c) result (drop_of rest.now) }
+{
+    let (tenant, rest) = word_then(rest)?;
+    let tenant = read_tenant(tenant)?;
+    let (kind, rest) = number_then(rest)?;
+    let (from, rest) = number_then(rest)?;
+    let to = read_number(rest)?;
+    Ok(Command::Drop(Way {
+        tenant,
+        kind,
+        from,
+        to,
+    }))
+}
+
+/// A tenant, and the name of a message: its sender and that one's incarnation, its receiver, and its count.
+#[tactic(auto, unfolding(crate::specs::Line::deliver_of))]
+fn read_deliver(rest: &str) -> Result<Command, LineFault>
+    ensures { Reads (λ c. c) result (deliver_of rest.now) }
+{
+    let (tenant, rest) = word_then(rest)?;
+    let tenant = read_tenant(tenant)?;
+    let (from, rest) = number_then(rest)?;
+    let (incarnation, rest) = number_then(rest)?;
+    let (to, rest) = number_then(rest)?;
+    let count = read_number(rest)?;
+    Ok(Command::Deliver(SaidName {
+        tenant,
+        from,
+        incarnation,
+        to,
+        count,
+    }))
 }
 
 /// A status, or `none`.

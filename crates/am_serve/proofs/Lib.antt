@@ -1,4 +1,5 @@
 pub mod ActLists
+pub mod Stages
 pub mod Steps
 pub mod Sums
 pub mod CallSums
@@ -6,6 +7,7 @@ pub mod Longest
 pub mod Turns
 pub mod Calling
 pub mod CallTurns
+pub mod Awaiting
 pub mod Answered
 pub mod LaneChanges
 pub mod LaneTurns

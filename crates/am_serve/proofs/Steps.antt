@@ -4,14 +4,14 @@ use Rattle.std.specs.List.{FoldsTo}
 use Rattle.std.specs.declared.time.Instant.{Instant}
 use Rattle.am_serve.specs.declared.client.Client.{Client}
 use Rattle.am_serve.specs.declared.client.Stage.{Stage}
-use Rattle.am_serve.specs.declared.client.Stage.TheVariants.{Asking, Telling, Draining}
 use Rattle.am_serve.specs.declared.client.Turn.{Turn}
 use Rattle.am_serve.specs.declared.client.Turn.TheVariants.{More, Waits, Crowded, Answered, Drains, Drained, Lost, Gone as IsGone}
 use Rattle.am_serve.specs.declared.host.Verdict.{Verdict}
-use Rattle.am_serve.specs.declared.host.Verdict.TheVariants.{Undecided, Reply, Gone}
+use Rattle.am_serve.specs.declared.host.Verdict.TheVariants.{Undecided, Reply, Later, Gone}
 use Rattle.am_serve.specs.declared.socket.Moved.{Moved}
 use Rattle.am_serve.specs.Acts.{Act, Read, EndsWith, has_byte, may_go_on, moves_byte, moves_in, read_in, written_in}
-use Rattle.am_serve.specs.Clients.{AllUndecided, DecidesLast, Ends, HandsOn, Heard, IsAsking, IsDraining, IsSuccess, IsTelling, IsTold, Moves, StageAfter, Turned, Works, act_at, bytes_of, is_crowded, is_gone, last_of, replies_of, reply_of, says_gone, silent_since, turn_after, unsaid, whole_reply}
+use Rattle.am_serve.specs.Clients.{AllUndecided, DecidesLast, Ends, HandsOn, Heard, IsAsking, IsAwaiting, IsDraining, IsSuccess, IsTold, Moves, StageAfter, Turned, Works, acts_at, bytes_of, is_crowded, is_gone, last_of, replies_of, reply_of, says_gone, silent_since, turn_after, unsaid, whole_reply}
+use Rattle.am_serve.proofs.Stages.{IsReading, after_verdict, asking_drains, awaiting_asks, awaiting_drains, draining_asks, is_undecided, no_reply, nothing_said, reading, reply, stands, telling_drains, told_drains}
 use Rattle.am_serve.proofs.ActLists.{EndsWith-append, FoldsTo-append, goes, moves_in-append, nothing, read_in-append, stops, written_in-append}
 
 bytes_of-append : (xs ys : List Heard) → bytes_of (xs ++ ys) ≡ bytes_of xs ++ bytes_of ys
@@ -52,100 +52,9 @@ replies_both a b c xs ys p q = q ∙ ap (λ l. l ++ replies_of ys) p ∙ append_
 pub both_empty : {A : Type 0} (xs ys : List A) → xs ≡ [] → ys ≡ [] → xs ++ ys ≡ []
 both_empty xs ys p q = ap (λ l. l ++ ys) p ∙ q
 
-pub draining_asks : (stage : Stage) → IsDraining stage → IsAsking stage → ⊥
-draining_asks Asking p q = p
-draining_asks (Telling _) p q = q
-draining_asks Draining p q = q
-
-pub telling_asks : (stage : Stage) → IsTelling stage → IsAsking stage → ⊥
-telling_asks Asking p q = p
-telling_asks (Telling _) p q = q
-telling_asks Draining p q = q
-
-stands : (stage : Stage) → (IsAsking stage) ⊎ (IsAsking stage → ⊥)
-stands Asking = inl tt
-stands (Telling _) = inr (λ h. h)
-stands Draining = inr (λ h. h)
-
-pub telling_drains : (stage : Stage) → IsTelling stage → IsDraining stage → ⊥
-telling_drains Asking p q = p
-telling_drains (Telling _) p q = q
-telling_drains Draining p q = p
-
-pub asking_drains : (stage : Stage) → IsAsking stage → IsDraining stage → ⊥
-asking_drains Asking p q = q
-asking_drains (Telling _) p q = q
-asking_drains Draining p q = p
-
-pub told_drains : (stage : Stage) → IsTold stage → IsDraining stage → ⊥
-told_drains Asking p q = p
-told_drains (Telling _) p q = q
-told_drains Draining p q = p
-
-pub told_asks : (stage : Stage) → IsTold stage → IsAsking stage → ⊥
-told_asks Asking p q = p
-told_asks (Telling _) p q = q
-told_asks Draining p q = q
-
-pub nothing_left : (stage : Stage) → IsTold stage → unsaid stage ≡ []
-nothing_left Asking h = absurd h
-nothing_left (Telling reply) h = h
-nothing_left Draining h = absurd h
-
-nothing_said : (stage : Stage) → IsAsking stage → unsaid stage ≡ []
-nothing_said Asking h = refl
-nothing_said (Telling _) h = absurd h
-nothing_said Draining h = absurd h
-
-after_verdict : (verdict : Verdict) (stage : Stage) → StageAfter verdict stage → unsaid stage ≡ reply_of verdict ++ []
-after_verdict Undecided stage h = ap unsaid h
-after_verdict (Reply bytes) stage h = h.1 ∙ sym (append-nil bytes.items)
-after_verdict Gone stage h = ap unsaid h
-
-no_reply : (stage : Stage) → IsAsking stage → whole_reply stage ≡ []
-no_reply Asking h = refl
-no_reply (Telling _) h = absurd h
-no_reply Draining h = absurd h
-
-reply : (verdict : Verdict) (stage : Stage) → StageAfter verdict stage → (IsDraining stage → ⊥) → whole_reply stage ≡ reply_of verdict ++ []
-reply Undecided stage h not = ap whole_reply h
-reply (Reply bytes) stage h not = h.2 ∙ sym (append-nil bytes.items)
-reply Gone stage h not = absurd (not (subst IsDraining (sym h) tt))
-
-is_undecided : (verdict : Verdict) (stage : Stage) → StageAfter verdict stage → IsAsking stage → verdict ≡ Undecided
-is_undecided Undecided stage h asking = refl
-is_undecided (Reply bytes) stage h asking = absurd (telling_asks stage h.0 asking)
-is_undecided Gone stage h asking = absurd (subst IsAsking h asking)
-
-reading : (stage : Stage) (moved : Moved) → (IsTelling stage → ⊥) → act_at stage moved ∷ [] ≡ Read moved [] ∷ []
-reading Asking moved h = refl
-reading (Telling _) moved h = absurd (h tt)
-reading Draining moved h = refl
-
-pub asking_tells : (stage : Stage) → IsAsking stage → IsTelling stage → ⊥
-asking_tells Asking p q = q
-asking_tells (Telling _) p q = p
-asking_tells Draining p q = q
-
-pub draining_tells : (stage : Stage) → IsDraining stage → IsTelling stage → ⊥
-draining_tells Asking p q = q
-draining_tells (Telling _) p q = p
-draining_tells Draining p q = q
-
-pub asking_told : (stage : Stage) → IsAsking stage → IsTold stage → ⊥
-asking_told stage p q = told_asks stage q p
-
-pub draining_told : (stage : Stage) → IsDraining stage → IsTold stage → ⊥
-draining_told stage p q = told_drains stage q p
-
-pub telling_told : (stage : Stage) → IsTelling stage → unsaid stage ≡ [] → IsTold stage
-telling_told Asking p q = absurd p
-telling_told (Telling _) p q = q
-telling_told Draining p q = absurd p
-
 -- a read that moved nothing, for which the turn ended
-pub read_last : (stage : Stage) (moved : Moved) → (IsTelling stage → ⊥) → EndsWith (act_at stage moved ∷ []) (Read moved [] ∷ [])
-read_last stage moved h = stops (act_at stage moved ∷ []) (Read moved []) (reading stage moved h)
+pub read_last : (stage : Stage) (moved : Moved) → IsReading stage → EndsWith (acts_at stage moved) (Read moved [] ∷ [])
+read_last stage moved h = stops (acts_at stage moved) (Read moved []) (reading stage moved h)
 
 -- what two parts of a turn read
 read_both : (xs ys : List Act) (first second early late : List ℕ) → read_in xs ≡ first ++ early → read_in ys ≡ second ++ late → read_in (xs ++ ys) ≡ (first ++ early) ++ (second ++ late)
@@ -177,9 +86,9 @@ module _ (now before : Instant) where
 module _ {S : Type 0} where
   -- no byte was moved
   pub stood : (old new : Client S) (acts : List Act) → read_in acts ≡ [] → written_in acts ≡ []
-      → unsaid new.stage ≡ unsaid old.stage → (IsAsking new.stage → IsAsking old.stage) → new.held ≡ old.held → (IsDraining old.stage → IsDraining new.stage) → (IsAsking old.stage → IsAsking new.stage) → ((IsDraining new.stage → ⊥) → whole_reply new.stage ≡ whole_reply old.stage)
+      → unsaid new.stage ≡ unsaid old.stage → (IsAsking new.stage → IsAsking old.stage) → new.held ≡ old.held → (IsDraining old.stage → IsDraining new.stage) → (IsAsking old.stage → IsAsking new.stage) → (IsAwaiting old.stage → IsAwaiting new.stage) → ((IsDraining new.stage → ⊥) → whole_reply new.stage ≡ whole_reply old.stage)
       → new.connection ≡ old.connection → new.opened ≡ old.opened → Moves old new [] acts
-  stood old new acts read written said asks held drained still reply connection since = record {
+  stood old new acts read written said asks held drained still awaiting reply connection since = record {
     thrown = [];
     read = read;
     said = ap (λ l. l ++ unsaid new.stage) written ∙ said ∙ sym (append-nil (unsaid old.stage));
@@ -192,15 +101,16 @@ module _ {S : Type 0} where
     stays = λ h. held;
     reply = λ not. reply not ∙ sym (append-nil (whole_reply old.stage));
     drained = drained;
+    awaiting = awaiting;
     connection = connection;
     since = since;
   }
 
   -- a first part of the reply was written
   pub told : (old new : Client S) (acts : List Act) (n : ℕ) (before : List ℕ) → unsaid old.stage ≡ before → read_in acts ≡ [] → written_in acts ≡ take n before
-      → unsaid new.stage ≡ drop n before → (IsAsking new.stage → ⊥) → new.held ≡ old.held → (IsAsking old.stage → ⊥) → (IsDraining old.stage → IsDraining new.stage) → ((IsDraining new.stage → ⊥) → whole_reply new.stage ≡ whole_reply old.stage)
+      → unsaid new.stage ≡ drop n before → (IsAsking new.stage → ⊥) → new.held ≡ old.held → (IsAsking old.stage → ⊥) → (IsAwaiting old.stage → ⊥) → (IsDraining old.stage → IsDraining new.stage) → ((IsDraining new.stage → ⊥) → whole_reply new.stage ≡ whole_reply old.stage)
       → new.connection ≡ old.connection → new.opened ≡ old.opened → Moves old new [] acts
-  told old new acts n before is read written said asks held was drained reply connection since = record {
+  told old new acts n before is read written said asks held was waits drained reply connection since = record {
     thrown = [];
     read = read;
     said = ap (λ l. l ++ unsaid new.stage) written ∙ ap (λ l. take n before ++ l) said ∙ take-append-drop n before ∙ sym is ∙ sym (append-nil (unsaid old.stage));
@@ -213,6 +123,7 @@ module _ {S : Type 0} where
     stays = λ h. held;
     reply = λ not. reply not ∙ sym (append-nil (whole_reply old.stage));
     drained = drained;
+    awaiting = λ h. absurd (waits h);
     connection = connection;
     since = since;
   }
@@ -233,6 +144,7 @@ module _ {S : Type 0} where
     stays = λ h. held;
     reply = λ not. absurd (not (subst IsDraining (sym stage) drains));
     drained = λ h. subst IsDraining (sym stage) h;
+    awaiting = λ h. absurd (awaiting_drains old.stage h drains);
     connection = connection;
     since = since;
   }
@@ -259,6 +171,7 @@ module _ {S : Type 0} where
         stays = λ not. absurd (not before.0);
         reply = λ not. replies_both (whole_reply a.stage) (whole_reply b.stage) (whole_reply c.stage) xs ys (p.reply (asking_drains b.stage asking)) (q.reply not);
         drained = λ h. q.drained (p.drained h);
+        awaiting = λ h. absurd (awaiting_asks a.stage h before.0);
         connection = q.connection ∙ p.connection;
         since = q.since ∙ p.since;
       }
@@ -281,6 +194,7 @@ module _ {S : Type 0} where
     stays = λ not. q.stays (λ mid. not (p.asks mid).0) ∙ p.stays not;
     reply = λ not. replies_both (whole_reply a.stage) (whole_reply b.stage) (whole_reply c.stage) xs [] (p.reply (λ h. not (q.drained h))) (q.reply not) ∙ ap (λ l. whole_reply a.stage ++ replies_of l) (append-nil xs);
     drained = λ h. q.drained (p.drained h);
+    awaiting = λ h. q.awaiting (p.awaiting h);
     connection = q.connection ∙ p.connection;
     since = q.since ∙ p.since;
   }
@@ -303,7 +217,7 @@ module _ {S : Type 0} where
   ends_later most first old new xs ys Answered d u r t e h = (h.0, subst IsSuccess (r (t h.0)) h.1, e ∙ h.2)
   ends_later most first old new xs ys Drains d u r t e h = (λ was. h.0 (d was), h.1, λ success. h.2 (subst IsSuccess (sym (r h.0)) success), e ∙ h.3)
   ends_later most first old new xs ys Drained d u r t e h = (u h.0, h.1, e ∙ h.2)
-  ends_later most first old new xs ys Lost d u r t e h = (h.0, h.1, e ∙ h.2)
+  ends_later most first old new xs ys Lost d u r t e h = (h.0, h.1, h.2, e ∙ h.3)
   ends_later most first old new xs ys IsGone d u r t e h = (h.0, e ∙ h.1)
 
 module _ {S : Type 0} (does : S → Act → S → Type 0) (most : ℕ) (now : Instant) where
@@ -370,7 +284,7 @@ module _ {S H : Type 0} (does : S → Act → S → Type 0) (takes : H → ℕ �
       last = nothing;
       few = omega arith;
       all = λ _. refl;
-      moves = stood client client [] refl refl refl (λ h. h) refl (λ h. h) (λ h. h) (λ _. refl) refl refl;
+      moves = stood client client [] refl refl refl (λ h. h) refl (λ h. h) (λ h. h) (λ h. h) (λ _. refl) refl refl;
       timed = refl;
       ends = (λ h. h, refl);
     };
@@ -426,6 +340,7 @@ module _ {S H : Type 0} (does : S → Act → S → Type 0) (takes : H → ℕ �
           stays = λ not. absurd (not asking);
           reply = λ not. reply h.verdict new.stage h.stage not ∙ ap (λ l. l ++ (reply_of h.verdict ++ [])) (sym (no_reply old.stage asking));
           drained = λ drains. absurd (asking_drains old.stage asking drains);
+          awaiting = λ waits. absurd (awaiting_asks old.stage waits asking);
           connection = ap (λ (client : Client S). client.connection) h.rest ∙ connection;
           since = ap (λ (client : Client S). client.opened) h.rest ∙ ap (λ (client : Client S). client.opened) is;
         }
@@ -448,9 +363,11 @@ module _ {S H : Type 0} (does : S → Act → S → Type 0) (takes : H → ℕ �
       nothing_last : (verdict : Verdict) → last_of (turn_after verdict) new.stage ≡ []
       nothing_last Undecided = refl
       nothing_last (Reply _) = refl
+      nothing_last Later = refl
       nothing_last Gone = refl
 
       ended : (verdict : Verdict) → StageAfter verdict new.stage → Ends most old new ((piece, verdict) ∷ []) (turn_after verdict)
       ended Undecided stage = (λ drains. absurd (subst IsDraining stage drains), refl)
       ended (Reply bytes) stage = (λ drains. absurd (telling_drains new.stage stage.0 drains), refl)
+      ended Later stage = (λ drains. absurd (subst IsDraining stage drains), refl)
       ended Gone stage = (subst IsDraining (sym stage) tt, refl)

@@ -8,7 +8,7 @@ use Rattle.am_serve.specs.Outgoings.{undelivered, unless_sent, unsent}
 use Rattle.am_serve.specs.Pools.{excess_at, excess_in, held_at, held_in}
 use Rattle.am_serve.specs.declared.client.Client.{Client}
 use Rattle.am_serve.specs.declared.client.Stage.{Stage}
-use Rattle.am_serve.specs.declared.client.Stage.TheVariants.{Asking, Telling, Draining}
+use Rattle.am_serve.specs.declared.client.Stage.TheVariants.{Asking, Awaiting, Telling, Draining}
 use Rattle.am_serve.specs.declared.giving.Wanted.TheVariants.{Reply}
 use Rattle.am_serve.specs.declared.outgoing.Outgoing.{Outgoing}
 use Rattle.am_serve.proofs.Turns.{within}
@@ -63,6 +63,7 @@ undelivered-bound reply = omega (arith, at_most (unsent reply) reply.bytes.len, 
 
 reply-bound : (stage : Stage) → reply_bytes stage ≤ 18446744073709551615
 reply-bound Asking = omega arith
+reply-bound Awaiting = omega arith
 reply-bound (Telling reply) = undelivered-bound reply
 reply-bound Draining = omega arith
 

@@ -1,6 +1,6 @@
 -- What a turn leaves of a table of clients.
-use Rattle.std.proofs.Common.{◌≡◌, ℕ, ◌+◌, ◌-◌, ◌<◌, true, false, Option, Some, None, IfSome, refl, sym, ap, ◌∙◌, subst, List, [], ◌∷◌, zero, suc, get_or, length, arith}
-use Rattle.std.proofs.lemmas.List.{get_or-set_same}
+use Rattle.std.proofs.Common.{◌≡◌, ◌≢◌, ℕ, ◌+◌, ◌-◌, ◌<◌, true, false, Option, Some, None, IfSome, refl, sym, ap, ◌∙◌, subst, List, [], ◌∷◌, zero, suc, get_or, length, arith}
+use Rattle.std.proofs.lemmas.List.{get_or-set_other, get_or-set_same}
 use Rattle.std.proofs.lemmas.Bool.{false≢true}
 use Rattle.std.specs.declared.time.Instant.{Instant}
 use Rattle.slab.specs.Slab.{Slab, get, with_value}
@@ -22,6 +22,10 @@ module _ {T : Type 0} where
 
   pub get_with : (table : Slab T) (key : ℕ) (old new : T) → Some old ≡ get table key → get (with_value table key new) key ≡ Some new
   get_with table key old new h = get_or-set_same table.slots key (Some new) None (within table.slots key old h)
+
+  -- another key keeps what it had
+  pub get_beside : (table : Slab T) (key : ℕ) (new : T) (other : ℕ) → other ≢ key → get (with_value table key new) other ≡ get table other
+  get_beside table key new other not = get_or-set_other table.slots key other (Some new) None not
 
 module _ {S H : Type 0} (does : S → Act → S → Type 0) (takes : H → ℕ → List ℕ → Verdict → H → Type 0) (closes : H → ℕ → H → Type 0) (now : Instant) where
   abbrev At : Slab (Client S) → Slab (Client S) → ℕ → Option (Client S) → H → H → Option Turn → Type 0

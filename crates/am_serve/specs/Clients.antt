@@ -7,11 +7,11 @@ use Rattle.am_serve.specs.Acts.{Act, Read, Write, Finish, EndsWith, moves_in, re
 use Rattle.am_serve.specs.Outgoings.{unsent}
 use Rattle.am_serve.specs.declared.client.Client.{Client}
 use Rattle.am_serve.specs.declared.client.Stage.{Stage}
-use Rattle.am_serve.specs.declared.client.Stage.TheVariants.{Asking, Telling, Draining}
+use Rattle.am_serve.specs.declared.client.Stage.TheVariants.{Asking, Awaiting, Telling, Draining}
 use Rattle.am_serve.specs.declared.client.Turn.{Turn}
 use Rattle.am_serve.specs.declared.client.Turn.TheVariants.{More, Waits, Crowded, Answered, Drains, Drained, Lost, Gone as IsGone}
 use Rattle.am_serve.specs.declared.host.Verdict.{Verdict}
-use Rattle.am_serve.specs.declared.host.Verdict.TheVariants.{Undecided, Reply, Gone}
+use Rattle.am_serve.specs.declared.host.Verdict.TheVariants.{Undecided, Reply, Later, Gone}
 use Rattle.am_serve.specs.declared.socket.Moved.{Moved}
 use Rattle.am_serve.specs.declared.socket.Moved.TheVariants.{Blocked, Broken}
 
@@ -29,30 +29,42 @@ lets_go IsGone = true
 -- the host has no whole request yet
 abbrev pub IsAsking : Stage → Type 0
 IsAsking Asking = ⊤
+IsAsking Awaiting = ⊥
 IsAsking (Telling _) = ⊥
 IsAsking Draining = ⊥
+
+-- the host has the whole request, and gives its reply later
+abbrev pub IsAwaiting : Stage → Type 0
+IsAwaiting Asking = ⊥
+IsAwaiting Awaiting = ⊤
+IsAwaiting (Telling _) = ⊥
+IsAwaiting Draining = ⊥
 
 -- the host gave its reply
 abbrev pub IsTelling : Stage → Type 0
 IsTelling Asking = ⊥
+IsTelling Awaiting = ⊥
 IsTelling (Telling _) = ⊤
 IsTelling Draining = ⊥
 
 -- nothing is left to be said
 abbrev pub IsDraining : Stage → Type 0
 IsDraining Asking = ⊥
+IsDraining Awaiting = ⊥
 IsDraining (Telling _) = ⊥
 IsDraining Draining = ⊤
 
 -- what is still to be written of the host's reply
 abbrev pub unsaid : Stage → List ℕ
 unsaid Asking = []
+unsaid Awaiting = []
 unsaid (Telling reply) = unsent reply
 unsaid Draining = []
 
 -- the reply was written whole
 abbrev pub IsTold : Stage → Type 0
 IsTold Asking = ⊥
+IsTold Awaiting = ⊥
 IsTold (Telling reply) = unsent reply ≡ []
 IsTold Draining = ⊥
 
@@ -63,6 +75,7 @@ IsSuccess reply = slice_get reply 9 ≡ Some 50
 -- the host's whole reply, as long as it is kept
 abbrev pub whole_reply : Stage → List ℕ
 whole_reply Asking = []
+whole_reply Awaiting = []
 whole_reply (Telling reply) = reply.bytes.items
 whole_reply Draining = []
 
@@ -70,11 +83,13 @@ whole_reply Draining = []
 abbrev pub reply_of : Verdict → List ℕ
 reply_of Undecided = []
 reply_of (Reply bytes) = bytes.items
+reply_of Later = []
 reply_of Gone = []
 
 abbrev pub is_gone : Verdict → Bool
 is_gone Undecided = false
 is_gone (Reply _) = false
+is_gone Later = false
 is_gone Gone = true
 
 -- a piece that the host took, and the host's verdict
@@ -110,11 +125,13 @@ DecidesLast (e ∷ es) = ((e.1 ≡ Undecided) ⊎ (es ≡ [])) × DecidesLast es
 abbrev pub StageAfter : Verdict → Stage → Type 0
 StageAfter Undecided stage = stage ≡ Asking
 StageAfter (Reply bytes) stage = IsTelling stage × (unsaid stage ≡ bytes.items) × (whole_reply stage ≡ bytes.items)
+StageAfter Later stage = stage ≡ Awaiting
 StageAfter Gone stage = stage ≡ Draining
 
 abbrev pub turn_after : Verdict → Turn
 turn_after Undecided = More
 turn_after (Reply _) = More
+turn_after Later = More
 turn_after Gone = IsGone
 
 module _ {S : Type 0} where
@@ -126,9 +143,30 @@ module _ {S : Type 0} where
   abbrev pub excess_of : Client S → ℕ
   excess_of client = client.held - 32768
 
-  -- no byte was moved for 5 seconds, or the client was there for 40
+  -- the client waits for the reply to this connection
+  abbrev pub AwaitsOn : (connection : ℕ) → Client S → Type 0
+  AwaitsOn connection client = (client.connection ≡ connection) × IsAwaiting client.stage
+
+  -- the reply came that a client waited for, and its time begins anew
+  pub record IsGiven (reply : List ℕ) (now : Instant) (old new : Client S) : Type 0 where
+    pub awaited : IsAwaiting old.stage
+    pub telling : IsTelling new.stage
+    pub unsaid_is : unsaid new.stage ≡ reply
+    pub whole : whole_reply new.stage ≡ reply
+    pub rest : new ≡ record old { stage = new.stage; opened = now; moved = now }
+
+-- no byte was moved for 5 seconds, or the client was there for 40; where it waits for its reply, 10 seconds of that
+abbrev pub IsStaleAt : Stage → (silent there : ℕ) → Type 0
+IsStaleAt Asking silent there = (5 ≤ silent) ⊎ (40 ≤ there)
+IsStaleAt Awaiting silent there = 10 ≤ silent
+IsStaleAt (Telling _) silent there = (5 ≤ silent) ⊎ (40 ≤ there)
+IsStaleAt Draining silent there = (5 ≤ silent) ⊎ (40 ≤ there)
+
+module _ {S : Type 0} where
+  -- the client is so by its stage, and by what its two clocks say in seconds
   abbrev pub IsStale : Client S → Instant → Type 0
-  IsStale client now = (5 ≤ (instant_nanos now - instant_nanos client.moved) / 1_000_000_000) ⊎ (40 ≤ (instant_nanos now - instant_nanos client.opened) / 1_000_000_000)
+  IsStale client now = IsStaleAt client.stage ((instant_nanos now - instant_nanos client.moved) / 1_000_000_000)
+      ((instant_nanos now - instant_nanos client.opened) / 1_000_000_000)
 
 module _ {S H : Type 0} (takes : H → ℕ → List ℕ → Verdict → H → Type 0) where
   -- the host took a piece of the client's connection, and the client stands as the verdict says
@@ -160,6 +198,8 @@ module _ {S : Type 0} where
     pub stays : (IsAsking old.stage → ⊥) → new.held ≡ old.held
     pub reply : (IsDraining new.stage → ⊥) → whole_reply new.stage ≡ whole_reply old.stage ++ replies_of heard
     pub drained : IsDraining old.stage → IsDraining new.stage
+    -- who waits for a reply goes on waiting: it is given between turns
+    pub awaiting : IsAwaiting old.stage → IsAwaiting new.stage
     pub connection : new.connection ≡ old.connection
     pub since : new.opened ≡ old.opened
 
@@ -171,24 +211,25 @@ module _ {S : Type 0} where
   Ends most old new heard Answered = IsTold new.stage × IsSuccess (whole_reply old.stage ++ replies_of heard) × (says_gone heard ≡ false)
   Ends most old new heard Drains = (IsDraining old.stage → ⊥) × IsDraining new.stage × (IsSuccess (whole_reply old.stage ++ replies_of heard) → ⊥) × (says_gone heard ≡ false)
   Ends most old new heard Drained = IsDraining old.stage × IsDraining new.stage × (says_gone heard ≡ false)
-  Ends most old new heard Lost = (IsDraining new.stage → ⊥) × (IsTold new.stage → ⊥) × (says_gone heard ≡ false)
+  Ends most old new heard Lost = (IsDraining new.stage → ⊥) × (IsTold new.stage → ⊥) × (IsAwaiting new.stage → ⊥) × (says_gone heard ≡ false)
   Ends most old new heard IsGone = IsDraining new.stage × (says_gone heard ≡ true)
 
 -- what a client at this stage asks of its socket, where that comes to this and moves nothing
-abbrev pub act_at : Stage → Moved → Act
-act_at Asking moved = Read moved []
-act_at (Telling _) moved = Write moved []
-act_at Draining moved = Read moved []
+abbrev pub acts_at : Stage → Moved → List Act
+acts_at Asking moved = Read moved [] ∷ []
+acts_at Awaiting moved = []
+acts_at (Telling _) moved = Write moved [] ∷ []
+acts_at Draining moved = Read moved [] ∷ []
 
 -- for what a turn ended, where the socket was asked for it
 abbrev pub last_of : Turn → Stage → List Act
 last_of More stage = []
-last_of Waits stage = act_at stage Blocked ∷ []
+last_of Waits stage = acts_at stage Blocked
 last_of Crowded stage = []
 last_of Answered stage = []
 last_of Drains stage = Finish ∷ []
-last_of Drained stage = act_at stage Broken ∷ []
-last_of Lost stage = act_at stage Broken ∷ []
+last_of Drained stage = acts_at stage Broken
+last_of Lost stage = acts_at stage Broken
 last_of IsGone stage = []
 
 -- a client waited for room

@@ -5,17 +5,18 @@ use Rattle.std.specs.List.{FoldsTo}
 use Rattle.std.specs.Time.{instant_nanos}
 use Rattle.std.specs.declared.time.Instant.{Instant}
 use Rattle.slab.specs.Slab.{Slab, Updates, get}
-use Rattle.am_serve.specs.Clients.{IsAsking}
+use Rattle.am_serve.specs.Clients.{AwaitsOn, IsAsking}
 use Rattle.am_serve.specs.Outgoings.{undelivered}
 use Rattle.am_serve.specs.declared.client.Client.{Client}
 use Rattle.am_serve.specs.declared.client.Stage.{Stage}
-use Rattle.am_serve.specs.declared.client.Stage.TheVariants.{Asking, Telling, Draining}
+use Rattle.am_serve.specs.declared.client.Stage.TheVariants.{Asking, Awaiting, Telling, Draining}
 use Rattle.am_serve.specs.declared.giving.Wanted.{Wanted}
 use Rattle.am_serve.specs.declared.giving.Wanted.TheVariants.{Reply, Place}
 
 -- how many bytes a reply holds: all of it, until its last byte was taken
 abbrev pub reply_bytes : Stage → ℕ
 reply_bytes Asking = 0
+reply_bytes Awaiting = 0
 reply_bytes (Telling reply) = undelivered reply
 reply_bytes Draining = 0
 
@@ -47,6 +48,10 @@ module _ {S : Type 0} where
 
   abbrev pub NoneGives : Wanted → Slab (Client S) → Type 0
   NoneGives wanted clients = (key : ℕ) → IfSome (get clients key) (λ client. Gives wanted client → ⊥)
+
+  -- no client waits for the reply to a connection
+  abbrev pub NoneAwaits : (connection : ℕ) → Slab (Client S) → Type 0
+  NoneAwaits connection clients = (key : ℕ) → IfSome (get clients key) (λ client. AwaitsOn connection client → ⊥)
 
   -- of the clients that have what is wanted this one is longest without a byte moved, and of those that are as long
   -- the first

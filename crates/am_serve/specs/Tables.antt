@@ -3,7 +3,7 @@ use Rattle.std.specs.Prelude.{◌≡◌, ◌≢◌, ◌⊎◌, ℕ, ◌+◌, Boo
 use Rattle.std.specs.declared.time.Instant.{Instant}
 use Rattle.slab.specs.Slab.{Slab, get}
 use Rattle.am_serve.specs.Acts.{Act, Ask, standing}
-use Rattle.am_serve.specs.Clients.{IsAsking, Turned, first_client, lets_go}
+use Rattle.am_serve.specs.Clients.{AwaitsOn, IsAsking, IsGiven, Turned, first_client, lets_go}
 use Rattle.am_serve.specs.Giving.{GivesWay, RelievesAll}
 use Rattle.am_serve.specs.Pools.{most_for}
 use Rattle.am_serve.specs.declared.client.Client.{Client}
@@ -59,6 +59,25 @@ module _ {S H : Type 0} (does : S → Act → S → Type 0) (takes : H → ℕ �
     pub middle : Slab (Client S)
     pub turned : TakesTurnAt does takes closes now old middle key client before after result
     pub others : Others old middle key
+    pub relieved : RelievesAll middle new
+
+module _ {S : Type 0} where
+  -- the client of a key got the reply that it waited for
+  pub record GivesReplyAt (reply : List ℕ) (now : Instant) (old new : Slab (Client S)) (key : ℕ) : Type 0 where
+    pub client : Client S
+    pub there : get old key ≡ Some client
+    pub later : Client S
+    pub got : get new key ≡ Some later
+    pub given : IsGiven reply now client later
+    pub others : Others old new key
+
+  -- the client of a key waited for the reply to this connection and got it, and then clients were let go for what the
+  -- replies held
+  pub record GivesReply (connection : ℕ) (reply : List ℕ) (now : Instant) (old new : Slab (Client S)) (key : ℕ) :
+      Type 0 where
+    pub middle : Slab (Client S)
+    pub awaited : IsSomeAnd (get old key) (AwaitsOn connection)
+    pub given : GivesReplyAt reply now old middle key
     pub relieved : RelievesAll middle new
 
 module _ {S H : Type 0} (does : S → Act → S → Type 0) (closes : H → ℕ → H → Type 0) where

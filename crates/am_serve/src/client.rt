@@ -17,6 +17,9 @@ const SILENCE_SECONDS: u64 = 5;
 
 const WHOLE_SECONDS: u64 = 40;
 
+// After how many seconds a client is stale that waits for its reply: the host may take 5, and the time to its next tick.
+const REPLY_SECONDS: u64 = 10;
+
 // After how many seconds a client whose request isn't whole gives its place to others.
 const SETTLED_SECONDS: u64 = 1;
 
@@ -65,6 +68,8 @@ impl Turn {
 pub enum Stage {
     // The host has no whole request yet.
     Asking,
+    // The host has the whole request, and gives its reply later.
+    Awaiting,
     // The host gave its reply.
     Telling(Outgoing),
     // Nothing is left to be said: what comes is thrown away.
@@ -79,13 +84,16 @@ pub struct Client<S: Socket> {
     stage: Stage,
     // How many bytes of its request the host holds undecided.
     held: usize,
+    // When it came, or its reply did where that came later than the request.
     opened: Instant,
     // When a byte was last read or written, or the client had to wait for room.
     moved: Instant,
 }
 
 impl<S: Socket> Client<S> {
-    ghost use Rattle.am_serve.specs.Clients.{HandsOn, IsAsking, IsDraining, IsStale, IsSuccess, IsTelling, IsTold, Turned, Works, excess_of, first_client, whole_reply};
+    ghost use Rattle.am_serve.specs.Clients.{AwaitsOn, HandsOn, IsAsking, IsAwaiting, IsDraining, IsGiven, IsStale};
+    ghost use Rattle.am_serve.specs.Clients.{IsSuccess, IsTelling, IsTold, Turned, Works, excess_of, first_client};
+    ghost use Rattle.am_serve.specs.Clients.{whole_reply};
     ghost use Rattle.am_serve.specs.Giving.{Gives, reply_bytes};
 
     // A client that sent nothing yet.
@@ -135,7 +143,7 @@ impl<S: Socket> Client<S> {
     {
         match &self.stage {
             Stage::Telling(reply) => reply.undelivered(),
-            Stage::Asking | Stage::Draining => 0,
+            Stage::Asking | Stage::Awaiting | Stage::Draining => 0,
         }
     }
 
@@ -165,8 +173,31 @@ impl<S: Socket> Client<S> {
     pub fn is_stale(&self, now: Instant) -> bool
         ensures { IsTrue result ↔ IsStale self.now now }
     {
-        now.saturating_duration_since(self.moved).as_secs() >= SILENCE_SECONDS
-            || now.saturating_duration_since(self.opened).as_secs() >= WHOLE_SECONDS
+        let silent = now.saturating_duration_since(self.moved).as_secs();
+        let whole = now.saturating_duration_since(self.opened).as_secs();
+        match self.stage {
+            Stage::Awaiting => silent >= REPLY_SECONDS,
+            Stage::Asking | Stage::Telling(_) | Stage::Draining => {
+                silent >= SILENCE_SECONDS || whole >= WHOLE_SECONDS
+            }
+        }
+    }
+
+    // Whether it waits for the reply to this connection.
+    pub fn awaits_on(&self, connection: u64) -> bool
+        ensures { IsTrue result ↔ AwaitsOn connection self.now }
+    {
+        self.connection == connection && matches!(self.stage, Stage::Awaiting)
+    }
+
+    // The reply came that it waited for. Its time begins anew.
+    pub fn give(&mut self, reply: Vec<u8>, now: Instant)
+        requires { IsAwaiting self.old.stage }
+        ensures { IsGiven reply.items now self.old self.new }
+    {
+        self.stage = Stage::Telling(Outgoing::new(reply));
+        self.opened = now;
+        self.moved = now;
     }
 
     // A turn of a client that may hold so many bytes undecided.
@@ -207,6 +238,7 @@ impl<S: Socket> Client<S> {
         }
         match self.stage {
             Stage::Asking => self.ask(host, now, buffer, most),
+            Stage::Awaiting => Turn::Waits,
             Stage::Telling(_) => self.tell(now),
             Stage::Draining => self.drain(now, buffer),
         }
@@ -257,6 +289,11 @@ impl<S: Socket> Client<S> {
                 self.stage = Stage::Telling(Outgoing::new(bytes));
                 Turn::More
             }
+            Verdict::Later => {
+                self.held = 0;
+                self.stage = Stage::Awaiting;
+                Turn::More
+            }
             Verdict::Gone => {
                 self.held = 0;
                 self.stage = Stage::Draining;
@@ -271,7 +308,7 @@ impl<S: Socket> Client<S> {
     {
         match &self.stage {
             Stage::Telling(reply) => reply.is_sent(),
-            Stage::Asking | Stage::Draining => false,
+            Stage::Asking | Stage::Awaiting | Stage::Draining => false,
         }
     }
 
@@ -281,7 +318,7 @@ impl<S: Socket> Client<S> {
     {
         match &self.stage {
             Stage::Telling(reply) => reply.byte(STATUS_INDEX) == Some(b'2'),
-            Stage::Asking | Stage::Draining => false,
+            Stage::Asking | Stage::Awaiting | Stage::Draining => false,
         }
     }
 

@@ -1,16 +1,18 @@
 //! The table of clients.
 ghost use Rattle.std.specs.Prelude.{◌≡◌, ◌≢◌, ◌↔◌, ◌+◌, ◌-◌, ◌*◌, ◌<◌, ◌≤◌, ◌^◌, ℕ, []};
-ghost use Rattle.std.specs.Prelude.{Some, None, IfNone, IfOk, IfSome, IsTrue, MatchOption, OnSome, false, true};
+ghost use Rattle.std.specs.Prelude.{Some, None, IfNone, IfOk, IfSome, IsSomeAnd, IsTrue, MatchOption, OnSome};
+ghost use Rattle.std.specs.Prelude.{false, true};
 ghost use Rattle.slab.specs.Slab.{Updates, get, slab_len};
-ghost use Rattle.am_serve.specs.Clients.{IsStale};
-ghost use Rattle.am_serve.specs.Giving.{IsWithin, NoneGives, Relieves, RelievesAll, reply_bytes_at, reply_bytes_in};
+ghost use Rattle.am_serve.specs.Clients.{IsAwaiting, IsStale};
+ghost use Rattle.am_serve.specs.Giving.{IsWithin, NoneAwaits, NoneGives, Relieves, RelievesAll};
+ghost use Rattle.am_serve.specs.Giving.{reply_bytes_at, reply_bytes_in};
 ghost use Rattle.am_serve.specs.Pools.{excess_in, held_in};
 ghost use Rattle.am_serve.specs.declared.giving.Wanted.TheVariants as Wanted;
-ghost use Rattle.am_serve.specs.Tables.{Adds, ChecksAt, GivesPlace, LetsGo, Others, Refuses, TakesTurnAt};
-ghost use Rattle.am_serve.specs.Tables.{TakesTurnWithin};
+ghost use Rattle.am_serve.specs.Tables.{Adds, ChecksAt, GivesPlace, GivesReply, GivesReplyAt, LetsGo, Others};
+ghost use Rattle.am_serve.specs.Tables.{Refuses, TakesTurnAt, TakesTurnWithin};
 
 use crate::client::{Client, OWN_BYTES, Turn};
-use crate::giving::{Wanted, gives_way};
+use crate::giving::{Wanted, awaiting, gives_way};
 use crate::host::Host;
 use crate::socket::Socket;
 use slab::Slab;
@@ -185,9 +187,39 @@ impl<S: Socket> Clients<S> {
         Some(turn)
     }
 
+    /// Gives the client of this connection the reply that it waits for, and says its key: it is to be given a turn.
+    /// Its time begins anew. Where the replies hold too much then, clients are let go, as after a turn. `None`: no
+    /// client waits for a reply to this connection, and the reply is dropped.
+    pub fn give(&mut self, connection: u64, reply: Vec<u8>, now: Instant) -> Option<usize>
+        ensures given { IfSome result (GivesReply connection reply.items now self.old.clients self.new.clients) }
+        ensures none { IfNone result (NoneAwaits connection self.old.clients × (self.new ≡ self.old)) }
+        ensures opened { self.new.opened ≡ self.old.opened }
+        ensures limit { self.new.limit ≡ self.old.limit }
+    {
+        let key = awaiting(&self.clients, connection)?;
+        self.give_to(key, reply, now);
+        self.relieve();
+        Some(key)
+    }
+
+    // A reply is given, after which the replies may hold too much.
+    fn give_to(&mut self, key: usize, reply: Vec<u8>, now: Instant)
+        requires { IsSomeAnd (get self.old.clients key) (λ client. IsAwaiting client.stage) }
+        ensures given { GivesReplyAt reply.items now self.old.clients self.new.clients key }
+        ensures opened { self.new.opened ≡ self.old.opened }
+        ensures limit { self.new.limit ≡ self.old.limit }
+    {
+        let Some(client) = self.clients.get_mut(key) else {
+            unreachable!()
+        };
+        client.give(reply, now);
+        self.replying += client.reply_bytes() as u128;
+    }
+
     /// Lets go of the client of this key where no byte was read or written for 5 seconds, or where it was there for
-    /// 40, and says whether it did. Where the host is undecided, it is closed there. Time in which the client waited
-    /// for room doesn't count as silence, as long as it gets its turns meanwhile.
+    /// 40; where it waits for its reply, after 10 seconds of that. Says whether it did. Where the host is undecided, it
+    /// is closed there. Time in which the client waited for room doesn't count as silence, as long as it gets its turns
+    /// meanwhile.
     pub fn judge<H: Host>(&mut self, key: usize, host: &mut H, now: Instant) -> bool
         ensures stale { MatchOption (get self.old.clients key) (result ≡ false) (λ client. IsTrue result ↔ IsStale client now) }
         ensures goes { result ≡ true → IfSome (get self.old.clients key) (λ client. LetsGo H.closes client (get self.new.clients key) host.old host.new) }

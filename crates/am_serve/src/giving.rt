@@ -1,7 +1,8 @@
 //! Who gives way to others.
-ghost use Rattle.std.specs.Prelude.{◌≡◌, ◌+◌, ◌<◌, ◌↔◌, ℕ, None, Some, IfNone, IfSome, IsTrue};
+ghost use Rattle.std.specs.Prelude.{◌≡◌, ◌+◌, ◌<◌, ◌↔◌, ℕ, None, Some, IfNone, IfSome, IsSomeAnd, IsTrue};
 ghost use Rattle.slab.specs.Slab.{get};
-ghost use Rattle.am_serve.specs.Giving.{GivesWay, IsEarlier, LongestBelow, NoneGives};
+ghost use Rattle.am_serve.specs.Clients.{AwaitsOn};
+ghost use Rattle.am_serve.specs.Giving.{GivesWay, IsEarlier, LongestBelow, NoneAwaits, NoneGives};
 
 use crate::client::Client;
 use crate::socket::Socket;
@@ -48,6 +49,29 @@ fn longest<S: Socket>(
         Some((key, client.moved()))
     } else {
         found
+    }
+}
+
+// The key of the client that waits for the reply to a connection.
+pub fn awaiting<S: Socket>(clients: &Slab<Client<S>>, connection: u64) -> Option<usize>
+    ensures some { IfSome result (λ key. IsSomeAnd (get clients.now key) (AwaitsOn connection)) }
+    ensures none { IfNone result (NoneAwaits connection clients.now) }
+{
+    for key in 0..clients.capacity() {
+        if awaits_at(clients, key, connection) {
+            return Some(key);
+        }
+    }
+    None
+}
+
+// Whether the client of a key waits for the reply to a connection.
+fn awaits_at<S: Socket>(clients: &Slab<Client<S>>, key: usize, connection: u64) -> bool
+    ensures { IsTrue result ↔ IsSomeAnd (get clients.now key) (AwaitsOn connection) }
+{
+    match clients.get(key) {
+        Some(client) => client.awaits_on(connection),
+        None => false,
     }
 }
 

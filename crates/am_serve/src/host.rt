@@ -9,6 +9,8 @@ pub enum Verdict {
     Undecided,
     /// The whole reply. No more pieces of this connection are taken.
     Reply(Vec<u8>),
+    /// The request is whole, and its reply comes later. No more pieces of this connection are taken.
+    Later,
     /// The host has no such connection any more.
     Gone,
 }

@@ -118,6 +118,20 @@ impl<'s, V: Service> Hall<'s, V> {
         self.service.end_call(name, status)
     }
 
+    /// Hands the replies that came later than their requests to the clients that wait for them. One whose client is
+    /// gone is dropped.
+    pub fn hand_out(&mut self, now: Instant) -> Result<(), AllocError> {
+        for _ in 0..u64::MAX {
+            let Some((connection, reply)) = self.service.next_reply() else {
+                break;
+            };
+            if let Some(key) = self.clients.give(connection, reply, now) {
+                self.serve(key, now)?;
+            }
+        }
+        Ok(())
+    }
+
     /// Lets go of a client whose request isn't whole, where another waits for its place.
     pub fn make_place(&mut self, now: Instant) -> bool {
         self.clients.make_place(self.service, now)

@@ -94,7 +94,8 @@ impl<'s, V: Service> Server<'s, V> {
 
     /// Waits a quarter of a second at most, and then does what can be done without waiting: accepts connections, moves
     /// the bytes of clients and calls that are ready, does what is due, lets go of those that are late, begins the calls
-    /// of notices, and lets notices give way where too much waits. Gives what is to be told of the clock.
+    /// of notices, lets notices give way where too much waits, and hands out the replies that came of all this. Gives
+    /// what is to be told of the clock.
     ///
     /// # Errors
     /// Those of the system's poll and clocks; out of memory. One connection's failure is none.
@@ -116,6 +117,7 @@ impl<'s, V: Service> Server<'s, V> {
         self.sweep(now)?;
         self.call(rt, now)?;
         self.hall.relieve()?;
+        self.hall.hand_out(now)?;
         Ok(news)
     }
 

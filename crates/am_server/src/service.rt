@@ -43,6 +43,9 @@ pub trait Service: Host {
     /// Out of memory.
     fn tick(&mut self) -> Result<(), AllocError>;
 
+    /// The next reply that came later than its request, with the connection's number.
+    fn next_reply(&mut self) -> Option<(u64, Vec<u8>)>;
+
     /// The next notice whose call is to begin, where so many calls more may be under way.
     fn next_notice(&mut self, free: usize) -> Option<Notice<Self::Name>>;
 

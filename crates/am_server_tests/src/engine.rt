@@ -6,7 +6,8 @@ use am_server::{Notice, Server, Service, listen};
 use am_text::{Octets, Text};
 use std::alloc::{AllocError, Global};
 use std::io;
-use std::net::{Ipv4Addr, Net, SocketAddr};
+use std::io::{Read, Write};
+use std::net::{Ipv4Addr, Net, SocketAddr, TcpStream};
 use std::test::Fail;
 use std::time::{Clock, Duration};
 
@@ -96,6 +97,10 @@ impl Service for Desk {
 
     fn tick(&mut self) -> Result<(), AllocError> {
         Ok(())
+    }
+
+    fn next_reply(&mut self) -> Option<(u64, Vec<u8>)> {
+        None
     }
 
     fn next_notice(&mut self, _free: usize) -> Option<Notice<u64>> {
@@ -194,4 +199,74 @@ fn notices_that_give_way_are_tries_without_an_answer(rt: HostRuntime) -> Result<
     let mut desk = Desk::new(rt.alloc(), 3);
     turn_once(&rt, &mut desk)?;
     equal((desk.heavy, desk.failed), (0, 3), "notices")
+}
+
+// Who has the reply to a request later.
+#[derive(Drop)]
+struct Waiter {
+    alloc: Global,
+    asked: Option<u64>,
+}
+
+impl Host for Waiter {
+    fn open(&mut self, _connection: u64) -> bool {
+        true
+    }
+
+    fn take(&mut self, connection: u64, _piece: &[u8]) -> Verdict {
+        self.asked = Some(connection);
+        Verdict::Later
+    }
+
+    fn close(&mut self, _connection: u64) {}
+}
+
+impl Service for Waiter {
+    type Name = u64;
+
+    fn is_up(&self) -> bool {
+        true
+    }
+
+    fn set_moment(&mut self, _moment: u64) {}
+
+    fn tick(&mut self) -> Result<(), AllocError> {
+        Ok(())
+    }
+
+    fn next_reply(&mut self) -> Option<(u64, Vec<u8>)> {
+        let connection = self.asked.take()?;
+        let reply = Vec::from_slice(self.alloc, b"HTTP/1.1 200 OK\r\n\r\n").ok()?;
+        Some((connection, reply))
+    }
+
+    fn next_notice(&mut self, _free: usize) -> Option<Notice<u64>> {
+        None
+    }
+
+    fn next_given_up(&mut self) -> Option<Notice<u64>> {
+        None
+    }
+
+    fn end_call(&mut self, _name: u64, _status: Option<u16>) -> Result<(), AllocError> {
+        Ok(())
+    }
+}
+
+#[test]
+fn late_replies_reach_their_clients(rt: HostRuntime) -> Result<(), Fail> {
+    let mut waiter = Waiter {
+        alloc: rt.alloc(),
+        asked: None,
+    };
+    let listener = listen(&rt, any())?;
+    let mut client = TcpStream::connect(&rt, listener.local_addr()?)?;
+    let mut server = Server::open(&rt, rt.alloc(), listener, &mut waiter, Some(1))?;
+    client.write_all(b"GET / HTTP/1.1\r\n\r\n")?;
+    for _ in 0..4u8 {
+        server.turn(&rt)?;
+    }
+    let mut start = [0u8; 12];
+    client.read_exact(&mut start)?;
+    equal(start.as_slice(), b"HTTP/1.1 200", "a late reply")
 }

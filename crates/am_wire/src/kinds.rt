@@ -44,8 +44,8 @@ pub(crate) enum BodyKind {
     Got,
 }
 
-/// The number of a body's kind, 1 to 7.
-pub(crate) fn body_number(body: &Body) -> u8
+/// The number of a body's kind, 1 to 7, which its message begins with behind the version.
+pub fn body_number(body: &Body) -> u8
     ensures { result ≡ body_number (kind_of_body body.now) }
 {
     match body {

@@ -19,6 +19,7 @@ mod write_labels;
 pub use decoding::decode;
 pub use encoding::encode;
 pub use items::Items;
+pub use kinds::body_number;
 pub use lengths::{item_len, spelled_len};
 pub use message::{Body, Message};
 pub use refusal::{EncodeRefusal, WireRefusal};

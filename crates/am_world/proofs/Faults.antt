@@ -1,35 +1,50 @@
--- an event whose one instance stopped
+-- An event whose one instance stopped.
 use Rattle.std.proofs.Common.{◌≡◌, ◌∙◌, inl, inr, ℕ, ◌+◌, ◌-◌, ◌^◌, ◌<◌, ◌≤◌, ◌==◌, nat_eq, suc, true, false, List}
-use Rattle.std.proofs.Common.{[], ◌∷◌, Option, None, Some, IsSome, refl, sym, ap, arith, length, filter, min}
-use Rattle.std.proofs.lemmas.List.{append-nil}
-use Rattle.std.proofs.lemmas.Bool.{cases_Bool}
+use Rattle.std.proofs.Common.{[], ◌∷◌, Option, None, refl, sym, ap, subst, arith, length, filter, min}
+use Rattle.std.proofs.lemmas.Bool.{cases_Bool, true≢false}
 use Rattle.std.proofs.lemmas.Bool.Decides.{nat_tests}
+use Rattle.std.proofs.lemmas.List.{append-nil}
+use Rattle.am_cluster.specs.Events.{Event, Limits}
+use Rattle.am_item.specs.declared.fault.Fault.{Fault}
 use Rattle.am_limit.specs.Books.{limits_of}
 use Rattle.am_limit.specs.declared.limits.Limits as limit
-use Rattle.am_world.specs.declared.event.Event.{Event}
-use Rattle.am_world.specs.declared.event.Event.TheVariants.{Limits}
-use Rattle.am_instance.specs.declared.instance.Instance.{Instance}
-use Rattle.am_world.specs.declared.state.State.{State}
-use Rattle.am_world.specs.Moments.{clock_after}
-use Rattle.am_world.specs.Places.{IsDownAt, KeepRefused, SameElsewhere, incarnation_at, instance_at}
-use Rattle.am_world.specs.Places.{incarnation_where, roster_of}
-use Rattle.am_world.specs.Refusal.{refusal}
-use Rattle.am_world.specs.Roster.{roster_after}
+use Rattle.am_messages.specs.Posted.{posted_at}
+use Rattle.am_messages.specs.declared.messages.Posted.{Posted}
 use Rattle.am_ring.specs.Instances.{all_instances}
-use Rattle.am_world.specs.Simulation.{Faulted, StoppedBy, fault_count, faults_of, put_out, works}
-use Rattle.am_world.proofs.Built.{keep_equal}
-use Rattle.am_world.proofs.InstancesLemmas.{CountsFrom}
+use Rattle.am_instance.proofs.Growing.{more_nothing}
+use Rattle.am_instance.specs.Instance.{GoesOn, HasMore, IsSameNode}
+use Rattle.am_instance.specs.declared.instance.Instance.{Instance}
+use Rattle.am_world.specs.Places.{AreNumbered, ChangesAt, KeepRefused, SameElsewhere, Turns, incarnation_at}
+use Rattle.am_world.specs.Places.{incarnation_where, instance_at, known_at, known_where, refused_at, refused_where}
+use Rattle.am_world.specs.Refusal.{refusal}
+use Rattle.am_world.specs.Simulation.{fault_count, put_out, refused_by}
+use Rattle.am_world.specs.Steps.{clock_after}
+use Rattle.am_world.specs.Stopping.{Faulted, StopsBy, faults_of, left_by, works}
+use Rattle.am_world.specs.Turning.{Fails, IsStopped}
+use Rattle.am_world.specs.declared.common.Common.{Common}
+use Rattle.am_world.specs.declared.state.State.{State}
+use Rattle.am_world.proofs.Built.{keep_equal, keep_then}
+use Rattle.am_world.proofs.KeptQuiet.{SameBesideLimits}
+use Rattle.am_world.proofs.RunPlaces.{elsewhere_then, one_found, turned}
 
-count_none : (n i : ℕ) (ms : List ℕ) → CountsFrom n ms → i < n → length (filter (λ j. j == i) ms) ≡ 0
+-- ---- how many faults
+
+abbrev CountFrom : ℕ → List ℕ → Type 0
+CountFrom n [] = Unit {0}
+CountFrom n (m ∷ ms) = (m ≡ n) × CountFrom (suc n) ms
+
+count_none : (n i : ℕ) (ms : List ℕ) → CountFrom n ms → i < n → length (filter (λ j. j == i) ms) ≡ 0
 count_none n i [] counts less = refl
 count_none n i (m ∷ ms) (first, rest) less =
     let other : nat_eq m i ≡ false = grind (arith, nat_tests) in
     rw other (count_none (suc n) i ms rest (omega arith))
 
-count_once : (n i : ℕ) (ms : List ℕ) → CountsFrom n ms → length (filter (λ j. j == i) ms) ≤ 1
+count_once : (n i : ℕ) (ms : List ℕ) → CountFrom n ms → length (filter (λ j. j == i) ms) ≤ 1
 count_once n i [] counts = omega arith
 count_once n i (m ∷ ms) (first, rest) = elim (cases_Bool (nat_eq m i)) [
-  | inl h ↦ let none = count_none (suc n) i ms rest (let same : m ≡ i = grind (arith, nat_tests) in omega arith) in rw (h, none) (omega arith)
+  | inl h ↦
+      let none = count_none (suc n) i ms rest (let same : m ≡ i = grind (arith, nat_tests) in omega arith) in
+      rw (h, none) (omega arith)
   | inr h ↦ rw h (count_once (suc n) i ms rest)
 ]
 
@@ -38,69 +53,133 @@ one_fault i =
     let most = count_once 1 i all_instances (refl, (refl, (refl, (refl, (refl, (refl, (refl, (refl, tt)))))))) in
     omega arith
 
-pub faulted_at : (w w' : State) (e : Event) (i : ℕ) → refusal w e ≡ None → works w e i ≡ true → IsDownAt i w'.instances → StoppedBy w e i w' →
-    SameElsewhere i w.instances w'.instances → ((j : ℕ) → incarnation_at j w'.instances ≡ (roster_after e (roster_of w.instances)).incarnation j) →
-    put_out w' ≡ put_out w → fault_count w' ≡ min (fault_count w + 1) (2 ^ 64 - 1) → w'.clock ≡ clock_after e w.clock → w'.limits ≡ w.limits → w'.service_key ≡ w.service_key →
-    KeepRefused w.instances w'.instances → Faulted w e w'
-faulted_at w w' e i taken worked down cause others incarnations outputs counted clock limits service_key refused =
+-- ---- what stays of an instance that stopped
+
+pub incarnations_stay : (i : ℕ) (xs ys : List Instance) → AreNumbered xs → ChangesAt i xs ys → Turns i IsSameNode xs ys
+    → (j : ℕ) → incarnation_at j ys ≡ incarnation_at j xs
+unfolding incarnation_at
+incarnations_stay =
+    turned (λ o o'. incarnation_where o' ≡ incarnation_where o) (λ o. refl) IsSameNode (λ x x' s. s.incarnation)
+
+pub known_stay : (i : ℕ) (xs ys : List Instance) → AreNumbered xs → ChangesAt i xs ys → Turns i IsSameNode xs ys
+    → (j : ℕ) → known_at j ys ≡ known_at j xs
+unfolding known_at
+known_stay = turned (λ o o'. known_where o' ≡ known_where o) (λ o. refl) IsSameNode (λ x x' s. s.known)
+
+pub refused_stay : (i : ℕ) (xs ys : List Instance) → AreNumbered xs → ChangesAt i xs ys → Turns i IsSameNode xs ys
+    → KeepRefused xs ys
+unfolding refused_at
+refused_stay =
+    turned (λ o o'. HasMore (refused_where o) (refused_where o')) (λ o. more_nothing _ _ refl) IsSameNode
+    (λ x x' s. s.refused)
+
+-- ---- how it failed
+
+node_itself : (x : Instance) → IsSameNode x x
+node_itself x = record { number = refl; incarnation = refl; known = refl; refused = more_nothing _ _ refl }
+
+-- it did nothing
+pub fails_nothing : (i : ℕ) (w : State) → AreNumbered w.instances → Fails i w w
+fails_nothing i w numbered = record {
+  posted = λ name. refl;
+  silent = refl;
+  stays = λ x x' here there.
+      subst (IsSameNode x) (sym (one_found x x' (instance_at i w.instances) here there)) (node_itself x);
+  others = record { numbered = numbered; others = λ j other. refl };
+  beside = record { clock = refl; common = refl };
+  faults = refl;
+}
+
+-- it did what changes nothing but itself
+pub fails_alone : (i : ℕ) (w : State) (xs : List Instance) → AreNumbered xs → SameElsewhere i w.instances xs
+    → Turns i GoesOn w.instances xs → Fails i w (record w { instances = xs })
+fails_alone i w xs numbered others goes = record {
+  posted = λ name. refl;
+  silent = refl;
+  stays = λ x x' here there.
+      let on = goes x x' here there in
+      record { number = on.number; incarnation = on.incarnation; known = on.known; refused = on.refused };
+  others = record { numbered = numbered; others = others };
+  beside = record { clock = refl; common = refl };
+  faults = refl;
+}
+
+-- ---- the event
+
+-- the instance of a number, of which alone work was asked, failed, and was stopped for it
+pub faulted_at : (w mid w' : State) (e : Event) (i : ℕ) (fault : Fault) → refusal w e ≡ None
+    → ((j : ℕ) → works w e j ≡ (j == i)) → clock_after e w.clock ≡ w.clock
+    → ((posted : Option Posted) → left_by e posted ≡ posted)
+    → AreNumbered w.instances → Fails i w mid → IsStopped i fault mid w' → StopsBy w e i fault (refused_by w' i)
+    → Faulted w e w'
+faulted_at w mid w' e i fault taken alone clock left numbered fails stops cause =
     let itself : nat_eq i i ≡ true = grind (arith, nat_tests) in
+    let node : Turns i IsSameNode mid.instances w'.instances = λ x x' here there. (stops.stays x x' here there).0 in
+    let common : w'.common ≡ w.common = stops.beside.common ∙ fails.beside.common in
+    let apart : (j : ℕ) → works w e j ≡ false → (j == i) ≡ false = λ j idle. sym (alone j) ∙ idle in
     record {
       taken = taken;
       stopped = λ j. j == i;
-      worked = λ j same. let here : j ≡ i = grind (arith, nat_tests) in ap (works w e) here ∙ worked;
-      some = λ none. let never = sym itself ∙ none i in cc;
-      down = λ j same. let here : i ≡ j = grind (arith, nat_tests) in rw (← here) down;
-      causes = λ j same. let here : i ≡ j = grind (arith, nat_tests) in rw (← here) cause;
-      others = λ j idle. elim (cases_Bool (nat_eq j i)) [
-        | inl h ↦ let here : j ≡ i = grind (arith, nat_tests) in let never = sym idle ∙ ap (works w e) here ∙ worked in cc
-        | inr h ↦ others j h
-      ];
-      incarnations = incarnations;
-      outs = [];
-      appended = outputs ∙ sym (append-nil (put_out w));
-      silent = λ all. refl;
-      counted = counted ∙ ap (λ n. min (fault_count w + n) (2 ^ 64 - 1)) (sym (one_fault i));
-      clock = clock;
-      limits = λ t. ap (limits_of t) limits;
-      service_key = service_key;
-      refused = refused;
+      worked = λ j same. alone j ∙ same;
+      some = λ none. absurd (true≢false (sym itself ∙ none i));
+      down = λ j same. let here : i ≡ j = grind (arith, nat_tests) in rw (← here) stops.down;
+      causes = λ j same.
+          let here : i ≡ j = grind (arith, nat_tests) in
+          rw (← here) (record { fault = fault; told = stops.cause; cause = cause });
+      others = λ j idle.
+          elsewhere_then i w.instances mid.instances w'.instances fails.others.others stops.others.others j
+          (apart j idle);
+      incarnations = λ j.
+          incarnations_stay i mid.instances w'.instances fails.others.numbered stops.others node j
+          ∙ incarnations_stay i w.instances mid.instances numbered fails.others fails.stays j;
+      known = λ j.
+          known_stay i mid.instances w'.instances fails.others.numbered stops.others node j
+          ∙ known_stay i w.instances mid.instances numbered fails.others fails.stays j;
+      told = λ j. [];
+      goes_on = λ j works on. absurd (true≢false (sym works ∙ alone j ∙ on));
+      silent = λ j same. refl;
+      idle = λ j idle. refl;
+      appended = stops.outputs ∙ fails.silent ∙ sym (append-nil (put_out w));
+      posted = λ name.
+          ap (posted_at name) stops.messages ∙ fails.posted name ∙ sym (left (posted_at name w.messages));
+      limits = λ t. ap (λ (c : Common). limits_of t c.limits) common;
+      service_key = ap (λ (c : Common). c.service_key) common;
+      rings = ap (λ (c : Common). c.rings) common;
+      first = ap (λ (c : Common). c.first) common;
+      refused = keep_then w.instances mid.instances w'.instances
+          (refused_stay i w.instances mid.instances numbered fails.others fails.stays)
+          (refused_stay i mid.instances w'.instances fails.others.numbered stops.others node);
+      counted = stops.counted
+          ∙ ap (λ n. min (n + 1) (2 ^ 64 - 1)) fails.faults
+          ∙ ap (λ n. min (fault_count w + n) (2 ^ 64 - 1)) (sym (one_fault i));
+      clock = stops.beside.clock ∙ fails.beside.clock ∙ sym clock;
     }
 
 -- new limits that find no memory: nothing has changed, and one fault is counted
-pub faulted_limits : (w w' : State) (tenant : List ℕ) (limits : limit.Limits) → w'.instances ≡ w.instances → put_out w' ≡ put_out w →
-    fault_count w' ≡ min (fault_count w + 1) (2 ^ 64 - 1) → w'.clock ≡ w.clock → ((t : List ℕ) → limits_of t w'.limits ≡ limits_of t w.limits) →
-    w'.service_key ≡ w.service_key → Faulted w (Limits tenant limits) w'
-faulted_limits w w' tenant limits instances outputs counted clock same service_key = record {
+pub faulted_limits : (w w' : State) (tenant : List ℕ) (limits : limit.Limits) → SameBesideLimits w w'
+    → ((t : List ℕ) → limits_of t w'.common.limits ≡ limits_of t w.common.limits) → put_out w' ≡ put_out w
+    → fault_count w' ≡ min (fault_count w + 1) (2 ^ 64 - 1) → Faulted w (Limits tenant limits) w'
+faulted_limits w w' tenant limits beside same outputs counted = record {
   taken = refl;
   stopped = λ i. false;
-  worked = λ i never. absurd cc;
+  worked = λ i never. absurd (true≢false (sym never));
   some = λ none. refl;
-  down = λ i never. absurd cc;
-  causes = λ i never. absurd cc;
-  others = λ i idle. ap (instance_at i) instances;
-  incarnations = λ i. ap (incarnation_at i) instances;
-  outs = [];
+  down = λ i never. absurd (true≢false (sym never));
+  causes = λ i never. absurd (true≢false (sym never));
+  others = λ i idle. ap (instance_at i) beside.instances;
+  incarnations = λ i. ap (incarnation_at i) beside.instances;
+  known = λ i. ap (known_at i) beside.instances;
+  told = λ i. [];
+  goes_on = λ i never on. absurd (true≢false (sym never));
+  silent = λ i never. refl;
+  idle = λ i idle. refl;
   appended = outputs ∙ sym (append-nil (put_out w));
-  silent = λ all. refl;
+  posted = λ name. ap (posted_at name) beside.messages;
   limits = same;
-  service_key = service_key;
-  refused = keep_equal _ _ instances;
+  service_key = beside.service_key;
+  rings = beside.rings;
+  first = beside.first;
+  refused = keep_equal _ _ beside.instances;
   counted = counted;
-  clock = clock;
+  clock = beside.clock;
 }
-
--- incarnations stay, of the instance that stopped and of all others
-pub incarnations_stay : (i : ℕ) (xs ys : List Instance) → incarnation_at i ys ≡ incarnation_at i xs → SameElsewhere i xs ys →
-    (j : ℕ) → incarnation_at j ys ≡ incarnation_at j xs
-unfolding incarnation_at
-incarnations_stay i xs ys here others j = elim (cases_Bool (nat_eq j i)) [
-  | inl h ↦ let same : j ≡ i = grind (arith, nat_tests) in ap (λ k. incarnation_at k ys) same ∙ here ∙ ap (λ k. incarnation_at k xs) (sym same)
-  | inr h ↦ ap incarnation_where (others j h)
-]
-
-pub elsewhere_then : (i : ℕ) (xs ys zs : List Instance) → SameElsewhere i xs ys → SameElsewhere i ys zs → SameElsewhere i xs zs
-elsewhere_then i xs ys zs first next j other = next j other ∙ first j other
-
-pub some_where : (o : Option (List ℕ)) → IsSome o → (before : List ℕ) × (o ≡ Some before)
-some_where None e = absurd cc
-some_where (Some x) e = (x, refl)

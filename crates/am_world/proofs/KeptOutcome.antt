@@ -1,184 +1,181 @@
--- the outcome of a try keeps the simulation
-use Rattle.std.proofs.Common.{◌≡◌, ◌⊎◌, ◌∙◌, ℕ, ◌&&◌, nat_lt, inl, inr, Bool, true, false, is_some, List, [], ◌∷◌}
-use Rattle.std.proofs.Common.{◌++◌, Option, Some, None, refl, sym, ap, if◌then◌else◌}
-use Rattle.std.specs.List.{filter_map}
-use Rattle.std.proofs.lemmas.List.{append-nil}
+-- The outcome of a try keeps the simulation.
+use Rattle.std.proofs.Common.{◌≡◌, ◌⊎◌, ◌∙◌, ℕ, ◌&&◌, ◌==◌, inl, inr, Bool, true, false, is_some}
+use Rattle.std.proofs.Common.{List, [], Option, Some, refl, sym, ap, subst, if◌then◌else◌}
+use Rattle.std.proofs.lemmas.Bool.{and_parts}
+use Rattle.am_cluster.specs.Courses.{awaits, course, course_by, handled_by, refusal_of}
+use Rattle.am_cluster.specs.Courses.{refused_unless}
+use Rattle.am_cluster.specs.Deciding.{deciding_at}
+use Rattle.am_cluster.specs.Delivery.{is_awaited, outcome}
+use Rattle.am_cluster.specs.Events.{AttemptName, Outcome, Output}
+use Rattle.am_cluster.specs.Happening.{Tried}
+use Rattle.am_cluster.specs.Here.{Here}
+use Rattle.am_cluster.specs.Local.{Local}
+use Rattle.am_cluster.specs.Moments.{effective, is_too_late}
+use Rattle.am_cluster.specs.Operating.{decision_on}
+use Rattle.am_cluster.specs.Outputs.{front_told}
+use Rattle.am_cluster.specs.PrivateCluster.{PrivateCluster, react_one, unchanged}
+use Rattle.am_cluster.specs.Reactions.{Reaction}
+use Rattle.am_cluster.specs.Refused.{Refused, MomentRefused, NotAwaited}
+use Rattle.am_cluster.specs.Replying.{KeepsAskers}
+use Rattle.am_cluster.specs.View.{Watch, adds, watch}
+use Rattle.am_cluster.proofs.Counted.{outcome_counted}
+use Rattle.am_cluster.proofs.ReplyPieces.{outcome_over}
 use Rattle.am_limit.specs.Books.{limits_of}
-use Rattle.am_outlet.specs.declared.outcome.Outcome.TheVariants as fate
-use Rattle.am_outlet.specs.declared.outcome.Outcome.{Outcome as Fate}
-use Rattle.am_context.specs.declared.context.Context.{Context as NodeContext}
-use Rattle.am_node.specs.Delivery.{outcome, recorded, settled}
-use Rattle.am_node.specs.Local.{Local, Reaction}
-use Rattle.am_tenant.specs.Names.{same}
-use Rattle.am_tenant.proofs.Same.{eq_from_same, same-refl, same_tells}
-use Rattle.am_instance.specs.declared.output.AttemptName.{AttemptName}
-use Rattle.am_world.specs.declared.event.Event.TheVariants.{Outcome}
-use Rattle.am_world.specs.declared.event.Refused.{Refused}
-use Rattle.am_world.specs.declared.event.Refused.TheVariants.{MomentRefused, NotAwaited}
+use Rattle.am_instance.specs.Instance.{ReadsOn, refused_in}
+use Rattle.am_instance.specs.Reacting.{Reacts}
+use Rattle.am_instance.specs.declared.instance.Instance.{Instance}
+use Rattle.am_world.specs.Consistent.{IsConsistent, around_at}
+use Rattle.am_world.specs.Places.{Turns, awaits_at, incarnation_at, instance_at, local_at, up_at}
+use Rattle.am_world.specs.Simulation.{Stands}
+use Rattle.am_world.specs.Steps.{Kept}
+use Rattle.am_world.specs.Turning.{Does}
+use Rattle.am_world.specs.declared.common.Common.{Common}
 use Rattle.am_world.specs.declared.state.State.{State}
-use Rattle.am_world.specs.Moments.{effective, last_moment}
-use Rattle.am_world.specs.Outputs.{front_told}
-use Rattle.am_world.specs.Places.{SameElsewhere, awaits_at, bytes_at, here_in, local_at, refused_at, roster_of}
-use Rattle.am_world.specs.PrivateCluster.{AreAllBuilt, Course, PrivateCluster, Tried, after_all, awaits, course}
-use Rattle.am_world.specs.PrivateCluster.{fits_all, handled, here_at, put_out_at, told_all, unchanged}
-use Rattle.am_instance.specs.Reaction.{in_node, output_of, terms_of}
-use Rattle.am_world.specs.Roster.{IsSameRoster, put_at}
-use Rattle.am_world.specs.Simulation.{Kept, Stands, fault_count, put_out}
-use Rattle.am_world.specs.View.{adds, watch}
-use Rattle.am_world.proofs.Kept.{kept_nothing, none_asked, roster_then, same_again}
-use Rattle.am_world.proofs.KeptBytes.{Reacts, here_same, local_everywhere, stands_kept, stands_reacts}
-use Rattle.am_world.proofs.RefusalSeen.{awaits_same}
-use Rattle.am_world.proofs.Turns.{local_same}
+use Rattle.am_world.proofs.Alone.{Acts, Behaves, Over, acts_of, roster_kept, up_alike}
+use Rattle.am_world.proofs.AloneKept.{adds_idle, clock_before, effective_later, follows_on, kept_nothing}
+use Rattle.am_world.proofs.AloneOwn.{outcome_own}
+use Rattle.am_world.proofs.AlonePlaces.{refused_here, refused_then, up_there}
+use Rattle.am_world.proofs.AloneTold.{alone, asked_then, front_silent, told_is_owned}
 
--- nothing goes out of an outcome
-settled_silent : (t : List ℕ) (i k : ℕ) (here : NodeContext) (fate : Fate) (local : Local) → filter_map (output_of t i k) (settled here fate local).said ≡ []
-unfolding recorded
-settled_silent t i k here fate.NotOpen local = refl
-settled_silent t i k here (fate.Delivered notice) local = refl
-settled_silent t i k here (fate.Again due) local = refl
-settled_silent t i k here fate.GivenUp local = refl
+-- the attempt is awaited in the tenant's cluster where it is in the world
+-- who awaits an outcome is up
+pub awaits_up : (attempt : AttemptName) (tries : ℕ) (xs : List Instance) → awaits_at attempt tries xs ≡ true
+    → up_at attempt.instance xs ≡ true
+unfolding awaits_at
+awaits_up attempt tries xs is = by_up (up_at attempt.instance xs) _ is
+  where
+    by_up : (b rest : Bool) → (b && rest) ≡ true → b ≡ true
+    by_up true rest both = refl
+    by_up false rest never = never
 
-outcome_silent : (t : List ℕ) (i k : ℕ) (here : NodeContext) (number tries : ℕ) (status : Option ℕ) (local : Local)
-    → filter_map (output_of t i k) (outcome here number tries status local).said ≡ []
-unfolding outcome
-outcome_silent t i k here number tries status local = settled_silent t i k here _ _
+awaits_alike : (w : State) (attempt : AttemptName) (tries : ℕ) (p : PrivateCluster) → Stands attempt.tenant w p
+    → awaits_at attempt tries w.instances ≡ awaits p attempt.instance attempt.incarnation attempt.number tries
+unfolding awaits_at
+awaits_alike w attempt tries p s =
+    λ d. s.roster.up attempt.instance d && (s.roster.incarnation attempt.instance d == attempt.incarnation
+    && is_awaited attempt.number tries (s.local attempt.instance d))
 
 -- ---- one that is refused
 
-tried_refused : (p : PrivateCluster) (i k number tries moment : ℕ) (status : Option ℕ) →
-    ((nat_lt last_moment moment ≡ true) ⊎ (awaits p i k number tries ≡ false)) → course p (Tried i k number tries moment status) ≡ unchanged p
-unfolding course
+tried_refused : (p : PrivateCluster) (i k number tries moment : ℕ) (status : Option ℕ)
+    → (is_too_late moment ≡ true) ⊎ (awaits p i k number tries ≡ false)
+    → course p (Tried i k number tries moment status) ≡ unchanged p
+unfolding course_by refusal_of
 tried_refused p i k number tries moment status (inl late) = rw late refl
-tried_refused p i k number tries moment status (inr closed) = elim (nat_lt last_moment moment) as
-    (λ b. (if is_some (let o : Option Refused = if b then Some MomentRefused else if awaits p i k number tries then None else Some NotAwaited in o)
-    then unchanged p else handled p (Tried i k number tries moment status)) ≡ unchanged p) [ true ↦ refl | false ↦ rw closed refl ]
+tried_refused p i k number tries moment status (inr closed) = by_moment (is_too_late moment)
+  where
+    by_moment : (b : Bool) → (if is_some (let o : Option Refused =
+        if b then Some MomentRefused else refused_unless (awaits p i k number tries) NotAwaited in o)
+        then unchanged p
+        else handled_by (decision_on p.service_key) p (Tried i k number tries moment status)) ≡ unchanged p
+    by_moment true = refl
+    by_moment false = rw closed refl
 
--- a happening that changes nothing, where it is the tenant's
-nothing_tried : (b : Bool) (p : PrivateCluster) (i k number tries moment : ℕ) (status : Option ℕ) →
-    (b ≡ true → course p (Tried i k number tries moment status) ≡ unchanged p) →
-    (after_all p (if b then Tried i k number tries moment status ∷ [] else []) ≡ p)
-    × (told_all p (if b then Tried i k number tries moment status ∷ [] else []) ≡ [])
-    × (fits_all p (if b then Tried i k number tries moment status ∷ [] else []) ≡ true)
-    × AreAllBuilt p (if b then Tried i k number tries moment status ∷ [] else [])
-nothing_tried true p i k number tries moment status unchanging =
-    let is = unchanging refl in
-    (ap (λ (q : Course). q.cluster) is, ap (λ (q : Course). q.outputs ++ []) is, ap (λ (q : Course). q.fits && true) is, (tt, tt))
-nothing_tried false p i k number tries moment status unchanging = (refl, refl, refl, tt)
-
-pub kept_unawaited : (w : State) (attempt : AttemptName) (tries m : ℕ) (status : Option ℕ) →
-    ((nat_lt last_moment m ≡ true) ⊎ (awaits_at attempt tries w.instances ≡ false)) → Kept w (Outcome attempt tries m status) w
-unfolding watch adds front_told
-kept_unawaited w attempt tries m status why = kept_nothing w (Outcome attempt tries m status) (λ v f. refl)
-    (λ t v p given. nothing_tried (same t attempt.tenant) p attempt.instance attempt.incarnation attempt.number tries m status
-    (λ own. tried_refused p attempt.instance attempt.incarnation attempt.number tries m status (elim why [
+pub kept_unawaited : (w : State) (attempt : AttemptName) (tries moment : ℕ) (status : Option ℕ)
+    → (is_too_late moment ≡ true) ⊎ (awaits_at attempt tries w.instances ≡ false)
+    → Kept w (Outcome attempt tries moment status) w
+unfolding watch adds front_told deciding_at
+kept_unawaited w attempt tries moment status why =
+    kept_nothing w (Outcome attempt tries moment status) (λ v follows. refl)
+    (λ t v p given. adds_idle t attempt.tenant v p (Outcome attempt tries moment status)
+    (Tried attempt.instance attempt.incarnation attempt.number tries moment status) refl
+    (λ own. tried_refused p attempt.instance attempt.incarnation attempt.number tries moment status
+    (closed p (subst (λ s. Stands s w p) own given.stands))) (λ own. tt))
+    (λ v follows. refl) refl (λ t limits. refl) (λ i. refl)
+  where
+    closed : (p : PrivateCluster) → Stands attempt.tenant w p → (is_too_late moment ≡ true)
+        ⊎ (awaits p attempt.instance attempt.incarnation attempt.number tries ≡ false)
+    closed p s = elim why [
       | inl late ↦ inl late
-      | inr closed ↦ inr (sym (awaits_same w attempt tries p (rw (eq_from_same t attempt.tenant own) at given.stands)) ∙ closed)
-    ])))
-    (λ v f. refl) (same_again (roster_of w.instances)) refl (λ t limits. refl)
+      | inr none ↦ inr (sym (awaits_alike w attempt tries p s) ∙ none)
+    ]
 
 -- ---- one that is taken
 
--- the course of a reaction of one instance
-abbrev by_reaction : PrivateCluster → ℕ → Reaction → Course
-by_reaction p i r = record { cluster = record p { at = put_at p.at i r.local }; outputs = put_out_at p i r.said; fits = r.fits }
+tried_taken : (p : PrivateCluster) (i k number tries moment : ℕ) (status : Option ℕ) → is_too_late moment ≡ false
+    → awaits p i k number tries ≡ true → p.roster.up i ≡ true
+    → course p (Tried i k number tries moment status)
+    ≡ react_one (λ here local. outcome here number tries status local) (effective moment p.clock) i p
+unfolding course_by refusal_of handled_by
+tried_taken p i k number tries moment status allowed awaited up = rw (allowed, awaited, up) refl
 
-tried_taken : (p : PrivateCluster) (i k number tries m : ℕ) (status : Option ℕ) → nat_lt last_moment m ≡ false →
-    awaits p i k number tries ≡ true → course p (Tried i k number tries m status)
-    ≡ by_reaction p i (outcome (in_node (here_at p (effective m p.clock) i)) number tries status (p.at i))
-unfolding course
-tried_taken p i k number tries m status allowed awaited = rw (allowed, awaited) refl
-
--- on the world and on its cluster
-tried_course : (attempt : AttemptName) (tries m : ℕ) (status : Option ℕ) (w : State) (p : PrivateCluster) → Stands attempt.tenant w p →
-    nat_lt last_moment m ≡ false → awaits_at attempt tries w.instances ≡ true →
-    course p (Tried attempt.instance attempt.incarnation attempt.number tries m status)
-    ≡ by_reaction p attempt.instance
-    (outcome (in_node (here_in (effective m w.clock) (terms_of w.service_key w.limits attempt.tenant) attempt.instance w.instances))
-    attempt.number tries status (local_at attempt.tenant attempt.instance w.instances))
-tried_course attempt tries m status w p s allowed awaited =
-    let i = attempt.instance in
-    tried_taken p i attempt.incarnation attempt.number tries m status allowed (sym (awaits_same w attempt tries p s) ∙ awaited)
-    ∙ ap (λ h. by_reaction p i (outcome (in_node h) attempt.number tries status (p.at i))) (here_same attempt.tenant i m w p s)
-    ∙ ap (λ l. by_reaction p i (outcome
-    (in_node (here_in (effective m w.clock) (terms_of w.service_key w.limits attempt.tenant) i w.instances)) attempt.number tries status l))
-    (sym (s.local i))
-
--- the tenant of the attempt has what its cluster has of it, which says nothing; every other has what it had
-tried_alone : (t : List ℕ) (w w' : State) (p : PrivateCluster) (attempt : AttemptName) (tries m : ℕ) (status : Option ℕ) → Stands t w p →
-    nat_lt last_moment m ≡ false → awaits_at attempt tries w.instances ≡ true →
-    local_at t attempt.instance w'.instances ≡ (if same t attempt.tenant
-    then (outcome (in_node (here_in (effective m w.clock) (terms_of w.service_key w.limits attempt.tenant) attempt.instance w.instances))
-    attempt.number tries status (local_at t attempt.instance w.instances)).local
-    else local_at t attempt.instance w.instances) →
-    (outcome (in_node (here_in (effective m w.clock) (terms_of w.service_key w.limits attempt.tenant) attempt.instance w.instances))
-    attempt.number tries status (local_at attempt.tenant attempt.instance w.instances)).fits ≡ true →
-    SameElsewhere attempt.instance w.instances w'.instances → w'.clock ≡ w.clock → w'.limits ≡ w.limits → w'.service_key ≡ w.service_key →
-    IsSameRoster (roster_of w'.instances) (roster_of w.instances) →
-    Stands t w' (after_all p (if same t attempt.tenant then Tried attempt.instance attempt.incarnation attempt.number tries m status ∷ [] else []))
-    × (told_all p (if same t attempt.tenant then Tried attempt.instance attempt.incarnation attempt.number tries m status ∷ [] else []) ≡ [])
-    × (fits_all p (if same t attempt.tenant then Tried attempt.instance attempt.incarnation attempt.number tries m status ∷ [] else []) ≡ true)
-tried_alone t w w' p attempt tries m status s allowed awaited local fit others clock limits service_key roster = elim (same_tells t attempt.tenant) [
-  | inl e ↦
-      let stands : Stands attempt.tenant w p = rw (e.1) at s in
-      let is = tried_course attempt tries m status w p stands allowed awaited in
-      let here = rw (e.1, same-refl attempt.tenant) at local in
-      let reaction : Reaction =
-      outcome (in_node (here_in (effective m w.clock) (terms_of w.service_key w.limits attempt.tenant) attempt.instance w.instances))
-      attempt.number tries status (local_at attempt.tenant attempt.instance w.instances) in
-      let reacts : Reacts attempt.tenant attempt.instance w w' reaction = record {
-        here = here;
-        others = λ j h. local_same attempt.tenant j w.instances w'.instances (others j h);
-        clock = clock;
-        limits = limits;
-        service_key = service_key;
-        roster = roster;
-      } in
-      rw (e.0) (
-        rw (ap (λ (q : Course). q.cluster) is, e.1) (stands_reacts attempt.tenant attempt.instance w w' p reaction reacts stands),
-        ap (λ (q : Course). q.outputs ++ []) is
-            ∙ ap (λ outputs. outputs ++ []) (outcome_silent p.tenant attempt.instance (p.roster.incarnation attempt.instance) _ attempt.number tries status _),
-        ap (λ (q : Course). q.fits && true) is ∙ ap (λ b. b && true) fit,
-      )
-  | inr e ↦
-      let here = rw (e.0) at local in
-      rw (e.0) (
-        stands_kept t w w' p clock limits service_key roster (local_everywhere t attempt.instance w.instances w'.instances here others) s,
-        refl,
-        refl,
-      )
-]
-
-pub kept_outcome : (w w' : State) (attempt : AttemptName) (tries m : ℕ) (status : Option ℕ) → nat_lt last_moment m ≡ false →
-    awaits_at attempt tries w.instances ≡ true →
-    ((t : List ℕ) → local_at t attempt.instance w'.instances ≡ (if same t attempt.tenant
-    then (outcome (in_node (here_in (effective m w.clock) (terms_of w.service_key w.limits attempt.tenant) attempt.instance w.instances))
-    attempt.number tries status (local_at t attempt.instance w.instances)).local
-    else local_at t attempt.instance w.instances)) →
-    (outcome (in_node (here_in (effective m w.clock) (terms_of w.service_key w.limits attempt.tenant) attempt.instance w.instances))
-    attempt.number tries status (local_at attempt.tenant attempt.instance w.instances)).fits ≡ true →
-    SameElsewhere attempt.instance w.instances w'.instances → ((c i : ℕ) → bytes_at c i w'.instances ≡ bytes_at c i w.instances) →
-    IsSameRoster (roster_of w'.instances) (roster_of w.instances) → ((i : ℕ) → refused_at i w'.instances ≡ refused_at i w.instances) →
-    w'.clock ≡ w.clock → w'.limits ≡ w.limits → w'.service_key ≡ w.service_key → put_out w' ≡ put_out w → fault_count w' ≡ fault_count w →
-    Kept w (Outcome attempt tries m status) w'
-unfolding watch adds front_told
-kept_outcome w w' attempt tries m status allowed awaited local fit others reading roster refused clock limits service_key outputs faults = record {
-  follows = λ v f. record { reading = λ c i. reading c i ∙ f.reading c i; roster = roster_then _ _ _ roster f.roster };
-  outs = [];
-  appended = outputs ∙ sym (append-nil (put_out w));
-  tenants = λ t v p given.
-      let own = tried_alone t w w' p attempt tries m status given.stands allowed awaited (local t) fit others clock limits service_key roster in
-      inl (record {
-        stands = own.0;
-        told = λ u later. sym own.1;
-        fits = own.2;
-        built = none_asked (same t attempt.tenant) p (Tried attempt.instance attempt.incarnation attempt.number tries m status) tt;
-      });
-  front = λ v f u later. refl;
-  owned = λ v f u later. refl;
-  roster = roster;
-  clock = clock;
-  limits = λ t. ap (limits_of t) limits;
-  service_key = service_key;
-  refused = refused;
-  faults = faults;
+outcome_behaves : (number tries : ℕ) (status : Option ℕ) → Behaves (λ here. outcome here number tries status)
+outcome_behaves number tries status = record {
+  own = λ here. outcome_own here number tries status;
+  counted = λ here. outcome_counted here number tries status;
 }
+
+-- what an instance does with an outcome
+abbrev pub TakesOutcome : AttemptName → (tries moment : ℕ) → (status : Option ℕ) → State → List Output → Instance
+    → Instance → Type 0
+TakesOutcome attempt tries moment status w told x x' =
+    Reacts (around_at (effective moment w.clock) w) attempt.tenant
+    (λ here. outcome here attempt.number tries status) x x' [] told
+
+pub kept_outcome : (w w' : State) (attempt : AttemptName) (tries moment : ℕ) (status : Option ℕ)
+    → is_too_late moment ≡ false → awaits_at attempt tries w.instances ≡ true → IsConsistent w
+    → Does attempt.instance (effective moment w.clock) (TakesOutcome attempt tries moment status w) w w'
+    → Turns attempt.instance (λ x x'. ReadsOn x x' × (refused_in x' ≡ refused_in x)) w.instances w'.instances
+    → Kept w (Outcome attempt tries moment status) w'
+unfolding watch adds front_told awaits_at deciding_at
+kept_outcome w w' attempt tries moment status allowed awaited consistent does stays = record {
+  follows = λ v follows. follows_on attempt.instance v w w' a.x a.y a.is_at a.is_then turned.0.front a.others
+      (roster_kept attempt.instance now attempt.tenant f does.told w w' a) follows;
+  asked = λ v follows new asked.
+      asked_then attempt.instance now attempt.tenant f does.told w w' a behaves v asked (keeps v);
+  outs = does.told;
+  appended = does.appended;
+  tenants = λ t v p given. inl (alone attempt.instance now attempt.tenant f does.told w w' a behaves v given.asked
+      (keeps v) t p (Outcome attempt tries moment status)
+      (Tried attempt.instance attempt.incarnation attempt.number tries moment status) v given.stands
+      (λ s. refl) refl (taken p) (λ s. tt));
+  front = λ v follows asked u later.
+      front_silent attempt.instance now attempt.tenant f does.told w w' a behaves v asked (keeps v) u later;
+  owned = λ v follows asked u later.
+      told_is_owned attempt.instance now attempt.tenant f does.told w w' a behaves v asked (keeps v) u later;
+  roster = roster_kept attempt.instance now attempt.tenant f does.told w w' a;
+  clock = does.beside.clock;
+  limits = λ t. ap (λ (c : Common). limits_of t c.limits) does.beside.common;
+  service_key = ap (λ (c : Common). c.service_key) does.beside.common;
+  refused = refused_then attempt.instance w.instances w'.instances
+      (refused_here attempt.instance w'.instances a.y a.is_then ∙ turned.1
+      ∙ sym (refused_here attempt.instance w.instances a.x a.is_at)) a.others;
+  faults = does.faults;
+}
+  where
+    now : ℕ
+    now = effective moment w.clock
+
+    f : Here → Local → Reaction
+    f here = outcome here attempt.number tries status
+
+    parts : (up_at attempt.instance w.instances ≡ true)
+        × ((incarnation_at attempt.instance w.instances == attempt.incarnation
+        && is_awaited attempt.number tries (local_at attempt.tenant attempt.instance w.instances)) ≡ true)
+    parts = and_parts (up_at attempt.instance w.instances) _ awaited
+
+    there : (x : Instance) × (instance_at attempt.instance w.instances ≡ Some x) × (x.up ≡ true)
+    there = up_there attempt.instance w.instances parts.0
+
+    a : Acts attempt.instance now attempt.tenant f does.told w w'
+    a = acts_of attempt.instance now attempt.tenant f (TakesOutcome attempt tries moment status w) w w' there.0
+        consistent.numbered (effective_later moment w.clock) (clock_before w consistent.clock) there.1 there.2 does
+        (λ told y is. is) (λ x x' here there. (stays x x' here there).0.goes.up)
+
+    turned : ReadsOn a.x a.y × (refused_in a.y ≡ refused_in a.x)
+    turned = stays a.x a.y a.is_at a.is_then
+
+    behaves : Behaves f
+    behaves = outcome_behaves attempt.number tries status
+
+    keeps : (v : Watch) (here : Here) → KeepsAskers (Over v attempt.tenant) (f here)
+    keeps v here = outcome_over (Over v attempt.tenant) here attempt.number tries status
+
+    taken : (p : PrivateCluster) → Stands attempt.tenant w p
+        → course p (Tried attempt.instance attempt.incarnation attempt.number tries moment status)
+        ≡ react_one f now attempt.instance p
+    taken p s =
+        tried_taken p attempt.instance attempt.incarnation attempt.number tries moment status allowed
+        (sym (awaits_alike w attempt tries p s) ∙ awaited)
+        (up_alike attempt.instance now attempt.tenant f does.told w w' a attempt.tenant p s)
+        ∙ ap (λ clock. react_one f (effective moment clock) attempt.instance p) (sym s.clock)

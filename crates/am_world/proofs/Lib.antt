@@ -1,18 +1,54 @@
-mod Backed
-mod Built
-mod Faults
-mod InstancesLemmas
-mod Kept
-mod Leaves
-mod KeptBytes
-mod KeptClose
-mod KeptOutcome
-mod KeptPieces
-mod KeptTick
-mod Opened
-mod RefusalSeen
-mod Shelved
-mod Run
-pub mod Steps
-mod Turns
-mod Working
+pub mod Alone
+pub mod AloneDecided
+pub mod AloneDelivered
+pub mod AloneKept
+pub mod AloneLost
+pub mod AloneOwn
+pub mod AlonePlaces
+pub mod AloneRead
+pub mod AloneTold
+pub mod Built
+pub mod Delivered
+pub mod Faults
+pub mod Forgotten
+pub mod Fresh
+pub mod FreshKept
+pub mod FreshPast
+pub mod InstancesAwaiting
+pub mod InstancesBacked
+pub mod InstancesBegin
+pub mod InstancesIncarnations
+pub mod InstancesLemmas
+pub mod InstancesNew
+pub mod KeptBytes
+pub mod KeptDeliver
+pub mod KeptOutcome
+pub mod KeptQuiet
+pub mod KeptQuietRefused
+pub mod KeptQuietWhole
+pub mod Opened
+pub mod OpenedCluster
+pub mod OpenedFound
+pub mod OpenedWorld
+pub mod Placed
+pub mod Posted
+pub mod PostingLemmas
+pub mod RefusalSeen
+pub mod Run
+pub mod RunLater
+pub mod RunOpened
+pub mod RunPatterns
+pub mod RunPlaces
+pub mod RunTaken
+pub mod Shelved
+pub mod Stopped
+pub mod TickAlone
+pub mod TickFaulted
+pub mod TickKept
+pub mod TickPlaces
+pub mod TickSaid
+pub mod TickShelves
+pub mod TickTaken
+pub mod TickTurns
+pub mod TickWhole
+pub mod Turned

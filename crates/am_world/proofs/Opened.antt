@@ -1,206 +1,419 @@
--- instances as they are opened
-use Rattle.std.proofs.Common.{◌≡◌, ◌∙◌, inl, inr, ℕ, Bool, true, false, List, [], ◌∷◌, ◌++◌, length, Option, Some}
-use Rattle.std.proofs.Common.{None, Result, Ok, Err, IfErr, OnOk, ◌==◌, find, map, refl, slice_get, subst, suc, sym}
-use Rattle.std.proofs.Common.{ap, arith, if◌then◌else◌}
-use Rattle.std.proofs.lemmas.Bool.{cases_Bool}
+-- A world whose instances open their stores, one after the other, in order of number.
+use Rattle.std.proofs.Common.{◌≡◌, ◌∙◌, inl, inr, ℕ, ◌+◌, ◌<◌, ◌≤◌, Bool, true, false, ◌&&◌, List, [], ◌∷◌}
+use Rattle.std.proofs.Common.{get_or, length, map, nat_eq, nat_le, slice_get, slice_set, Option, Some, None, refl, sym}
+use Rattle.std.proofs.Common.{ap, arith, if◌then◌else◌, subst}
+use Rattle.std.specs.Prelude.{◌==◌}
+use Rattle.std.proofs.Math.ListN.{length-set}
+use Rattle.std.proofs.lemmas.Bool.{cases_Bool, eqb-true, false≢true, true≢false}
 use Rattle.std.proofs.lemmas.Bool.Decides.{nat_tests}
+use Rattle.std.proofs.lemmas.Option.{slice_get-get_or}
 use Rattle.am_http.specs.Connections.{bytes_of}
-use Rattle.am_limit.specs.Books.{limits_of}
-use Rattle.am_instance.specs.declared.instance.Instance.{Instance}
-use Rattle.am_world.specs.declared.state.State.{State}
-use Rattle.am_world.specs.Places.{AreNumbered, IsDownAt, SameElsewhere, bytes_at, bytes_where, incarnation_at}
-use Rattle.am_world.specs.Places.{incarnation_where, instance_at, local_at, local_where, refused_at, refused_where}
-use Rattle.am_world.specs.Places.{roster_of, up_at, up_where}
-use Rattle.am_instance.specs.Instance.{IsDown, local_in}
-use Rattle.am_world.specs.PrivateCluster.{opened, opened_at}
-use Rattle.am_node.specs.Local.{blank}
-use Rattle.am_world.specs.Roster.{IsSameRoster, opened_roster, serves}
-use Rattle.am_ring.specs.Instances.{is_instance}
-use Rattle.am_setup.specs.Setup.{Origin}
-use Rattle.am_world.specs.Simulation.{Follows, Stands}
-use Rattle.am_world.specs.View.{first_watch}
 use Rattle.am_item.specs.declared.item.Item.{Item}
-use Rattle.am_node.specs.Accepting.{accepted}
-use Rattle.am_rows.specs.Refusing.{IsJudged, MayRefuse}
+use Rattle.am_limit.specs.Books.{limits_of}
+use Rattle.am_ring.specs.Instances.{Members, all_instances, in_order, is_among, is_instance, may_be_ring}
+use Rattle.am_ring.specs.Replicas.{replicas}
+use Rattle.am_ring.proofs.Numbers.{made, number_at}
 use Rattle.am_rows.specs.Rows.{rows_of}
 use Rattle.am_rows.specs.declared.rows.Rows.{Ghosts}
-use Rattle.am_rows.specs.declared.refusal.StoreRefusal.{StoreRefusal}
-use Rattle.am_text.specs.declared.failure.Failure.{Failure}
-use Rattle.am_text.specs.declared.failure.Failure.TheVariants as failure
-use Rattle.am_world.specs.Opening.{FailsAt, FailsToOpen, refusal_for, store_at}
-use Rattle.am_world.specs.Shelves.{AreBacked, IsStartedAt, shelf_at}
-use Rattle.am_instance.specs.Shelves.{Shelf}
-use Rattle.am_world.proofs.InstancesLemmas.{Changed, bytes_here, found_within, incarnation_here, local_here}
-use Rattle.am_world.proofs.InstancesLemmas.{missing_number, refused_here, up_here}
-use Rattle.am_world.proofs.Shelved.{backed_down}
+use Rattle.am_setup.specs.Setup.{Origin as Setting}
+use Rattle.am_cluster.specs.Here.{Here}
+use Rattle.am_cluster.specs.Local.{blank}
+use Rattle.am_cluster.specs.PrivateCluster.{here_at, unopened}
+use Rattle.am_cluster.specs.Roster.{has_stayed, three_at}
+use Rattle.am_cluster.specs.RingChanges.{opened as opened_with}
+use Rattle.am_instance.specs.Here.{Circumstances, has_stayed_on, here_on, three_on}
+use Rattle.am_instance.specs.Instance.{IsDown, bytes_in, local_in, refused_in}
+use Rattle.am_instance.specs.Shelves.{IsBacked, Shelf, shelf_of}
+use Rattle.am_instance.specs.Whole.{IsWhole}
+use Rattle.am_instance.specs.declared.instance.Instance.{Instance}
+use Rattle.am_world.specs.Consistent.{around, around_at}
+use Rattle.am_world.specs.declared.common.Common.{Common}
+use Rattle.am_world.specs.Opening.{HasOpened, IsBegun, IsSameBesideInstances, IsUnopened, IsUnused, OpensAt}
+use Rattle.am_world.specs.Opening.{StayOutside, first_ring, origin_of}
+use Rattle.am_world.specs.Places.{AreNumbered, At, EachIs, incarnations_of, instance_at}
+use Rattle.am_world.specs.Shelves.{NeverCleaner, rows_in, shelf_at, shelves_of}
+use Rattle.am_world.specs.declared.state.State.{State}
+use Rattle.am_world.proofs.InstancesLemmas.{number_of}
+use Rattle.am_world.proofs.OpenedFound.{all_are, exists_at, missing_at}
+use Rattle.am_world.proofs.Shelved.{cleaner_put, set_get, shelf_is, shelf_other, shelf_put}
 
--- an instance in its first incarnation that is down and has nothing
-pub record IsFresh (first : ℕ) (x : Instance) : Type 0 where
-  pub down : x.up ≡ false
-  pub incarnation : x.incarnation ≡ first
-  pub unread : (c : ℕ) → bytes_of c x.front ≡ None
-  pub local : (t : List ℕ) → local_in t x ≡ blank
-  pub refused : x.cache.refused ≡ []
+-- ---- what an instance goes by
 
-abbrev pub AreFresh : ℕ → List Instance → Type 0
-AreFresh first [] = Unit {0}
-AreFresh first (x ∷ xs) = IsFresh first x × AreFresh first xs
+-- what one goes by where it opens its store
+abbrev pub here_first : Setting → List ℕ → ℕ → Here
+here_first setting t i = here_at (unopened (replicas t) (origin_of setting) t (λ j. [])) 0 i
 
-pub fresh_push : (first : ℕ) (xs : List Instance) (x : Instance) → AreFresh first xs → IsFresh first x → AreFresh first (xs ++ x ∷ [])
-fresh_push first [] x all new = (new, tt)
-fresh_push first (y ∷ xs) x (one, all) new = (one, fresh_push first xs x all new)
+-- the same in the world as in the cluster
+pub same_here : (setting : Setting) (c : Circumstances) (x : Instance) (t : List ℕ) (i : ℕ) → is_instance i ≡ true
+    → x.number ≡ i → x.incarnation ≡ setting.first → x.known ≡ 0 → c.moment ≡ 0 → c.limits ≡ []
+    → map (λ (ring : Members). ring.instances) c.rings ≡ in_order setting.ring ∷ [] → c.first ≡ setting.first
+    → c.incarnations ≡ map (λ (j : ℕ). setting.first) all_instances → here_on c x t ≡ here_first setting t i
+unfolding here_on three_on has_stayed_on here_at three_at has_stayed limits_of
+same_here setting c x t i is number incarnation known moment limits rings first incarnations =
+    rw (number, incarnation, known, moment, limits, rings, first, incarnations, is) refl
 
-fresh_found : (first : ℕ) (p : Instance → Bool) (xs : List Instance) (x : Instance) → AreFresh first xs → find p xs ≡ Some x → IsFresh first x
-fresh_found first p [] x all found = absurd cc
-fresh_found first p (y ∷ xs) x (one, all) found = elim (cases_Bool (p y)) [
-  | inl h ↦ let e = rw h at found in let same : y ≡ x = cc in rw (← same) one
-  | inr h ↦ fresh_found first p xs x all (rw h at found)
-]
+-- the first of several rings
+pub first_at : (rings : List Members) (ring : Members) → 0 < length rings → ring ≡ get_or rings 0 ring
+    → first_ring rings ≡ ring.instances
+first_at [] ring some is = absurd (omega (arith, some))
+first_at (first ∷ rings) ring some is = ap (λ (r : Members). r.instances) (sym is)
 
-incarnation_opening_at : (first i : ℕ) (xs : List Instance) (o : Option Instance) → instance_at i xs ≡ o → AreNumbered xs → AreFresh first xs →
-    incarnation_where o ≡ (if is_instance i then first else 0)
-unfolding instance_at
-incarnation_opening_at first i xs None at e all = rw (missing_number i xs e at) refl
-incarnation_opening_at first i xs (Some x) at e all = rw (found_within xs i x e at) (fresh_found first _ xs x all at).incarnation
-
-pub incarnation_opening : (first i : ℕ) (xs : List Instance) → AreNumbered xs → AreFresh first xs → incarnation_at i xs ≡ (if is_instance i then first else 0)
-unfolding incarnation_at
-incarnation_opening first i xs e all = incarnation_opening_at first i xs (instance_at i xs) refl e all
-
-up_opening_at : (first i : ℕ) (xs : List Instance) (o : Option Instance) → instance_at i xs ≡ o → AreFresh first xs → up_where o ≡ false
-unfolding instance_at
-up_opening_at first i xs None at all = refl
-up_opening_at first i xs (Some x) at all = (fresh_found first _ xs x all at).down
-
-unread_opening_at : (first c i : ℕ) (xs : List Instance) (o : Option Instance) → instance_at i xs ≡ o → AreFresh first xs → bytes_where c o ≡ None
-unfolding instance_at
-unread_opening_at first c i xs None at all = refl
-unread_opening_at first c i xs (Some x) at all = (fresh_found first _ xs x all at).unread c
-
-unread_opening : (first c i : ℕ) (xs : List Instance) → AreFresh first xs → bytes_at c i xs ≡ None
-unfolding bytes_at
-unread_opening first c i xs all = unread_opening_at first c i xs (instance_at i xs) refl all
-
-local_opening_at : (first : ℕ) (t : List ℕ) (i : ℕ) (xs : List Instance) (o : Option Instance) → instance_at i xs ≡ o → AreFresh first xs → local_where t o ≡ blank
-unfolding instance_at
-local_opening_at first t i xs None at all = refl
-local_opening_at first t i xs (Some x) at all = (fresh_found first _ xs x all at).local t
-
-local_opening : (first : ℕ) (t : List ℕ) (i : ℕ) (xs : List Instance) → AreFresh first xs → local_at t i xs ≡ blank
-unfolding local_at
-local_opening first t i xs all = local_opening_at first t i xs (instance_at i xs) refl all
-
-pub down_opening : (first i : ℕ) (xs : List Instance) → AreFresh first xs → IsDownAt i xs
-unfolding up_at
-down_opening first i xs all = record {
-  up = up_opening_at first i xs (instance_at i xs) refl all;
-  unread = λ c. unread_opening first c i xs all;
-  lost = λ t. local_opening first t i xs all;
+-- one that isn't in it stays shut
+pub stays_shut : (i : ℕ) (shelf : Shelf) (w : State) → AreNumbered w.instances
+    → is_among i (first_ring w.common.rings.items) ≡ false → OpensAt i shelf shelf w w
+stays_shut i shelf w numbered stranger = record {
+  others = record { numbered = numbered; others = λ j apart. refl };
+  opens = λ member. absurd (false≢true (sym stranger ∙ member));
+  stays = λ _. refl;
+  left = λ _. refl;
 }
 
-refused_opening_at : (first i : ℕ) (xs : List Instance) (o : Option Instance) → instance_at i xs ≡ o → AreFresh first xs → refused_where o ≡ []
-unfolding instance_at
-refused_opening_at first i xs None at all = refl
-refused_opening_at first i xs (Some x) at all = (fresh_found first _ xs x all at).refused
+-- ---- one instance on the way
 
-pub refused_opening : (first i : ℕ) (xs : List Instance) → AreFresh first xs → refused_at i xs ≡ []
-unfolding refused_at
-refused_opening first i xs all = refused_opening_at first i xs (instance_at i xs) refl all
+-- one that has opened its store, which has these rows of a tenant, or has yet to be opened, where that is in its store
+pub record IsReached (setting : Setting) (opened : Bool) (i : ℕ) (rows : List ℕ → List Item) (shelf : Shelf)
+    (x : Instance) : Type 0 where
+  pub up : x.up ≡ opened
+  pub incarnation : x.incarnation ≡ setting.first
+  pub known : x.known ≡ 0
+  pub refused : refused_in x ≡ []
+  pub unread : (c : ℕ) → bytes_in c x ≡ None
+  pub lost : opened ≡ false → (t : List ℕ) → local_in t x ≡ blank
+  pub has : opened ≡ true → shelf.is_clean ≡ true → (t : List ℕ)
+      → local_in t x ≡ opened_with (here_first setting t i) (rows t)
+  pub backed : IsBacked x shelf
 
-pub numbers_push : (xs : List Instance) (x : Instance) → map (λ (y : Instance). y.number) (xs ++ x ∷ []) ≡ map (λ (y : Instance). y.number) xs ++ x.number ∷ []
-numbers_push [] x = refl
-numbers_push (y ∷ xs) x = ap (λ ns. y.number ∷ ns) (numbers_push xs x)
-
--- ---- an instance that is started
-
-pub down_there : (i : ℕ) (xs : List Instance) (x : Instance) → instance_at i xs ≡ Some x → IsDownAt i xs → IsDown x
-down_there i xs x here down = record {
-  up = sym (up_here i xs x here) ∙ down.up;
-  unread = λ c. sym (bytes_here c i xs x here) ∙ down.unread c;
-  lost = λ t. sym (local_here t i xs x here) ∙ down.lost t;
+-- one that is down has nothing to be backed
+not_backed : (x : Instance) (shelf : Shelf) → x.up ≡ false → IsBacked x shelf
+not_backed x shelf down = record {
+  opens = λ up. absurd (true≢false (sym up ∙ down));
+  stores = λ up clean. absurd (true≢false (sym up ∙ down));
 }
 
-pub started_here : {A E : Type 0} (r : Result A E) (i moment : ℕ) (xs ys : List Instance) (x y : Instance) (old new : Shelf) → instance_at i xs ≡ Some x → Changed i xs ys y
-    → IsDownAt i xs → OnOk r (y.up ≡ true) → (new.is_clean ≡ true → OnOk r ((t : List ℕ) → local_in t y ≡ accepted moment (rows_of t old.pairs) blank)) → y.front ≡ x.front
-    → y.incarnation ≡ x.incarnation → OnOk r (y.cache.refused ≡ x.cache.refused) → OnOk r (IsStartedAt i moment xs ys old new)
-started_here (Err e) i moment xs ys x y old new here change down up held front incarnation refused = tt
-started_here (Ok a) i moment xs ys x y old new here change down up held front incarnation refused = record {
-  up = up_here i ys y change.here ∙ up;
-  held = λ clean t. local_here t i ys y change.here ∙ held clean t;
-  unread = λ c. bytes_here c i ys y change.here ∙ ap (bytes_of c) front ∙ sym (bytes_here c i xs x here) ∙ down.unread c;
-  incarnation = incarnation_here i ys y change.here ∙ incarnation ∙ sym (incarnation_here i xs x here);
-  refused = refused_here i ys y change.here ∙ refused ∙ sym (refused_here i xs x here);
+unused_reached : (setting : Setting) (i : ℕ) (rows : List ℕ → List Item) (shelf : Shelf) (x : Instance)
+    → IsUnused setting.first x → IsReached setting false i rows shelf x
+unused_reached setting i rows shelf x unused = record {
+  up = unused.down.up;
+  incarnation = unused.incarnation;
+  known = unused.known;
+  refused = unused.refused;
+  unread = unused.down.unread;
+  lost = λ down. unused.down.lost;
+  has = λ up. absurd (false≢true up);
+  backed = not_backed x shelf unused.down.up;
 }
 
--- all are down and read nothing: there is nothing to be backed
-pub none_backed : (xs : List Instance) (shelves : List Shelf) → length shelves ≡ 8 → ((i : ℕ) → IsDownAt i xs) → AreBacked xs shelves
-none_backed xs shelves size down = record {
+reached_down : (setting : Setting) (i : ℕ) (rows : List ℕ → List Item) (shelf : Shelf) (x : Instance)
+    → IsReached setting false i rows shelf x → IsDown x
+reached_down setting i rows shelf x reached =
+    record { up = reached.up; unread = reached.unread; lost = reached.lost refl }
+
+-- .. it opens its store
+opened_reached : (setting : Setting) (c : Circumstances) (i : ℕ) (rows : List ℕ → List Item) (old new : Shelf)
+    (x x' : Instance) → ((t : List ℕ) → here_on c x t ≡ here_first setting t i)
+    → ((t : List ℕ) → rows t ≡ rows_of t old.pairs) → IsReached setting false i rows old x → HasOpened c old new x x'
+    → IsReached setting true i rows new x'
+opened_reached setting c i rows old new x x' here has reached opens = record {
+  up = opens.starts.up;
+  incarnation = opens.stays.incarnation ∙ reached.incarnation;
+  known = opens.stays.known ∙ reached.known;
+  refused = opens.starts.refused ∙ reached.refused;
+  unread = λ c. ap (bytes_of c) opens.front ∙ reached.unread c;
+  lost = λ down. absurd (true≢false down);
+  has = λ up clean t.
+      opens.local clean t
+      ∙ ap (λ (h : Here). opened_with h (rows_of t old.pairs)) (here t)
+      ∙ ap (opened_with (here_first setting t i)) (sym (has t));
+  backed = opens.backed;
+}
+
+-- .. or stays down, whatever its store
+down_reached : (setting : Setting) (i : ℕ) (rows : List ℕ → List Item) (old new : Shelf) (x : Instance)
+    → IsReached setting false i rows old x → IsReached setting false i rows new x
+down_reached setting i rows old new x reached = record {
+  up = reached.up;
+  incarnation = reached.incarnation;
+  known = reached.known;
+  refused = reached.refused;
+  unread = reached.unread;
+  lost = reached.lost;
+  has = λ up. absurd (false≢true up);
+  backed = not_backed x new reached.up;
+}
+
+-- ---- all of them
+
+-- whether the instance of a number is in the ring, and had its turn among the first k
+abbrev pub is_open_by : (k : ℕ) → (ring : List ℕ) → ℕ → Bool
+is_open_by k ring i = nat_le i k && is_among i ring
+
+-- the first k instances had their turns
+pub record AreOpenedTo {R : Type 0} (g : Ghosts R) (setting : Setting) (k : ℕ) (old now : List R) (w : State)
+    : Type 0 where
+  pub ring : may_be_ring setting.ring ≡ true
+  pub order : in_order setting.ring ≡ setting.ring
+  pub begun : IsBegun setting w
+  pub numbered : AreNumbered w.instances
+  pub reached : (i : ℕ) → At i (IsReached setting (is_open_by k setting.ring i) i
+      (λ t. rows_in (shelves_of g old) t i) (shelf_at i (shelves_of g now))) w.instances
+  pub whole : EachIs (IsWhole (around_at w.clock w)) w.instances
+  pub size : length now ≡ 8
+  pub later : (p : ℕ) → k ≤ p → slice_get now p ≡ slice_get old p
+  pub clean : NeverCleaner (shelves_of g old) (shelves_of g now)
+  pub left : StayOutside setting.ring (shelves_of g old) (shelves_of g now)
+
+-- none had before the first
+pub none_opened : {R : Type 0} (g : Ghosts R) (setting : Setting) (old : List R) (w : State) → length old ≡ 8
+    → IsUnopened setting w → AreOpenedTo g setting 0 old old w
+none_opened g setting old w size unopened = record {
+  ring = unopened.ring;
+  order = unopened.order;
+  begun = unopened.begun;
+  numbered = unopened.numbered;
+  reached = λ i x found.
+      let exists : is_instance i ≡ true = exists_at i w.instances x unopened.numbered found in
+      let late : nat_le i 0 ≡ false = grind (arith, nat_tests) in
+      rw late (unused_reached setting i (λ t. rows_in (shelves_of g old) t i) (shelf_at i (shelves_of g old)) x
+      (unopened.unused i x found));
+  whole = unopened.whole;
   size = size;
-  each = λ i exists. backed_down i xs (shelf_at i shelves) (down i).up;
-  quiet = λ i is c. (down i).unread c;
+  later = λ p le. refl;
+  clean = λ i clean. clean;
+  left = λ i outside. refl;
 }
 
--- ---- a world as it is opened
+same_around : (w w' : State) → w'.clock ≡ w.clock → w'.common ≡ w.common
+    → incarnations_of w'.instances ≡ incarnations_of w.instances → around_at w'.clock w' ≡ around_at w.clock w
+same_around w w' clock common incarnations =
+    ap (λ m. around m w'.common (incarnations_of w'.instances)) clock
+    ∙ ap (λ (c : Common). around w.clock c (incarnations_of w'.instances)) common
+    ∙ ap (around w.clock w.common) incarnations
 
--- every instance but the one that serves is down
-module _ (origin : Origin) (rows : List ℕ → ℕ → List Item) (xs ys : List Instance) (old new : Shelf) (down : (i : ℕ) → IsDownAt i xs)
-    (first : (i : ℕ) → incarnation_at i xs ≡ (if is_instance i then origin.first else 0)) (starts : IsStartedAt 1 0 xs ys old new) (others : SameElsewhere 1 xs ys)
-    (clean : new.is_clean ≡ true) (has : (t : List ℕ) → rows t 1 ≡ rows_of t old.pairs) where
-  up_open : (i : ℕ) → up_at i ys ≡ serves i
-  unfolding up_at
-  up_open i = elim (cases_Bool (i == 1)) [
-    | inl one ↦ let is : i ≡ 1 = grind (arith, nat_tests) in rw is starts.up
-    | inr apart ↦ rw apart (ap up_where (others i apart) ∙ (down i).up)
+-- what is known where the one of number i has its turn
+module _ {R : Type 0} (g : Ghosts R) (setting : Setting) (k i : ℕ) (old now : List R) (w : State) (next : i ≡ k + 1)
+    (low : k < 8) (before : AreOpenedTo g setting k old now w) where
+  abbrev rows : List ℕ → List Item
+  rows t = rows_in (shelves_of g old) t i
+
+  exists : is_instance i ≡ true
+  exists = grind (arith, nat_tests)
+
+  incarnations : incarnations_of w.instances ≡ map (λ (j : ℕ). setting.first) all_instances
+  incarnations =
+      all_are (λ x. x.incarnation) setting.first w.instances before.numbered
+      (λ j x found. (before.reached j x found).incarnation)
+
+  here : (x : Instance) → instance_at i w.instances ≡ Some x → (t : List ℕ)
+      → here_on (around_at w.clock w) x t ≡ here_first setting t i
+  here x found t =
+      let reached = before.reached i x found in
+      same_here setting (around_at w.clock w) x t i exists (number_of i w.instances x found) reached.incarnation
+      reached.known before.begun.clock before.begun.limits
+      (before.begun.rings ∙ ap (λ (ring : List ℕ). ring ∷ []) (sym before.order)) before.begun.first incarnations
+
+  pub ring_first : first_ring w.common.rings.items ≡ setting.ring
+  ring_first = only w.common.rings.items before.begun.rings
+    where
+      only : (rings : List Members) → map (λ (ring : Members). ring.instances) rings ≡ setting.ring ∷ []
+          → first_ring rings ≡ setting.ring
+      only [] e = absurd cc
+      only (ring ∷ rings) e = cc
+
+  -- it has yet to be opened
+  reached_at : (x : Instance) → instance_at i w.instances ≡ Some x
+      → IsReached setting false i rows (shelf_at i (shelves_of g now)) x
+  reached_at x found =
+      let late : nat_le i k ≡ false = grind (arith, nat_tests) in
+      rw late at (before.reached i x found)
+
+  pub down_at : At i IsDown w.instances
+  down_at x found = reached_down setting i rows (shelf_at i (shelves_of g now)) x (reached_at x found)
+
+  -- .. and then it was, where it is in the ring
+  module _ (x y : R) (w' : State) (found : slice_get now k ≡ Some x) (same : IsSameBesideInstances w w')
+      (turn : OpensAt i (shelf_of g x) (shelf_of g y) w w') (stays : g.is_clean y ≡ true → g.is_clean x ≡ true) where
+    within : k < length now
+    within = omega (arith, before.size)
+
+    shelf_before : shelf_at i (shelves_of g now) ≡ shelf_of g x
+    shelf_before = shelf_is (shelf_of g) now k i (sym next) x found
+
+    shelf_first : shelf_at i (shelves_of g old) ≡ shelf_of g x
+    shelf_first = shelf_is (shelf_of g) old k i (sym next) x (sym (before.later k (omega arith)) ∙ found)
+
+    shelf_after : shelf_at i (shelves_of g (slice_set now k y)) ≡ shelf_of g y
+    shelf_after = shelf_put (shelf_of g) now k i (sym next) y within
+
+    begun : IsBegun setting w'
+    begun = record {
+      clock = same.clock ∙ before.begun.clock;
+      service_key = ap (λ (c : Common). c.service_key) same.common ∙ before.begun.service_key;
+      limits = ap (λ (c : Common). c.limits) same.common ∙ before.begun.limits;
+      rings = ap (λ (c : Common). map (λ (ring : Members). ring.instances) c.rings.items) same.common
+          ∙ before.begun.rings;
+      first = ap (λ (c : Common). c.first) same.common ∙ before.begun.first;
+      messages = same.messages ∙ before.begun.messages;
+      outputs = same.outputs ∙ before.begun.outputs;
+      faults = same.faults ∙ before.begun.faults;
+    }
+
+    -- the instance is there before, too
+    was_there : (P : Type 0) → ((x₀ : Instance) → instance_at i w.instances ≡ Some x₀ → P) → P
+    was_there P go = by (instance_at i w.instances) refl
+      where
+        by : (o : Option Instance) → instance_at i w.instances ≡ o → P
+        by None none = absurd (false≢true (sym (missing_at i w.instances before.numbered none) ∙ exists))
+        by (Some x₀) at = go x₀ at
+
+    member_now : is_open_by (k + 1) setting.ring i ≡ is_among i setting.ring
+    member_now = let early : nat_le i (k + 1) ≡ true = grind (arith, nat_tests) in rw early refl
+
+    own : (member : Bool) → is_among i setting.ring ≡ member
+        → At i (IsReached setting member i rows (shelf_of g y)) w'.instances
+    own false stranger x' found' =
+        let e : w'.instances ≡ w.instances = turn.stays (ap (is_among i) ring_first ∙ stranger) in
+        down_reached setting i rows (shelf_at i (shelves_of g now)) (shelf_of g y) x'
+        (reached_at x' (sym (ap (instance_at i) e) ∙ found'))
+    own true member x' found' =
+        was_there (IsReached setting true i rows (shelf_of g y) x')
+        (λ x₀ found₀. opened_reached setting (around_at w.clock w) i rows (shelf_of g x) (shelf_of g y) x₀ x'
+        (here x₀ found₀)
+        (λ t. ap (λ (s : Shelf). rows_of t s.pairs) shelf_first)
+        (subst (λ (s : Shelf). IsReached setting false i rows s x₀) shelf_before (reached_at x₀ found₀))
+        (turn.opens (ap (is_among i) ring_first ∙ member) x₀ x' found₀ found'))
+
+    reached : (j : ℕ) → At j (IsReached setting (is_open_by (k + 1) setting.ring j) j
+        (λ t. rows_in (shelves_of g old) t j) (shelf_at j (shelves_of g (slice_set now k y)))) w'.instances
+    reached j x' found' = elim (cases_Bool (j == i)) [
+      | inl here ↦
+          let e : i ≡ j = sym (eqb-true j i here) in
+          subst (λ m. At m (IsReached setting (is_open_by (k + 1) setting.ring m) m
+          (λ t. rows_in (shelves_of g old) t m) (shelf_at m (shelves_of g (slice_set now k y)))) w'.instances) e
+          (λ x₁ found₁.
+          subst (λ b. IsReached setting b i rows (shelf_at i (shelves_of g (slice_set now k y))) x₁) (sym member_now)
+          (subst (λ s. IsReached setting (is_among i setting.ring) i rows s x₁) (sym shelf_after)
+          (own (is_among i setting.ring) refl x₁ found₁)))
+          x' found'
+      | inr apart ↦
+          let old_test : nat_le j (k + 1) ≡ nat_le j k = same_test j apart in
+          let stay : shelf_at j (shelves_of g (slice_set now k y)) ≡ shelf_at j (shelves_of g now) =
+          shelf_other (shelf_of g) now k i (sym next) j y within apart in
+          subst (λ b. IsReached setting (b && is_among j setting.ring) j (λ t. rows_in (shelves_of g old) t j)
+          (shelf_at j (shelves_of g (slice_set now k y))) x') (sym old_test)
+          (subst (λ s. IsReached setting (is_open_by k setting.ring j) j (λ t. rows_in (shelves_of g old) t j) s x')
+          (sym stay)
+          (before.reached j x' (sym (turn.others.others j apart) ∙ found')))
+    ]
+      where
+        same_test : (j : ℕ) → (j == i) ≡ false → nat_le j (k + 1) ≡ nat_le j k
+        same_test j apart = elim (cases_Bool (nat_le j k)) [
+          | inl le ↦ let more : nat_le j (k + 1) ≡ true = grind (arith, nat_tests) in more ∙ sym le
+          | inr gt ↦ let more : nat_le j (k + 1) ≡ false = grind (arith, nat_tests) in more ∙ sym gt
+        ]
+
+    around_now : around_at w'.clock w' ≡ around_at w.clock w
+    around_now =
+        same_around w w' same.clock same.common
+        (all_are (λ x. x.incarnation) setting.first w'.instances turn.others.numbered
+        (λ j x' found'. (reached j x' found').incarnation) ∙ sym incarnations)
+
+    own_whole : (member : Bool) → is_among i setting.ring ≡ member → At i (IsWhole (around_at w.clock w)) w'.instances
+    own_whole false stranger x' found' =
+        let e : w'.instances ≡ w.instances = turn.stays (ap (is_among i) ring_first ∙ stranger) in
+        before.whole i x' (sym (ap (instance_at i) e) ∙ found')
+    own_whole true member x' found' =
+        was_there (IsWhole (around_at w.clock w) x')
+        (λ x₀ found₀. (turn.opens (ap (is_among i) ring_first ∙ member) x₀ x' found₀ found').whole)
+
+    whole : EachIs (IsWhole (around_at w'.clock w')) w'.instances
+    whole j x' found' = subst (λ c. IsWhole c x') (sym around_now) (elim (cases_Bool (j == i)) [
+      | inl here ↦
+          own_whole (is_among i setting.ring) refl x'
+          (ap (λ m. instance_at m w'.instances) (sym (eqb-true j i here)) ∙ found')
+      | inr apart ↦ before.whole j x' (sym (turn.others.others j apart) ∙ found')
+    ])
+
+    later : (p : ℕ) → k + 1 ≤ p → slice_get (slice_set now k y) p ≡ slice_get old p
+    later p le =
+        let apart : nat_eq p k ≡ false = grind (arith, nat_tests) in
+        set_get now k p y within ∙ rw apart (before.later p (omega (arith, le)))
+
+    clean : NeverCleaner (shelves_of g old) (shelves_of g (slice_set now k y))
+    clean j is = before.clean j (cleaner_put (shelf_of g) now k i (sym next) x y within found stays j is)
+
+    left : StayOutside setting.ring (shelves_of g old) (shelves_of g (slice_set now k y))
+    left j outside = elim (cases_Bool (j == i)) [
+      | inl here ↦
+          let e : i ≡ j = sym (eqb-true j i here) in
+          subst (λ m. shelf_at m (shelves_of g (slice_set now k y)) ≡ shelf_at m (shelves_of g old)) e
+          (shelf_after
+          ∙ turn.left (ap (is_among i) ring_first ∙ ap (λ m. is_among m setting.ring) e ∙ outside)
+          ∙ sym shelf_first)
+      | inr apart ↦ shelf_other (shelf_of g) now k i (sym next) j y within apart ∙ before.left j outside
+    ]
+
+    pub one_opened : AreOpenedTo g setting (k + 1) old (slice_set now k y) w'
+    one_opened = record {
+      ring = before.ring;
+      order = before.order;
+      begun = begun;
+      numbered = turn.others.numbered;
+      reached = reached;
+      whole = whole;
+      size = length-set now k y ∙ before.size;
+      later = later;
+      clean = clean;
+      left = left;
+    }
+
+-- ---- a turn, as the code goes on to it
+
+-- the number of the instance whose turn it is
+pub turn_number : (k i : ℕ) (o : Option ℕ) → k < 8
+    → o ≡ (if is_instance (get_or all_instances k 0) then Some (get_or all_instances k 0) else None) → o ≡ Some i
+    → i ≡ k + 1
+turn_number k i o low is some = (made (get_or all_instances k 0) i (sym some ∙ is)).0 ∙ number_at k 0 low
+
+module _ {R : Type 0} (g : Ghosts R) (setting : Setting) (k p i : ℕ) (old now : List R) (w : State) (place : p + 1 ≡ i)
+    (next : i ≡ k + 1) (low : k < 8) (before : AreOpenedTo g setting k old now w) (y d : R) where
+  -- its store
+  abbrev x : R
+  x = get_or now p d
+
+  at_index : p ≡ k
+  at_index = omega (arith, place, next)
+
+  pub turn_found : slice_get now k ≡ Some x
+  turn_found =
+      subst (λ q. slice_get now q ≡ Some x) at_index
+      (slice_get-get_or now p d (omega (arith, before.size, at_index)))
+
+  pub turn_taken : (w' : State) → IsSameBesideInstances w w' → OpensAt i (shelf_of g x) (shelf_of g y) w w'
+      → (g.is_clean y ≡ true → g.is_clean x ≡ true) → AreOpenedTo g setting (k + 1) old (slice_set now p y) w'
+  turn_taken w' same turn stays =
+      subst (λ q. AreOpenedTo g setting (k + 1) old (slice_set now q y) w') (sym at_index)
+      (one_opened g setting k i old now w next low before x y w' turn_found same turn stays)
+
+  -- whether it went well or not
+  pub turn_clean : (g.is_clean y ≡ true → g.is_clean x ≡ true)
+      → NeverCleaner (shelves_of g old) (shelves_of g (slice_set now p y))
+  turn_clean stays j is =
+      before.clean j (cleaner_put (shelf_of g) now k i (sym next) x y (omega (arith, before.size)) turn_found stays j
+      (subst (λ q. (shelf_at j (shelves_of g (slice_set now q y))).is_clean ≡ true) at_index is))
+
+  -- where it didn't, it is in the ring
+  pub turn_left : is_among i (first_ring w.common.rings.items) ≡ true
+      → StayOutside setting.ring (shelves_of g old) (shelves_of g (slice_set now p y))
+  turn_left member j outside = elim (cases_Bool (j == i)) [
+    | inl here ↦
+        let e : i ≡ j = sym (eqb-true j i here) in
+        absurd (true≢false (sym member ∙ ap (is_among i) (ring_first g setting k i old now w next low before)
+        ∙ ap (λ m. is_among m setting.ring) e ∙ outside))
+    | inr apart ↦
+        subst (λ q. shelf_at j (shelves_of g (slice_set now q y)) ≡ shelf_at j (shelves_of g old)) (sym at_index)
+        (shelf_other (shelf_of g) now k i (sym next) j y (omega (arith, before.size)) apart ∙ before.left j outside)
   ]
 
-  incarnation_open : (i : ℕ) → incarnation_at i ys ≡ (if is_instance i then origin.first else 0)
-  unfolding incarnation_at
-  incarnation_open i = elim (cases_Bool (i == 1)) [
-    | inl one ↦ let is : i ≡ 1 = grind (arith, nat_tests) in rw is (starts.incarnation ∙ first 1)
-    | inr apart ↦ ap incarnation_where (others i apart) ∙ first i
-  ]
-
-  pub roster_open : IsSameRoster (roster_of ys) (opened_roster origin)
-  roster_open = record { up = up_open; incarnation = incarnation_open }
-
-  pub unread_open : (c i : ℕ) → bytes_at c i ys ≡ None
-  unfolding bytes_at
-  unread_open c i = elim (cases_Bool (i == 1)) [
-    | inl one ↦ let is : i ≡ 1 = grind (arith, nat_tests) in rw is (starts.unread c)
-    | inr apart ↦ ap (bytes_where c) (others i apart) ∙ (down i).unread c
-  ]
-
-  pub local_open : (t : List ℕ) (i : ℕ) → local_at t i ys ≡ opened_at (rows t) i
-  unfolding local_at
-  local_open t i = elim (cases_Bool (i == 1)) [
-    | inl one ↦ let is : i ≡ 1 = grind (arith, nat_tests) in rw is (starts.held clean t ∙ ap (λ xs. accepted 0 xs blank) (sym (has t)))
-    | inr apart ↦ rw apart (ap (local_where t) (others i apart) ∙ (down i).lost t)
-  ]
-
-  pub refused_open : ((i : ℕ) → refused_at i xs ≡ []) → (i : ℕ) → refused_at i ys ≡ []
-  unfolding refused_at
-  refused_open none i = elim (cases_Bool (i == 1)) [
-    | inl one ↦ let is : i ≡ 1 = grind (arith, nat_tests) in rw is (starts.refused ∙ none 1)
-    | inr apart ↦ ap refused_where (others i apart) ∙ none i
-  ]
-
-pub follows_opening : (origin : Origin) (w : State) → IsSameRoster (roster_of w.instances) (opened_roster origin) →
-    ((c i : ℕ) → bytes_at c i w.instances ≡ None) → Follows (first_watch origin) w
-follows_opening origin w roster unread = record { reading = λ c i. unread c i; roster = roster }
-
-pub stands_opening : (origin : Origin) (rows : ℕ → List Item) (t : List ℕ) (w : State) → w.clock ≡ 0 → w.limits ≡ [] → w.service_key ≡ origin.service_key →
-    IsSameRoster (roster_of w.instances) (opened_roster origin) → ((i : ℕ) → local_at t i w.instances ≡ opened_at rows i) → Stands t w (opened origin rows t)
-unfolding limits_of
-stands_opening origin rows t w clock limits service_key roster local =
-    record { tenant = refl; clock = clock; limits = rw limits refl; service_key = service_key; roster = roster; local = local }
-
--- why the store of an instance wasn't opened
-pub fails_at : {R : Type 0} (g : Ghosts R) (stores : List R) (p i : ℕ) (x y : R) → suc p ≡ i → slice_get stores p ≡ Some x → (r : Result (Unit {0}) (Failure StoreRefusal))
-    → (g.is_clean y ≡ true → IfErr r (IsJudged (g.is_foreign x) (MayRefuse (g.medium x) (g.medium y)))) → IfErr r (FailsAt g i stores)
-fails_at g stores p i x y next found (Ok done) fails = tt
-fails_at g stores p i x y next found (Err why) fails = (x, subst (λ k. store_at k stores ≡ Some x) next found, y, fails)
-
-pub fails_to_open : {R : Type 0} (g : Ghosts R) (stores : List R) (i : ℕ) (why : Failure StoreRefusal) → serves i ≡ true → FailsAt g i stores why
-    → FailsToOpen g stores (refusal_for i why)
-fails_to_open g stores i (failure.Refused refusal) serving fails = (serving, fails)
-fails_to_open g stores i failure.OutOfMemory serving fails = tt
+  -- the store is as it was given
+  pub turn_given : slice_get old k ≡ Some x
+  turn_given = sym (before.later k (omega arith)) ∙ turn_found

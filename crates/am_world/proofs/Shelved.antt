@@ -1,135 +1,136 @@
--- What the stores have beside their instances, as one of each changes.
-use Rattle.std.proofs.Common.{◌≡◌, ◌∙◌, inl, inr, ℕ, ◌+◌, ◌==◌, ◌<◌, zero, suc, get_or, nat_eq, Bool, true, false}
-use Rattle.std.proofs.Common.{List, [], length, map, slice_set, Option, Some, None, IsSome, option_map, slice_get}
-use Rattle.std.proofs.Common.{refl, sym, ap, arith, subst, if◌then◌else◌}
+-- What stores have beside the instances whose stores they are, as one instance and its store change.
+use Rattle.std.proofs.Common.{◌≡◌, ◌∙◌, inl, inr, ℕ, ◌+◌, ◌==◌, ◌<◌, zero, suc, nat_eq, true, false, List, [], ◌∷◌}
+use Rattle.std.proofs.Common.{length, map, slice_get, slice_set, Option, Some, None, option_map, refl, sym, ap, arith}
+use Rattle.std.proofs.Common.{subst, if◌then◌else◌}
 use Rattle.std.proofs.Math.ListN.{length-set}
-use Rattle.std.proofs.lemmas.Bool.{cases_Bool, true≢false}
+use Rattle.std.proofs.lemmas.Bool.{cases_Bool, false≢true, true≢false}
 use Rattle.std.proofs.lemmas.Bool.Decides.{nat_tests}
 use Rattle.std.proofs.lemmas.List.{length-map}
 use Rattle.std.proofs.lemmas.Option.{slice_get-map}
-use Rattle.am_ring.specs.Instances.{all_instances, is_instance}
+use Rattle.am_cluster.specs.Events.{Event}
+use Rattle.am_item.specs.declared.fault.Fault.{Fault}
+use Rattle.am_item.specs.declared.fault.Fault.TheVariants.{StoreRefused}
+use Rattle.am_item.specs.declared.item.Item.{Item}
 use Rattle.am_node.specs.Local.{Local}
-use Rattle.am_rows.specs.Rows.{stored_in}
-use Rattle.am_world.specs.Shelves.{AreBacked, AreClean, AreQuiet, IsBackedAt, NeverCleaner, shelf_at, shelf_where}
-use Rattle.am_instance.specs.Shelves.{Shelf}
-use Rattle.am_world.specs.Places.{IsDownAt, SameElsewhere, bytes_at, bytes_where, local_at, local_where, up_at}
-use Rattle.am_world.specs.Places.{up_where}
+use Rattle.am_node.specs.Storing.{AreRowsOf, LeavesStore}
+use Rattle.am_rows.specs.Refusing.{Medium}
+use Rattle.am_rows.specs.Rows.{rows_of, stored_in}
+use Rattle.am_instance.specs.Instance.{local_in, node_local_in}
+use Rattle.am_instance.specs.Leaving.{LeavesShelf, stop_for}
+use Rattle.am_instance.specs.Shelves.{IsBacked, Shelf}
 use Rattle.am_instance.specs.declared.instance.Instance.{Instance}
-use Rattle.am_limit.specs.declared.limits.Limits.{Limits}
-use Rattle.am_instance.specs.declared.output.Output.{Output}
-use Rattle.am_world.specs.Ticks.{StopsAt, TicksAt}
-use Rattle.am_instance.specs.Ticks.{Either}
-use Rattle.am_world.proofs.InstancesLemmas.{set_get}
+use Rattle.am_site.specs.Locals.{local_of as local_in_site}
+use Rattle.am_world.specs.Leaving.{LeavesShelves, RejectedBy, stop_at, stored_after, stored_of, stored_where}
+use Rattle.am_world.specs.Leaving.{writes}
+use Rattle.am_world.specs.Places.{At, SameElsewhere, cause_at, cause_where, instance_at, up_at, up_where}
+use Rattle.am_world.specs.Shelves.{AreBacked, AreBackedBut, AreClean, NeverCleaner, shelf_at, shelf_where}
+use Rattle.am_world.specs.declared.state.State.{State}
 
-module _ {R : Type 0} (f : R → Shelf) (xs : List R) where
-  pub shelf_found : (p : ℕ) (x : R) → slice_get xs p ≡ Some x → shelf_at (suc p) (map f xs) ≡ f x
-  unfolding shelf_at
-  shelf_found p x found = ap shelf_where (slice_get-map f xs p ∙ ap (option_map f) found)
+-- ---- the store of a number, at its place
 
-  shelf_set : (p : ℕ) (y : R) → p < length xs → shelf_at (suc p) (map f (slice_set xs p y)) ≡ f y
-  unfolding shelf_at
-  shelf_set p y less =
-      let same : nat_eq p p ≡ true = grind (arith, nat_tests) in
-      let got : slice_get (slice_set xs p y) p ≡ Some y = set_get xs p p y less ∙ rw same refl in
-      ap shelf_where (slice_get-map f (slice_set xs p y) p ∙ ap (option_map f) got)
+same_step : (q p : ℕ) → nat_eq q p ≡ nat_eq (suc q) (suc p)
+same_step q p = elim (cases_Bool (nat_eq q p)) [
+  | inl e ↦ let next : nat_eq (suc q) (suc p) ≡ true = grind (arith, nat_tests) in e ∙ sym next
+  | inr e ↦ let next : nat_eq (suc q) (suc p) ≡ false = grind (arith, nat_tests) in e ∙ sym next
+]
 
-  pub shelf_other : (p j : ℕ) (y : R) → p < length xs → (j == suc p) ≡ false → shelf_at j (map f (slice_set xs p y)) ≡ shelf_at j (map f xs)
+pub set_get : {A : Type 0} (xs : List A) (p q : ℕ) (y : A) → p < length xs
+    → slice_get (slice_set xs p y) q ≡ (if nat_eq q p then Some y else slice_get xs q)
+set_get [] p q y less = absurd (omega arith)
+set_get (x ∷ xs) zero zero y less = refl
+set_get (x ∷ xs) zero (suc q) y less = let apart : nat_eq (suc q) 0 ≡ false = grind (arith, nat_tests) in rw apart refl
+set_get (x ∷ xs) (suc p) zero y less = let apart : nat_eq 0 (suc p) ≡ false = grind (arith, nat_tests) in rw apart refl
+set_get (x ∷ xs) (suc p) (suc q) y less =
+    set_get xs p q y (omega arith) ∙ ap (λ b. if b then Some y else slice_get xs q) (same_step q p)
+
+module _ {R : Type 0} (f : R → Shelf) (stores : List R) where
+  found_at : (p : ℕ) (x : R) → slice_get stores p ≡ Some x → shelf_at (suc p) (map f stores) ≡ f x
   unfolding shelf_at
-  shelf_other p zero y less apart = refl
-  shelf_other p (suc q) y less apart =
+  found_at p x found = ap shelf_where (slice_get-map f stores p ∙ ap (option_map f) found)
+
+  put_at : (p : ℕ) (y : R) → p < length stores → shelf_at (suc p) (map f (slice_set stores p y)) ≡ f y
+  unfolding shelf_at
+  put_at p y less =
+      let itself : nat_eq p p ≡ true = grind (arith, nat_tests) in
+      let got : slice_get (slice_set stores p y) p ≡ Some y = set_get stores p p y less ∙ rw itself refl in
+      ap shelf_where (slice_get-map f (slice_set stores p y) p ∙ ap (option_map f) got)
+
+  other_at : (p j : ℕ) (y : R) → p < length stores → (j == suc p) ≡ false
+      → shelf_at j (map f (slice_set stores p y)) ≡ shelf_at j (map f stores)
+  unfolding shelf_at
+  other_at p zero y less apart = refl
+  other_at p (suc q) y less apart =
       let other : nat_eq q p ≡ false = grind (arith, nat_tests) in
-      let got : slice_get (slice_set xs p y) q ≡ slice_get xs q = set_get xs p q y less ∙ rw other refl in
-      ap shelf_where (slice_get-map f (slice_set xs p y) q ∙ ap (option_map f) got ∙ sym (slice_get-map f xs q))
+      let got : slice_get (slice_set stores p y) q ≡ slice_get stores q = set_get stores p q y less ∙ rw other refl in
+      ap shelf_where (slice_get-map f (slice_set stores p y) q ∙ ap (option_map f) got ∙ sym (slice_get-map f stores q))
 
-bytes_elsewhere : (i j c : ℕ) (xs ys : List Instance) → SameElsewhere i xs ys → (j == i) ≡ false → bytes_at c j ys ≡ bytes_at c j xs
-unfolding bytes_at
-bytes_elsewhere i j c xs ys others apart = ap (bytes_where c) (others j apart)
+-- ---- by number
 
-up_elsewhere : (i j : ℕ) (xs ys : List Instance) → SameElsewhere i xs ys → (j == i) ≡ false → up_at j ys ≡ up_at j xs
+pub up_same : (i : ℕ) (xs ys : List Instance) → instance_at i ys ≡ instance_at i xs → up_at i ys ≡ up_at i xs
 unfolding up_at
-up_elsewhere i j xs ys others apart = ap up_where (others j apart)
+up_same i xs ys is = ap up_where is
 
-local_elsewhere : (i j : ℕ) (t : List ℕ) (xs ys : List Instance) → SameElsewhere i xs ys → (j == i) ≡ false → local_at t j ys ≡ local_at t j xs
-unfolding local_at
-local_elsewhere i j t xs ys others apart = ap (local_where t) (others j apart)
+pub stop_up : (i : ℕ) (xs : List Instance) (fault : Fault) → up_at i xs ≡ true → stop_at i xs ≡ Some fault → ⊥
+stop_up i xs fault up is =
+    let none : stop_for true (cause_at i xs) ≡ Some fault = sym (ap (λ b. stop_for b (cause_at i xs)) up) ∙ is in
+    let clash = none in cc
 
--- who reads is up
-pub reads_up : (xs : List Instance) (shelves : List Shelf) (c i : ℕ) → AreBacked xs shelves → IsSome (bytes_at c i xs) → up_at i xs ≡ true
-reads_up xs shelves c i backed reads = elim (cases_Bool (up_at i xs)) [
-  | inl up ↦ up
-  | inr down ↦ absurd (let none = backed.quiet i down c in let some = subst IsSome none reads in cc)
+pub stop_down : (i : ℕ) (xs : List Instance) → up_at i xs ≡ false → stop_at i xs ≡ cause_at i xs
+stop_down i xs down = ap (λ b. stop_for b (cause_at i xs)) down
+
+pub stop_same : (i : ℕ) (xs ys : List Instance) → instance_at i ys ≡ instance_at i xs → stop_at i ys ≡ stop_at i xs
+unfolding up_at cause_at
+stop_same i xs ys is = ap (λ o. stop_for (up_where o) (cause_where o)) is
+
+pub stop_here : (i : ℕ) (xs : List Instance) (x : Instance) → instance_at i xs ≡ Some x
+    → stop_at i xs ≡ stop_for x.up x.cause
+unfolding up_at cause_at
+stop_here i xs x here = ap (λ o. stop_for (up_where o) (cause_where o)) here
+
+pub stored_same : (w w' : State) (i : ℕ) (t : List ℕ) → instance_at i w'.instances ≡ instance_at i w.instances
+    → stored_of w' i t ≡ stored_of w i t
+unfolding stored_of
+stored_same w w' i t is = ap (stored_where t) is
+
+-- who is up still wasn't refused by its store
+pub unrefused_up : (xs ys : List Instance) → ((i : ℕ) → up_at i ys ≡ up_at i xs) → (j : ℕ) → up_at j xs ≡ true
+    → stop_at j ys ≡ Some StoreRefused → ⊥
+unrefused_up xs ys same j up is = stop_up j ys StoreRefused (same j ∙ up) is
+
+-- .. nor is anybody where one instance stopped for another fault
+pub unrefused_but : (i : ℕ) (xs ys : List Instance) → SameElsewhere i xs ys → (stop_at i ys ≡ Some StoreRefused → ⊥)
+    → (j : ℕ) → up_at j xs ≡ true → stop_at j ys ≡ Some StoreRefused → ⊥
+unrefused_but i xs ys others here j up is = elim (cases_Bool (j == i)) [
+  | inl same ↦ let one : j ≡ i = grind (arith, nat_tests) in here (sym (ap (λ k. stop_at k ys) one) ∙ is)
+  | inr apart ↦ stop_up j xs StoreRefused up (sym (stop_same j xs ys (others j apart)) ∙ is)
 ]
 
--- an instance is the same, and so is its store
-backed_again : (i j : ℕ) (xs ys : List Instance) (shelf : Shelf) → SameElsewhere i xs ys → (j == i) ≡ false → IsBackedAt j xs shelf → IsBackedAt j ys shelf
-backed_again i j xs ys shelf others apart backed = record {
-  opens = λ up. backed.opens (sym (up_elsewhere i j xs ys others apart) ∙ up);
-  stores = λ up clean t.
-      backed.stores (sym (up_elsewhere i j xs ys others apart) ∙ up) clean t ∙ sym (ap (λ (l : Local). stored_in l.held) (local_elsewhere i j t xs ys others apart));
+-- ---- what is left, where the same is said otherwise
+
+rows_as : (a b : List ℕ → Local) (pairs : List (List ℕ × Item)) → ((t : List ℕ) → a t ≡ b t) → AreRowsOf a pairs
+    → AreRowsOf b pairs
+rows_as a b pairs same rows t = rows t ∙ ap (λ (l : Local). stored_in l.held) (same t)
+
+pub left_as : (a b c d : List ℕ → Local) (P Q : Type 0) (fault : Option Fault) (old new : Medium)
+    (pairs : List (List ℕ × Item)) → ((t : List ℕ) → a t ≡ b t) → ((t : List ℕ) → c t ≡ d t) → (P → Q)
+    → LeavesStore a c P fault old new pairs → LeavesStore b d Q fault old new pairs
+left_as a b c d P Q fault old new pairs one other reject left = record {
+  rows = λ still. elim (left.rows still) [
+    | inl before ↦ inl (rows_as a b pairs one before)
+    | inr after ↦ inr (rows_as c d pairs other after)
+  ];
+  cause = λ is. elim (left.cause is) [ inl refuses ↦ inl refuses | inr rejected ↦ inr (reject rejected) ];
 }
 
-quiets : (i : ℕ) (xs ys : List Instance) → AreQuiet xs → SameElsewhere i xs ys → (up_at i ys ≡ false → (c : ℕ) → bytes_at c i ys ≡ None) → AreQuiet ys
-quiets i xs ys quiet others here j down c = elim (cases_Bool (j == i)) [
-  | inl same ↦
-      let is : i ≡ j = grind (arith, nat_tests) in
-      subst (λ k. bytes_at c k ys ≡ None) is (here (ap (λ k. up_at k ys) is ∙ down) c)
-  | inr apart ↦ bytes_elsewhere i j c xs ys others apart ∙ quiet j (sym (up_elsewhere i j xs ys others apart) ∙ down) c
-]
-
--- one instance and its store changed
-backed_one : {R : Type 0} (f : R → Shelf) (stores : List R) (xs ys : List Instance) (p : ℕ) (y : R) → AreBacked xs (map f stores) → p < length stores
-    → SameElsewhere (suc p) xs ys → IsBackedAt (suc p) ys (f y) → (up_at (suc p) ys ≡ false → (c : ℕ) → bytes_at c (suc p) ys ≡ None)
-    → AreBacked ys (map f (slice_set stores p y))
-backed_one {R} f stores xs ys p y backed less others here quiet = record {
-  size = length-map (slice_set stores p y) f ∙ length-set stores p y ∙ sym (length-map stores f) ∙ backed.size;
-  each = each;
-  quiet = quiets (suc p) xs ys backed.quiet others quiet;
+pub left_alone : (before after : List ℕ → Local) (Rejected : Type 0) (fault : Option Fault) (shelf : Shelf)
+    → AreRowsOf before shelf.pairs → (fault ≡ Some StoreRefused → ⊥)
+    → LeavesStore before after Rejected fault shelf.medium shelf.medium shelf.pairs
+left_alone before after Rejected fault shelf rows unrefused = record {
+  rows = λ still. inl rows;
+  cause = λ is. absurd (unrefused is);
 }
-  where
-    each : (j : ℕ) → is_instance j ≡ true → IsBackedAt j ys (shelf_at j (map f (slice_set stores p y)))
-    each j exists = elim (cases_Bool (j == suc p)) [
-      | inl same ↦
-          let is : suc p ≡ j = grind (arith, nat_tests) in
-          subst (λ k. IsBackedAt k ys (shelf_at k (map f (slice_set stores p y)))) is
-          (subst (λ (s : Shelf). IsBackedAt (suc p) ys s) (sym (shelf_set f stores p y less)) here)
-      | inr apart ↦
-          subst (λ (s : Shelf). IsBackedAt j ys s) (sym (shelf_other f stores p j y less apart)) (backed_again (suc p) j xs ys _ others apart (backed.each j exists))
-    ]
 
--- an instance that is down has nothing to be backed
-pub backed_down : (i : ℕ) (ys : List Instance) (shelf : Shelf) → up_at i ys ≡ false → IsBackedAt i ys shelf
-backed_down i ys shelf down = record { opens = λ up. absurd (true≢false (sym up ∙ down)); stores = λ up clean. absurd (true≢false (sym up ∙ down)) }
-
--- .. of the number behind the place
-pub backed_at : {R : Type 0} (f : R → Shelf) (stores : List R) (xs ys : List Instance) (p i : ℕ) (y : R) → suc p ≡ i → AreBacked xs (map f stores) → p < length stores
-    → SameElsewhere i xs ys → IsBackedAt i ys (f y) → (up_at i ys ≡ false → (c : ℕ) → bytes_at c i ys ≡ None)
-    → AreBacked ys (map f (slice_set stores p y))
-backed_at f stores xs ys p i y next backed less others here quiet =
-    backed_one f stores xs ys p y backed less (subst (λ k. SameElsewhere k xs ys) (sym next) others)
-    (subst (λ k. IsBackedAt k ys (f y)) (sym next) here)
-    (subst (λ k. up_at k ys ≡ false → (c : ℕ) → bytes_at c k ys ≡ None) (sym next) quiet)
-
-pub shelf_is : {R : Type 0} (f : R → Shelf) (stores : List R) (p i : ℕ) (x : R) → suc p ≡ i → slice_get stores p ≡ Some x → shelf_at i (map f stores) ≡ f x
-shelf_is f stores p i x next found = subst (λ k. shelf_at k (map f stores) ≡ f x) next (shelf_found f stores p x found)
-
--- .. once it is put there
-pub shelf_put : {R : Type 0} (f : R → Shelf) (stores : List R) (p i : ℕ) (y : R) → suc p ≡ i → p < length stores → shelf_at i (map f (slice_set stores p y)) ≡ f y
-shelf_put f stores p i y next less = subst (λ k. shelf_at k (map f (slice_set stores p y)) ≡ f y) next (shelf_set f stores p y less)
-
-pub shelf_here : {R : Type 0} (f : R → Shelf) (stores : List R) (xs : List Instance) (p i : ℕ) (x : R) → suc p ≡ i → is_instance i ≡ true → AreBacked xs (map f stores)
-    → slice_get stores p ≡ Some x → IsBackedAt i xs (f x)
-shelf_here f stores xs p i x next exists backed found = subst (λ (s : Shelf). IsBackedAt i xs s) (shelf_is f stores p i x next found) (backed.each i exists)
-
--- a store changed, and its disk returns no more than before
-pub cleaner_at : {R : Type 0} (f : R → Shelf) (stores : List R) (p : ℕ) (x y : R) → p < length stores → slice_get stores p ≡ Some x
-    → ((f y).is_clean ≡ true → (f x).is_clean ≡ true) → NeverCleaner (map f stores) (map f (slice_set stores p y))
-cleaner_at f stores p x y less found stays j clean = elim (cases_Bool (j == suc p)) [
-  | inl same ↦
-      let is : suc p ≡ j = grind (arith, nat_tests) in
-      let now : shelf_at j (map f (slice_set stores p y)) ≡ f y = subst (λ k. shelf_at k (map f (slice_set stores p y)) ≡ f y) is (shelf_set f stores p y less) in
-      ap (λ (s : Shelf). s.is_clean) (shelf_is f stores p j x is found) ∙ stays (sym (ap (λ (s : Shelf). s.is_clean) now) ∙ clean)
-  | inr apart ↦ sym (ap (λ (s : Shelf). s.is_clean) (shelf_other f stores p j y less apart)) ∙ clean
-]
+-- ---- no store changed
 
 pub never_cleaner : (shelves : List Shelf) → NeverCleaner shelves shelves
 never_cleaner shelves i clean = clean
@@ -140,74 +141,140 @@ cleaner_then a b c first next i clean = first i (next i clean)
 pub clean_before : (old new : List Shelf) → NeverCleaner old new → AreClean new → AreClean old
 clean_before old new never clean i exists = never i (clean i exists)
 
--- ---- where no store changes
+-- who is up and whose store is clean has its rows there
+node_held : (t : List ℕ) (x : Instance) → (node_local_in t x).held ≡ (local_in t x).held
+unfolding node_local_in local_in local_in_site
+node_held t x = refl
 
--- what is stored of each tenant, who is up and what is read by whom is down are as before
-pub backed_as : (xs ys : List Instance) (shelves : List Shelf) → AreBacked xs shelves → ((i : ℕ) → up_at i ys ≡ up_at i xs)
-    → ((t : List ℕ) (i : ℕ) → stored_in (local_at t i ys).held ≡ stored_in (local_at t i xs).held) → AreQuiet ys → AreBacked ys shelves
-backed_as xs ys shelves backed up held quiet = record {
-  size = backed.size;
-  each = λ i exists. record {
-    opens = λ is. (backed.each i exists).opens (sym (up i) ∙ is);
-    stores = λ is clean t. (backed.each i exists).stores (sym (up i) ∙ is) clean t ∙ sym (held t i);
-  };
-  quiet = quiet;
+pub rows_there : (w : State) (shelves : List Shelf) (i : ℕ) → AreBacked w.instances shelves
+    → up_at i w.instances ≡ true → (shelf_at i shelves).is_clean ≡ true
+    → AreRowsOf (stored_of w i) (shelf_at i shelves).pairs
+unfolding stored_of up_at
+rows_there w shelves i backed up clean t = by (instance_at i w.instances) refl up
+  where
+    by : (o : Option Instance) → instance_at i w.instances ≡ o → up_where o ≡ true
+        → rows_of t (shelf_at i shelves).pairs ≡ stored_in (stored_where t o).held
+    by None at is = absurd (false≢true is)
+    by (Some x) at is = (backed.each i x at).stores is clean t ∙ ap stored_in (sym (node_held t x))
+
+-- an event changed no store
+pub shelves_alone : (Rejects : List ℕ → List Item → Type 0) (w : State) (e : Event) (w' : State) (shelves : List Shelf)
+    → AreBacked w.instances shelves → ((i : ℕ) → writes w e i ≡ true → up_at i w.instances ≡ true)
+    → ((i : ℕ) → up_at i w.instances ≡ true → stop_at i w'.instances ≡ Some StoreRefused → ⊥)
+    → LeavesShelves Rejects w e w' shelves shelves
+shelves_alone Rejects w e w' shelves backed up unrefused = record {
+  each = λ i some clean.
+      left_alone (stored_of w i) (stored_after w e i) (RejectedBy Rejects w e i) (stop_at i w'.instances)
+      (shelf_at i shelves) (rows_there w shelves i backed (up i some) clean) (unrefused i (up i some));
+  others = λ i idle. refl;
 }
 
--- an instance stopped
-pub backed_stopped : (i : ℕ) (xs ys : List Instance) (shelves : List Shelf) → AreBacked xs shelves → IsDownAt i ys → SameElsewhere i xs ys → AreBacked ys shelves
-backed_stopped i xs ys shelves backed down others = record {
-  size = backed.size;
-  each = λ j exists. elim (cases_Bool (j == i)) [
+-- nothing is written
+pub shelves_unwritten : (Rejects : List ℕ → List Item → Type 0) (w : State) (e : Event) (w' : State)
+    (shelves : List Shelf) → ((i : ℕ) → writes w e i ≡ false) → LeavesShelves Rejects w e w' shelves shelves
+shelves_unwritten Rejects w e w' shelves none = record {
+  each = λ i some. absurd (true≢false (sym some ∙ none i));
+  others = λ i idle. refl;
+}
+
+-- ---- one store changed
+
+-- what an event leaves in the store of a number to which it writes
+abbrev LeavesAt : (Rejects : List ℕ → List Item → Type 0) (w : State) (e : Event) (w' : State) → ℕ → (old new : Shelf)
+    → Type 0
+LeavesAt Rejects w e w' i old new =
+    LeavesShelf (stored_of w i) (stored_after w e i) (RejectedBy Rejects w e i) (stop_at i w'.instances) old new
+
+-- it stands at place p, and is that of the instance of number n
+module _ {R : Type 0} (f : R → Shelf) (stores : List R) (p n : ℕ) (next : p + 1 ≡ n) where
+  behind : suc p ≡ n
+  behind = omega (arith, next)
+
+  pub shelf_is : (x : R) → slice_get stores p ≡ Some x → shelf_at n (map f stores) ≡ f x
+  shelf_is x found = subst (λ k. shelf_at k (map f stores) ≡ f x) behind (found_at f stores p x found)
+
+  pub shelf_put : (y : R) → p < length stores → shelf_at n (map f (slice_set stores p y)) ≡ f y
+  shelf_put y less = subst (λ k. shelf_at k (map f (slice_set stores p y)) ≡ f y) behind (put_at f stores p y less)
+
+  pub shelf_other : (j : ℕ) (y : R) → p < length stores → (j == n) ≡ false
+      → shelf_at j (map f (slice_set stores p y)) ≡ shelf_at j (map f stores)
+  shelf_other j y less apart =
+      other_at f stores p j y less (subst (λ k. (j == k) ≡ false) (sym behind) apart)
+
+  -- the store of an instance that stands there
+  pub backed_there : (xs : List Instance) (x : R) → slice_get stores p ≡ Some x → AreBacked xs (map f stores)
+      → At n (λ z. IsBacked z (f x)) xs
+  backed_there xs x found backed z at = subst (IsBacked z) (shelf_is x found) (backed.each n z at)
+
+  -- all are backed where this one is and no other changed
+  pub backed_put : (xs ys : List Instance) (y : R) → p < length stores → SameElsewhere n xs ys
+      → At n (λ z. IsBacked z (f y)) ys → AreBacked xs (map f stores) → AreBacked ys (map f (slice_set stores p y))
+  backed_put xs ys y less others here backed = record {
+    size = length-map (slice_set stores p y) f ∙ length-set stores p y ∙ sym (length-map stores f) ∙ backed.size;
+    each = each;
+  }
+    where
+      each : (j : ℕ) → At j (λ z. IsBacked z (shelf_at j (map f (slice_set stores p y)))) ys
+      each j z at = elim (cases_Bool (j == n)) [
+        | inl same ↦
+            let is : j ≡ n = grind (arith, nat_tests) in
+            subst (λ k. IsBacked z (shelf_at k (map f (slice_set stores p y)))) (sym is)
+            (subst (IsBacked z) (sym (shelf_put y less)) (here z (sym (ap (λ k. instance_at k ys) is) ∙ at)))
+        | inr apart ↦
+            subst (IsBacked z) (sym (shelf_other j y less apart)) (backed.each j z (sym (others j apart) ∙ at))
+      ]
+
+  -- .. all but this one, where that stopped midway
+  pub backed_but_put : (xs ys : List Instance) (y : R) → p < length stores → SameElsewhere n xs ys
+      → AreBacked xs (map f stores) → AreBackedBut n ys (map f (slice_set stores p y))
+  backed_but_put xs ys y less others backed = record {
+    size = length-map (slice_set stores p y) f ∙ length-set stores p y ∙ sym (length-map stores f) ∙ backed.size;
+    each = λ j apart z at.
+        subst (IsBacked z) (sym (shelf_other j y less apart)) (backed.each j z (sym (others j apart) ∙ at));
+  }
+
+  -- its disk returns no more than before
+  pub cleaner_put : (x y : R) → p < length stores → slice_get stores p ≡ Some x
+      → ((f y).is_clean ≡ true → (f x).is_clean ≡ true) → NeverCleaner (map f stores) (map f (slice_set stores p y))
+  cleaner_put x y less found stays j clean = elim (cases_Bool (j == n)) [
     | inl same ↦
-        let is : i ≡ j = grind (arith, nat_tests) in
-        subst (λ k. IsBackedAt k ys (shelf_at j shelves)) is (backed_down i ys (shelf_at j shelves) down.up)
-    | inr apart ↦ backed_again i j xs ys (shelf_at j shelves) others apart (backed.each j exists)
-  ];
-  quiet = quiets i xs ys backed.quiet others (λ _. down.unread);
-}
+        let is : j ≡ n = grind (arith, nat_tests) in
+        let now : shelf_at j (map f (slice_set stores p y)) ≡ f y =
+        ap (λ k. shelf_at k (map f (slice_set stores p y))) is ∙ shelf_put y less in
+        ap (λ (s : Shelf). s.is_clean) (ap (λ k. shelf_at k (map f stores)) is ∙ shelf_is x found)
+        ∙ stays (sym (ap (λ (s : Shelf). s.is_clean) now) ∙ clean)
+    | inr apart ↦ sym (ap (λ (s : Shelf). s.is_clean) (shelf_other j y less apart)) ∙ clean
+  ]
 
--- a connection was begun at an instance that is up
-pub quiet_opened : (i connection : ℕ) (xs ys : List Instance) → up_at i xs ≡ true → ((j : ℕ) → up_at j ys ≡ up_at j xs)
-    → ((c j : ℕ) → bytes_at c j ys ≡ (if j == i then (if c == connection then Some [] else bytes_at c j xs) else bytes_at c j xs)) → AreQuiet xs → AreQuiet ys
-quiet_opened i connection xs ys up same reading quiet j down c = elim (cases_Bool (j == i)) [
-  | inl is ↦ let one : j ≡ i = grind (arith, nat_tests) in absurd (true≢false (sym up ∙ sym (ap (λ k. up_at k xs) one) ∙ sym (same j) ∙ down))
-  | inr apart ↦ reading c j ∙ rw apart (quiet j (sym (same j) ∙ down) c)
-]
+  -- an event that writes to this store alone
+  pub left_put : (Rejects : List ℕ → List Item → Type 0) (w : State) (e : Event) (w' : State) (x y : R)
+      → p < length stores → slice_get stores p ≡ Some x → writes w e n ≡ true
+      → ((j : ℕ) → (j == n) ≡ false → writes w e j ≡ false)
+      → LeavesShelf (stored_of w n) (stored_after w e n) (RejectedBy Rejects w e n) (stop_at n w'.instances) (f x) (f y)
+      → LeavesShelves Rejects w e w' (map f stores) (map f (slice_set stores p y))
+  left_put Rejects w e w' x y less found written alone left = record { each = each; others = others }
+    where
+      own : LeavesAt Rejects w e w' n (shelf_at n (map f stores)) (shelf_at n (map f (slice_set stores p y)))
+      own =
+          subst (λ old. LeavesAt Rejects w e w' n old (shelf_at n (map f (slice_set stores p y))))
+          (sym (shelf_is x found))
+          (subst (λ new. LeavesAt Rejects w e w' n (f x) new) (sym (shelf_put y less)) left)
 
--- .. or closed
-pub quiet_closed : (i connection : ℕ) (xs ys : List Instance) → ((j : ℕ) → up_at j ys ≡ up_at j xs)
-    → ((c j : ℕ) → bytes_at c j ys ≡ (if j == i then (if c == connection then None else bytes_at c j xs) else bytes_at c j xs)) → AreQuiet xs → AreQuiet ys
-quiet_closed i connection xs ys same reading quiet j down c = reading c j ∙ by (j == i) (c == connection) (bytes_at c j xs) (quiet j (sym (same j) ∙ down) c)
-  where
-    by : (here this : Bool) (bytes : Option (List ℕ)) → bytes ≡ None → (if here then (if this then None else bytes) else bytes) ≡ None
-    by true true bytes is = refl
-    by true false bytes is = is
-    by false this bytes is = is
+      each : (j : ℕ) → writes w e j ≡ true
+          → LeavesAt Rejects w e w' j (shelf_at j (map f stores)) (shelf_at j (map f (slice_set stores p y)))
+      each j some = elim (cases_Bool (j == n)) [
+        | inl same ↦
+            let is : n ≡ j = grind (arith, nat_tests) in
+            subst (λ k. LeavesAt Rejects w e w' k (shelf_at k (map f stores))
+            (shelf_at k (map f (slice_set stores p y)))) is own
+        | inr apart ↦ absurd (true≢false (sym some ∙ alone j apart))
+      ]
 
--- ---- a tick
-
--- who is down after a turn reads nothing
-pub quiet_turn : (i moment : ℕ) (limits : List (List ℕ × Limits)) (goes_on : Bool) (xs ys : List Instance) (before after : List Output)
-    → Either goes_on (TicksAt i moment limits xs ys before after) (StopsAt i moment limits xs ys before after) → (up_at i xs ≡ false → (c : ℕ) → bytes_at c i xs ≡ None)
-    → up_at i ys ≡ false → (c : ℕ) → bytes_at c i ys ≡ None
-quiet_turn i moment limits true xs ys before after ticks quiet down c = ticks.reading c ∙ quiet (sym ticks.up ∙ down) c
-quiet_turn i moment limits false xs ys before after stops quiet down c = stops.down.unread c
-
--- the all_instances are those of the instances
-pub number_is : (i : ℕ) → i < 8 → get_or all_instances i 0 ≡ i + 1
-number_is zero low = refl
-number_is (suc zero) low = refl
-number_is (suc (suc zero)) low = refl
-number_is (suc (suc (suc zero))) low = refl
-number_is (suc (suc (suc (suc zero)))) low = refl
-number_is (suc (suc (suc (suc (suc zero))))) low = refl
-number_is (suc (suc (suc (suc (suc (suc zero)))))) low = refl
-number_is (suc (suc (suc (suc (suc (suc (suc zero))))))) low = refl
-number_is (suc (suc (suc (suc (suc (suc (suc (suc n)))))))) low = absurd (omega arith)
-
-pub number_exists : (i : ℕ) → i < 8 → is_instance (get_or all_instances i 0) ≡ true
-number_exists i low = ap is_instance (number_is i low) ∙ within
-  where
-    within : is_instance (i + 1) ≡ true
-    within = grind (arith, nat_tests)
+      others : (j : ℕ) → writes w e j ≡ false
+          → shelf_at j (map f (slice_set stores p y)) ≡ shelf_at j (map f stores)
+      others j idle = elim (cases_Bool (j == n)) [
+        | inl same ↦
+            let is : j ≡ n = grind (arith, nat_tests) in
+            absurd (true≢false (sym written ∙ sym (ap (writes w e) is) ∙ idle))
+        | inr apart ↦ shelf_other j y less apart
+      ]

@@ -1,72 +1,78 @@
--- what an event leaves in the store of an instance that was up
-use Rattle.std.specs.Prelude.{◌≡◌, ℕ, Bool, true, false, ◌++◌, List, Option, Some, None}
-use Rattle.am_api.specs.Replied.{Decision}
-use Rattle.am_http.specs.Verdict.{verdict}
-use Rattle.am_http.specs.declared.request.Fed.{Fed}
-use Rattle.am_http.specs.declared.request.Fed.TheVariants as fed
-use Rattle.am_http.specs.declared.request.Request.{Request}
+-- What an event leaves in the stores.
+use Rattle.std.specs.Prelude.{◌≡◌, ℕ, Bool, true, false, ◌==◌, ◌&&◌, List, Option, Some, None}
+use Rattle.am_cluster.specs.Events.{Event, Deliver, Tick}
+use Rattle.am_cluster.specs.Moments.{effective}
 use Rattle.am_item.specs.declared.fault.Fault.{Fault}
 use Rattle.am_item.specs.declared.item.Item.{Item}
-use Rattle.am_node.specs.Local.{Local}
+use Rattle.am_messages.specs.Posted.{posted_at}
+use Rattle.am_messages.specs.declared.messages.Posted.{Posted}
+use Rattle.am_node.specs.Local.{Local, blank}
 use Rattle.am_node.specs.Retiring.{retired}
-use Rattle.am_node.specs.Storing.{LeavesStore}
-use Rattle.am_ring.specs.Instances.{is_instance}
-use Rattle.am_world.specs.declared.event.Event.{Event}
-use Rattle.am_world.specs.declared.event.Event.TheVariants as event
-use Rattle.am_instance.specs.declared.instance.Instance.{Instance}
-use Rattle.am_world.specs.declared.state.State.{State}
-use Rattle.am_world.specs.Moments.{effective}
-use Rattle.am_world.specs.Places.{bytes_at, cause_at, here_in, local_at, up_at}
-use Rattle.am_instance.specs.Reaction.{Here, terms_of}
-use Rattle.am_world.specs.Shelves.{shelf_at}
+use Rattle.am_instance.specs.Here.{Circumstances}
+use Rattle.am_instance.specs.Instance.{node_local_in}
+use Rattle.am_instance.specs.Leaving.{LeavesShelf, stop_for}
+use Rattle.am_instance.specs.Receiving.{brought_on}
 use Rattle.am_instance.specs.Shelves.{Shelf}
-use Rattle.am_instance.specs.Leaving.{taken_in, BringsRejected, stop_for, LeavesShelf}
+use Rattle.am_instance.specs.declared.instance.Instance.{Instance}
+use Rattle.am_world.specs.Consistent.{around_at}
+use Rattle.am_world.specs.Places.{cause_at, instance_at, up_at}
+use Rattle.am_world.specs.Shelves.{shelf_at}
+use Rattle.am_world.specs.declared.state.State.{State}
+use Rattle.am_site.specs.Arriving.{IsRejected, with_brought}
+
+-- what the instance of a number has of a tenant, as far as it is stored
+abbrev pub stored_where : List ℕ → Option Instance → Local
+stored_where t None = blank
+stored_where t (Some x) = node_local_in t x
+
+unfoldable pub stored_of : State → ℕ → List ℕ → Local
+stored_of w i t = stored_where t (instance_at i w.instances)
 
 -- the fault for which the instance of a number stopped, where it is down
 abbrev pub stop_at : ℕ → List Instance → Option Fault
 stop_at i instances = stop_for (up_at i instances) (cause_at i instances)
 
--- a piece of a connection, of which the instance had read these bytes, if it reads it
-abbrev pub piece_in : Option (List ℕ) → (piece : List ℕ) → (Request → Here) → (moment connection : ℕ) → (List ℕ → Local)
-    → List ℕ → Local
-piece_in None piece here moment connection locals = locals
-piece_in (Some before) piece here moment connection locals =
-    taken_in (verdict (before ++ piece)) here moment connection locals
+-- the stores to which an event may write: those of instances that are up, of the receiver of a message, and of all at a
+-- tick
+abbrev pub writes : State → Event → ℕ → Bool
+writes w (Deliver name moment) i = i == name.to && up_at i w.instances
+writes w (Tick moment) i = up_at i w.instances
+writes w e i = false
 
-abbrev pub PieceRejected : (List ℕ → List Item → Type 0) → Option (List ℕ) → (piece : List ℕ) → (Request → Here)
-    → (List ℕ → Local) → Type 0
-PieceRejected Rejects None piece here locals = ⊥
-PieceRejected Rejects (Some before) piece here locals = BringsRejected Rejects (verdict (before ++ piece)) here locals
+-- what tenants have of a message's receiver once it came, at a moment: where it is taken, the items that it brings too
+abbrev pub received_where : Circumstances → Option Posted → Option Instance → (List ℕ → Local) → List ℕ → Local
+received_where around None x locals = locals
+received_where around (Some posted) None locals = locals
+received_where around (Some posted) (Some x) locals =
+    with_brought (brought_on around x posted.message) posted.message.tenant around.moment locals
 
--- what an instance goes by at a request, at the moment of a piece
-abbrev pub here_at : State → ℕ → ℕ → Request → Here
-here_at w moment j request =
-    here_in (effective moment w.clock) (terms_of w.service_key w.limits request.tenant) j w.instances
+-- what is so of all tenants where a message comes
+abbrev pub around_delivery : State → (moment : ℕ) → Circumstances
+around_delivery w moment = around_at (effective moment w.clock) w
 
--- what tenants have at an instance once an event went well, as far as it is stored
+-- what tenants have at an instance to whose store an event writes, once the event went well
 abbrev pub stored_after : State → Event → ℕ → List ℕ → Local
-stored_after w (event.Open c i) j t = local_at t j w.instances
-stored_after w (event.Bytes c moment piece) j t =
-    piece_in (bytes_at c j w.instances) piece (here_at w moment j) (effective moment w.clock) c
-    (λ t. local_at t j w.instances) t
-stored_after w (event.Close c) j t = local_at t j w.instances
-stored_after w (event.Limits tenant limits) j t = local_at t j w.instances
-stored_after w (event.Tick moment) j t = retired moment (local_at t j w.instances)
-stored_after w (event.Outcome attempt tries moment status) j t = local_at t j w.instances
+stored_after w (Deliver name moment) i =
+    received_where (around_delivery w moment) (posted_at name w.messages) (instance_at i w.instances) (stored_of w i)
+stored_after w (Tick moment) i = λ t. retired moment (stored_of w i t)
+stored_after w e i = stored_of w i
 
--- no store takes what the event brings
+-- no store takes what a message brings
+abbrev pub RejectedWhere : (List ℕ → List Item → Type 0) → Circumstances → Option Posted → Option Instance → Type 0
+RejectedWhere Rejects around None x = ⊥
+RejectedWhere Rejects around (Some posted) None = ⊥
+RejectedWhere Rejects around (Some posted) (Some x) =
+    IsRejected Rejects posted.message.tenant (brought_on around x posted.message)
+
 abbrev pub RejectedBy : (List ℕ → List Item → Type 0) → State → Event → ℕ → Type 0
-RejectedBy Rejects w (event.Open c i) j = ⊥
-RejectedBy Rejects w (event.Bytes c moment piece) j =
-    PieceRejected Rejects (bytes_at c j w.instances) piece (here_at w moment j) (λ t. local_at t j w.instances)
-RejectedBy Rejects w (event.Close c) j = ⊥
-RejectedBy Rejects w (event.Limits tenant limits) j = ⊥
-RejectedBy Rejects w (event.Tick moment) j = ⊥
-RejectedBy Rejects w (event.Outcome attempt tries moment status) j = ⊥
+RejectedBy Rejects w (Deliver name moment) i =
+    RejectedWhere Rejects (around_delivery w moment) (posted_at name w.messages) (instance_at i w.instances)
+RejectedBy Rejects w e i = ⊥
 
--- what it leaves in the stores, where stores of this kind take no such items
+-- what it leaves in the stores, where stores of this kind take no such items: those to which it doesn't write are as
+-- they were
 pub record LeavesShelves (Rejects : List ℕ → List Item → Type 0) (w : State) (e : Event) (w' : State)
     (old new : List Shelf) : Type 0 where
-  pub each : (i : ℕ) → is_instance i ≡ true → up_at i w.instances ≡ true →
-      LeavesShelf (λ t. local_at t i w.instances) (stored_after w e i) (RejectedBy Rejects w e i)
+  pub each : (i : ℕ) → writes w e i ≡ true → LeavesShelf (stored_of w i) (stored_after w e i) (RejectedBy Rejects w e i)
       (stop_at i w'.instances) (shelf_at i old) (shelf_at i new)
+  pub others : (i : ℕ) → writes w e i ≡ false → shelf_at i new ≡ shelf_at i old

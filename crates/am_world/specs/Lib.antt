@@ -1,15 +1,26 @@
-pub mod Moments
-pub mod Outputs
+-- what stands at the place of an instance
 pub mod Places
-pub mod PrivateCluster
-pub mod Refusal
-pub mod Roster
-pub mod Runs
-pub mod Simulation
-pub mod Taking
-pub mod Ticks
-pub mod View
+-- the stores of all of them
 pub mod Shelves
-pub mod Opening
+-- what is so of a world between events
+pub mod Consistent
+-- the messages between instances
+pub mod Posting
+-- one instance does something
+pub mod Turning
+-- when an event is refused
+pub mod Refusal
+-- that a world is the private cluster of every tenant at once
+pub mod Simulation
+-- .. that each event keeps it so
+pub mod Steps
+-- why an event stops instances
+pub mod Stopping
+-- what it leaves in their stores
 pub mod Leaving
-pub mod Whole
+-- ticks
+pub mod Ticks
+-- how a world is opened
+pub mod Opening
+-- whole runs
+pub mod Runs

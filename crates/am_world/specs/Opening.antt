@@ -1,13 +1,53 @@
--- Why a world isn't opened.
-use Rattle.std.specs.Prelude.{◌≡◌, ℕ, zero, suc, true, List, slice_get, Option, Some, None}
-use Rattle.am_rows.specs.Refusing.{IsJudged, MayRefuse}
-use Rattle.am_rows.specs.declared.rows.Rows.{Ghosts}
-use Rattle.am_rows.specs.declared.refusal.StoreRefusal.{StoreRefusal}
-use Rattle.am_text.specs.declared.failure.Failure.{Failure}
-use Rattle.am_text.specs.declared.failure.Failure.TheVariants as failure
+-- How a world is opened, and why it isn't.
+use Rattle.std.specs.Prelude.{◌≡◌, ℕ, zero, suc, true, false, List, [], ◌∷◌, map, slice_get, Option, Some, None}
+use Rattle.am_cluster.specs.Origins.{Origin, unset_limits}
+use Rattle.am_cluster.specs.PrivateCluster.{opened}
+use Rattle.am_cluster.specs.Roster.{AreInstancesUp}
+use Rattle.am_cluster.specs.View.{first_watch}
+use Rattle.am_item.specs.declared.item.Item.{Item}
+use Rattle.am_cluster.specs.RingChanges.{opened as opened_with}
+use Rattle.am_ring.specs.Instances.{Members, in_order, is_among, may_be_ring}
+use Rattle.am_instance.specs.Here.{Circumstances, here_on}
+use Rattle.am_instance.specs.Instance.{IsDown, IsSameNode, ReadsAlike, Starts, local_in, refused_in}
+use Rattle.am_instance.specs.Shelves.{IsBacked, Shelf}
+use Rattle.am_instance.specs.Whole.{IsWhole}
+use Rattle.am_instance.specs.declared.instance.Instance.{Instance}
+use Rattle.am_world.specs.Consistent.{around_at}
+use Rattle.am_world.specs.Places.{AreNumbered, ChangesAt, EachIs, Turns}
+use Rattle.am_world.specs.Shelves.{shelf_at}
+use Rattle.am_world.specs.Simulation.{AreAsked, Follows, Stands, fault_count, put_out, refused_by, roster_of}
 use Rattle.am_world.specs.declared.opening.OpenRefusal.{OpenRefusal}
 use Rattle.am_world.specs.declared.opening.OpenRefusal.TheVariants.{OutOfMemory, Store}
-use Rattle.am_world.specs.Roster.{serves}
+use Rattle.am_world.specs.declared.state.State.{State}
+use Rattle.am_rows.specs.Refusing.{IsJudged, MayRefuse}
+use Rattle.am_rows.specs.Rows.{rows_of}
+use Rattle.am_rows.specs.declared.refusal.StoreRefusal.{StoreRefusal}
+use Rattle.am_rows.specs.declared.rows.Rows.{Ghosts}
+use Rattle.am_setup.specs.Setup.{Origin as Setting}
+use Rattle.am_text.specs.declared.failure.Failure.{Failure}
+use Rattle.am_text.specs.declared.failure.Failure.TheVariants as failure
+
+-- ---- as it is opened
+
+-- what every tenant's cluster starts from: no limits are set
+abbrev pub origin_of : Setting → Origin
+origin_of setting = record { setting = setting; limits = unset_limits }
+
+-- a world as it is opened, where stores have these rows of each tenant, by the number of the instance
+pub record Opens (origin : Origin) (rows : List ℕ → ℕ → List Item) (w : State) : Type 0 where
+  pub follows : Follows (first_watch origin) w
+  pub asked : AreAsked (first_watch origin) w
+  pub stands : (t : List ℕ) → Stands t w (opened origin t (rows t))
+  pub up : AreInstancesUp (roster_of w)
+  pub outputs : put_out w ≡ []
+  pub faults : fault_count w ≡ 0
+  pub refused : (i : ℕ) → refused_by w i ≡ []
+
+-- the stores of instances that aren't in the ring are as they were
+abbrev pub StayOutside : (ring : List ℕ) → (old new : List Shelf) → Type 0
+StayOutside ring old new = (i : ℕ) → is_among i ring ≡ false → shelf_at i new ≡ shelf_at i old
+
+-- ---- why it isn't
 
 -- for the store of an instance that failed so
 abbrev pub refusal_for : ℕ → Failure StoreRefusal → OpenRefusal
@@ -24,7 +64,77 @@ abbrev pub FailsAt : {R : Type 0} → Ghosts R → ℕ → List R → Failure St
 FailsAt {R} g i stores why = (before : R) × (store_at i stores ≡ Some before) × (after : R)
     × (g.is_clean after ≡ true → IsJudged (g.is_foreign before) (MayRefuse (g.medium before) (g.medium after)) why)
 
--- that of an instance that serves, or memory ran out
-abbrev pub FailsToOpen : {R : Type 0} → Ghosts R → List R → OpenRefusal → Type 0
-FailsToOpen g stores (Store i refusal) = (serves i ≡ true) × FailsAt g i stores (failure.Refused refusal)
-FailsToOpen g stores OutOfMemory = Unit {0}
+-- that of an instance of the ring, or memory ran out
+abbrev pub FailsToOpen : {R : Type 0} → Ghosts R → (ring : List ℕ) → List R → OpenRefusal → Type 0
+FailsToOpen g ring stores (Store i refusal) =
+    (is_among i ring ≡ true) × FailsAt g i stores (failure.Refused refusal)
+FailsToOpen g ring stores OutOfMemory = Unit {0}
+
+-- ---- on the way
+
+-- beside its instances: no event came, and the ring of the settings is the only one
+pub record IsBegun (setting : Setting) (w : State) : Type 0 where
+  pub clock : w.clock ≡ 0
+  pub service_key : w.common.service_key ≡ setting.service_key
+  pub limits : w.common.limits ≡ []
+  pub rings : map (λ (ring : Members). ring.instances) w.common.rings.items ≡ setting.ring ∷ []
+  pub first : w.common.first ≡ setting.first
+  pub messages : w.messages ≡ []
+  pub outputs : put_out w ≡ []
+  pub faults : fault_count w ≡ 0
+
+-- an instance in the first incarnation that knows the first ring, is down, and was refused no build
+pub record IsUnused (first : ℕ) (x : Instance) : Type 0 where
+  pub down : IsDown x
+  pub incarnation : x.incarnation ≡ first
+  pub known : x.known ≡ 0
+  pub refused : refused_in x ≡ []
+
+-- a world before its instances open their stores
+pub record IsUnopened (setting : Setting) (w : State) : Type 0 where
+  pub ring : may_be_ring setting.ring ≡ true
+  pub order : in_order setting.ring ≡ setting.ring
+  pub begun : IsBegun setting w
+  pub numbered : AreNumbered w.instances
+  pub unused : EachIs (IsUnused setting.first) w.instances
+  pub whole : EachIs (IsWhole (around_at w.clock w)) w.instances
+
+-- nothing changed but instances
+pub record IsSameBesideInstances (w w' : State) : Type 0 where
+  pub clock : w'.clock ≡ w.clock
+  pub common : w'.common ≡ w.common
+  pub messages : w'.messages ≡ w.messages
+  pub outputs : put_out w' ≡ put_out w
+  pub faults : fault_count w' ≡ fault_count w
+
+-- the instances of the first of these rings
+abbrev pub first_ring : List Members → List ℕ
+first_ring [] = []
+first_ring (ring ∷ rings) = ring.instances
+
+-- an instance that was down opened its store, of which this was and is seen, and holds its rows where it is a replica
+pub record HasOpened (around : Circumstances) (old new : Shelf) (x x' : Instance) : Type 0 where
+  pub starts : Starts x x'
+  pub stays : IsSameNode x x'
+  pub front : ReadsAlike x x'
+  pub local : new.is_clean ≡ true → (t : List ℕ) →
+      local_in t x' ≡ opened_with (here_on around x t) (rows_of t old.pairs)
+  pub whole : IsWhole around x'
+  pub backed : IsBacked x' new
+
+-- the instance of a number did so, where it is in the first ring; else all instances and its store are as they were
+pub record OpensAt (i : ℕ) (old new : Shelf) (w w' : State) : Type 0 where
+  pub others : ChangesAt i w.instances w'.instances
+  pub opens : is_among i (first_ring w.common.rings.items) ≡ true →
+      Turns i (HasOpened (around_at w.clock w) old new) w.instances w'.instances
+  pub stays : is_among i (first_ring w.common.rings.items) ≡ false → w'.instances ≡ w.instances
+  pub left : is_among i (first_ring w.common.rings.items) ≡ false → new ≡ old
+
+-- the store of the instance of a number, which is in the ring, failed in its opening, and had a cause
+pub record FailsWith {R : Type 0} (g : Ghosts R) (ring : List ℕ) (i : ℕ) (before after : R) (refusal : OpenRefusal)
+    : Type 0 where
+  pub failure : Failure StoreRefusal
+  pub told : refusal ≡ refusal_for i failure
+  pub member : is_among i ring ≡ true
+  pub judged : g.is_clean after ≡ true →
+      IsJudged (g.is_foreign before) (MayRefuse (g.medium before) (g.medium after)) failure

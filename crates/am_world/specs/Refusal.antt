@@ -1,29 +1,35 @@
--- when an event is refused, and by which code
-use Rattle.std.specs.Prelude.{ℕ, Bool, true, false, is_some, codes, List, Option, None, Some, if◌then◌else◌}
-use Rattle.am_world.specs.declared.event.Event.{Event}
-use Rattle.am_world.specs.declared.event.Event.TheVariants.{Open, Bytes, Close, Limits, Tick, Outcome}
-use Rattle.am_world.specs.declared.event.Refused.{Refused}
-use Rattle.am_world.specs.declared.event.Refused.TheVariants.{MomentRefused, InstanceNotUp, NotAwaited, NotReading}
+-- When an event is refused.
+use Rattle.std.specs.Prelude.{ℕ, Bool, true, false, is_some, List, Option, None, Some, if◌then◌else◌}
+use Rattle.am_cluster.specs.Courses.{refusal_of, refused_unless}
+use Rattle.am_cluster.specs.Events.{Event, Open, Bytes, Close, Limits, Tick, Outcome, Deliver, Lose}
+use Rattle.am_cluster.specs.Happening.{Delivered, Lost, Tried}
+use Rattle.am_cluster.specs.Moments.{is_refused_tick, is_too_late}
+use Rattle.am_cluster.specs.PrivateCluster.{PrivateCluster}
+use Rattle.am_cluster.specs.Refused.{Refused, InstanceNotUp, MomentRefused, NotAwaited, NotReading, NotSent}
+use Rattle.am_cluster.specs.View.{Seen, Reading, AskedAs, FrontAnswered, Shut, Watch, look}
+use Rattle.am_messages.specs.Posted.{posted_at}
+use Rattle.am_world.specs.Places.{awaits_at, reader_of, up_at}
+use Rattle.am_world.specs.Simulation.{Stands}
 use Rattle.am_world.specs.declared.state.State.{State}
-use Rattle.am_world.specs.Moments.{is_too_late, is_refused_tick}
-use Rattle.am_world.specs.Places.{awaits_at, up_at, reader_of}
-use Rattle.am_world.specs.PrivateCluster.{PrivateCluster, Tried, refusal_of}
-use Rattle.am_world.specs.View.{Seen, Reading, AskedAs, FrontAnswered, Shut, Watch, look}
 
 -- the moment is looked at first
 abbrev pub refusal : State → Event → Option Refused
-refusal w (Open c i) = if up_at i w.instances then None else Some InstanceNotUp
+refusal w (Open c i) = refused_unless (up_at i w.instances) InstanceNotUp
 refusal w (Bytes c moment piece) =
     if is_too_late moment then Some MomentRefused
-    else if is_some (reader_of c w.instances) then None else Some NotReading
-refusal w (Close c) = if is_some (reader_of c w.instances) then None else Some NotReading
+    else refused_unless (is_some (reader_of c w.instances)) NotReading
+refusal w (Close c) = refused_unless (is_some (reader_of c w.instances)) NotReading
 refusal w (Limits tenant limits) = None
 refusal w (Tick moment) = if is_refused_tick moment w.clock then Some MomentRefused else None
 refusal w (Outcome attempt tries moment status) =
     if is_too_late moment then Some MomentRefused
-    else if awaits_at attempt tries w.instances then None else Some NotAwaited
+    else refused_unless (awaits_at attempt tries w.instances) NotAwaited
+refusal w (Deliver name moment) =
+    if is_too_late moment then Some MomentRefused
+    else refused_unless (is_some (posted_at name w.messages)) NotSent
+refusal w (Lose name) = refused_unless (is_some (posted_at name w.messages)) NotSent
 
--- a connection that is neither unknown nor decided, nor left by its client
+-- a connection that is neither unknown nor decided, nor shut
 abbrev pub is_read : Option Seen → Bool
 is_read None = false
 is_read (Some (Reading i bytes)) = true
@@ -34,19 +40,25 @@ is_read (Some Shut) = false
 -- the same by what happened before alone: what is known from the events, the last tick, and each tenant's private
 -- cluster
 abbrev pub refusal_seen : Watch → ℕ → (List ℕ → PrivateCluster) → Event → Option Refused
-refusal_seen v clock alone (Open c i) = if v.roster.up i then None else Some InstanceNotUp
+refusal_seen v clock alone (Open c i) = refused_unless (v.roster.up i) InstanceNotUp
 refusal_seen v clock alone (Bytes c moment piece) =
-    if is_too_late moment then Some MomentRefused
-    else if is_read (look c v.table) then None else Some NotReading
-refusal_seen v clock alone (Close c) = if is_read (look c v.table) then None else Some NotReading
+    if is_too_late moment then Some MomentRefused else refused_unless (is_read (look c v.table)) NotReading
+refusal_seen v clock alone (Close c) = refused_unless (is_read (look c v.table)) NotReading
 refusal_seen v clock alone (Limits tenant limits) = None
 refusal_seen v clock alone (Tick moment) = if is_refused_tick moment clock then Some MomentRefused else None
-refusal_seen v clock alone (Outcome attempt tries moment status) =
-    refusal_of (alone attempt.tenant) (Tried attempt.instance attempt.incarnation attempt.number tries moment status)
+refusal_seen v clock alone (Outcome a tries moment status) =
+    refusal_of (alone a.tenant) (Tried a.instance a.incarnation a.number tries moment status)
+refusal_seen v clock alone (Deliver m moment) =
+    refusal_of (alone m.tenant) (Delivered m.from m.incarnation m.to m.count moment)
+refusal_seen v clock alone (Lose m) = refusal_of (alone m.tenant) (Lost m.from m.incarnation m.to m.count)
 
--- the code of a refused event
-abbrev pub code_of : Refused → List ℕ
-code_of MomentRefused = codes "We1"
-code_of InstanceNotUp = codes "We2"
-code_of NotAwaited = codes "We4"
-code_of NotReading = codes "We5"
+-- the world has what the private cluster has of the tenant that an event names, if it names one whose cluster is asked
+abbrev pub StandsFor : Event → State → (List ℕ → PrivateCluster) → Type 0
+StandsFor (Open c i) w alone = Unit {0}
+StandsFor (Bytes c moment piece) w alone = Unit {0}
+StandsFor (Close c) w alone = Unit {0}
+StandsFor (Limits tenant limits) w alone = Unit {0}
+StandsFor (Tick moment) w alone = Unit {0}
+StandsFor (Outcome a tries moment status) w alone = Stands a.tenant w (alone a.tenant)
+StandsFor (Deliver m moment) w alone = Stands m.tenant w (alone m.tenant)
+StandsFor (Lose m) w alone = Stands m.tenant w (alone m.tenant)

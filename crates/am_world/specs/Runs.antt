@@ -1,15 +1,20 @@
--- whole runs: whatever the other tenants do, each tenant is as if alone
+-- Whole runs: whatever the other tenants do, each tenant is as if alone.
 use Rattle.std.specs.Prelude.{ℕ, ◌≡◌, ◌⊎◌, true, List, [], ◌∷◌, ◌++◌, length, take, drop}
+use Rattle.std.specs.List.{flat_map}
+use Rattle.am_cluster.specs.Courses.{after_all, fits_all, told_all}
+use Rattle.am_cluster.specs.Events.{Event, Output}
+use Rattle.am_cluster.specs.Happening.{Happening}
+use Rattle.am_cluster.specs.Origins.{Origin}
+use Rattle.am_cluster.specs.Outputs.{are_owned, front_outputs, front_told_all, outputs_of}
+use Rattle.am_cluster.specs.Patterns.{patterns_brought, patterns_open}
+use Rattle.am_cluster.specs.PrivateCluster.{PrivateCluster, opened}
+use Rattle.am_cluster.specs.View.{Watch, first_watch, names_once, view, watch_all}
 use Rattle.am_item.specs.declared.item.Item.{Item}
-use Rattle.am_world.specs.declared.event.Event.{Event}
-use Rattle.am_instance.specs.declared.output.Output.{Output}
-use Rattle.am_world.specs.declared.state.State.{State}
-use Rattle.am_world.specs.Outputs.{outputs_of, front_outputs, front_told_all, are_owned}
+use Rattle.am_world.specs.Opening.{Opens}
 use Rattle.am_world.specs.Places.{AreBuilt}
-use Rattle.am_world.specs.PrivateCluster.{PrivateCluster, opened, after_all, told_all, fits_all, patterns_in}
-use Rattle.am_setup.specs.Setup.{Origin}
-use Rattle.am_world.specs.Simulation.{put_out, fault_count, refused_by, Follows, Stands, Opens, Faulted, Step}
-use Rattle.am_world.specs.View.{Watch, first_watch, watch_all, view, names_once}
+use Rattle.am_world.specs.Simulation.{AreAsked, Follows, IsSameBeside, Stands, fault_count, put_out, refused_by}
+use Rattle.am_world.specs.Stopping.{Faulted, Step}
+use Rattle.am_world.specs.declared.state.State.{State}
 
 -- one step for each event
 abbrev pub Run : State → List Event → State → Type 0
@@ -24,17 +29,24 @@ RunsFrom origin rows es w' = (w : State) × Opens origin rows w × Run w es w'
 abbrev pub added : State → State → List Output
 added w w' = drop (length (put_out w)) (put_out w')
 
--- what a run needs, of a tenant: what is known is so, the cluster has what the world has, no name is used twice, and no
--- pattern that the tenant brings was refused a build by its end
+-- the patterns that requests among these bring
+abbrev pub patterns_asked : List Happening → List (List ℕ)
+patterns_asked happenings = flat_map patterns_brought happenings
+
+-- what a run needs, of a tenant: what is known is so, who waits for a reply had asked, the cluster has what the world
+-- has, no name is used twice, and no pattern of the tenant's, of requests that wait or come, was refused a build by its
+-- end
 pub record RunPremises (t : List ℕ) (v : Watch) (p : PrivateCluster) (w : State) (es : List Event) (w' : State) :
     Type 0 where
   pub follows : Follows v w
+  pub asked : AreAsked v w
   pub stands : Stands t w p
   pub once : names_once v es
-  pub brought : AreBuilt (refused_by w') (patterns_in (view t v es))
+  pub built : AreBuilt (refused_by w') (patterns_open p ++ patterns_asked (view t v es))
 
 -- what the tenant has of a run: of the outputs that were added its own are the private cluster's, the others are other
--- tenants' or the front's, no count of the tenant's passed the greatest, and a further run can go on from here
+-- tenants' or the front's, no count of the tenant's passed the greatest and no message of its was too long, and a
+-- further run can go on from here
 pub record Isolated (t : List ℕ) (v : Watch) (p : PrivateCluster) (w : State) (es : List Event) (w' : State) :
     Type 0 where
   pub told : outputs_of t (watch_all v es) (added w w') ≡ told_all p (view t v es)
@@ -43,6 +55,7 @@ pub record Isolated (t : List ℕ) (v : Watch) (p : PrivateCluster) (w : State) 
   pub stay : take (length (put_out w)) (put_out w') ≡ put_out w
   pub fits : fits_all p (view t v es) ≡ true
   pub follows : Follows (watch_all v es) w'
+  pub asked : AreAsked (watch_all v es) w'
   pub stands : Stands t w' (after_all p (view t v es))
 
 -- whatever the other tenants do, each tenant is as if alone
@@ -75,19 +88,18 @@ Prefixes w es w' = (fault_count w' ≡ fault_count w) ⊎ Broken w es w'
 -- the same world, but what it had put out is forgotten
 pub record Forgets (w w' : State) : Type 0 where
   pub outputs : put_out w' ≡ []
-  pub clock : w'.clock ≡ w.clock
   pub instances : w'.instances ≡ w.instances
-  pub limits : w'.limits ≡ w.limits
-  pub service_key : w'.service_key ≡ w.service_key
+  pub messages : w'.messages ≡ w.messages
   pub faults : fault_count w' ≡ fault_count w
+  pub beside : IsSameBeside w w'
 
 -- of all that was put out since the opening, each tenant's outputs are those of its private cluster, which begins with
 -- the tenant's rows and sees what the events are to the tenant, unless a pattern of the tenant's is among those that
 -- were refused a build; the others are the front's, and what it says to bytes alone
 pub record Alone (origin : Origin) (rows : List ℕ → ℕ → List Item) (es : List Event) (refused : ℕ → List (List ℕ))
     (outs : List Output) : Type 0 where
-  pub tenants : (t : List ℕ) → AreBuilt refused (patterns_in (view t (first_watch origin) es)) →
+  pub tenants : (t : List ℕ) → AreBuilt refused (patterns_asked (view t (first_watch origin) es)) →
       outputs_of t (watch_all (first_watch origin) es) outs ≡
-      told_all (opened origin (rows t) t) (view t (first_watch origin) es)
+      told_all (opened origin t (rows t)) (view t (first_watch origin) es)
   pub front : front_outputs (watch_all (first_watch origin) es) outs ≡ front_told_all (first_watch origin) es
   pub owned : are_owned (watch_all (first_watch origin) es) outs ≡ true

@@ -1,59 +1,42 @@
--- a tick of the instances, of all tenants
-use Rattle.std.specs.Prelude.{ℕ, ◌≡◌, ◌+◌, Bool, true, false, List, [], ◌∷◌, ◌++◌, Some, if◌then◌else◌}
-use Rattle.std.specs.List.{filter_map}
+-- A tick of the instances, one after the other.
+use Rattle.std.specs.Prelude.{◌≡◌, ◌⊎◌, ℕ, ◌+◌, ◌-◌, ◌^◌, true, List, [], ◌∷◌, ◌++◌, Some, min}
+use Rattle.am_cluster.specs.Events.{Output}
 use Rattle.am_item.specs.declared.fault.Fault.{Fault}
-use Rattle.am_limit.specs.declared.limits.Limits.{Limits}
-use Rattle.am_node.specs.declared.dispatch.Dispatch.{Dispatch}
-use Rattle.am_node.specs.Ticks.{IsDone, StopsTicking, context_for, said_of}
-use Rattle.am_instance.specs.declared.output.Output.{Output}
-use Rattle.am_instance.specs.declared.instance.Instance.{Instance}
-use Rattle.am_world.specs.Places.{IsDownAt, KeepRefused, SameElsewhere, bytes_at, cause_at, incarnation_at}
-use Rattle.am_world.specs.Places.{instance_at, local_at, refused_at, up_at}
-use Rattle.am_instance.specs.Reaction.{tick_if}
-use Rattle.am_instance.specs.Ticks.{Either, output_from}
+use Rattle.am_instance.specs.Instance.{IsDown, IsSameNode, refused_in}
+use Rattle.am_instance.specs.Ticks.{StopsTicking, Ticks}
+use Rattle.am_world.specs.Consistent.{around_at}
+use Rattle.am_world.specs.Places.{At, ChangesAt, Turns, cause_at, up_at}
+use Rattle.am_world.specs.Posting.{IsSamePost, Posts}
+use Rattle.am_world.specs.Simulation.{IsSameBeside, fault_count, put_out}
+use Rattle.am_world.specs.declared.state.State.{State}
 
--- the instance of a number ticked
-pub record TicksAt (i moment : ℕ) (limits : List (List ℕ × Limits)) (xs ys : List Instance)
-    (before after : List Output) : Type 0 where
-  pub all : List Dispatch
-  pub outputs : after ≡ before ++ filter_map (output_from i (incarnation_at i xs)) all
-  pub does : (t : List ℕ) → IsDone
-      (tick_if (up_at i xs) t (context_for i (incarnation_at i xs) moment limits t) (local_at t i xs)) (local_at t i ys)
-      (said_of t all)
-  pub reading : (c : ℕ) → bytes_at c i ys ≡ bytes_at c i xs
-  pub refused : refused_at i ys ≡ refused_at i xs
-  pub up : up_at i ys ≡ up_at i xs
-  pub idle : up_at i xs ≡ false → instance_at i ys ≡ instance_at i xs
-  pub quiet : up_at i xs ≡ false → after ≡ before
+-- the instance of a number ticked at the moment of the clock, where it is up: what it told is posted and put out
+pub record TicksAt (i : ℕ) (w w' : State) : Type 0 where
+  pub told : List Output
+  pub ticks : Turns i (λ x x'. Ticks (around_at w.clock w) x x' [] told) w.instances w'.instances
+  pub posts : Posts w.clock told w.messages w'.messages
+  pub appended : put_out w' ≡ put_out w ++ told
+  pub faults : fault_count w' ≡ fault_count w
 
--- why the instance of a number stopped
-pub record CauseAt (i moment : ℕ) (limits : List (List ℕ × Limits)) (xs ys : List Instance) : Type 0 where
+-- it stopped for a cause, nothing is put out, every message is as it was, and one fault more is counted
+pub record StopsAt (i : ℕ) (w w' : State) : Type 0 where
+  pub worked : up_at i w.instances ≡ true
+  pub down : At i IsDown w'.instances
   pub fault : Fault
-  pub told : cause_at i ys ≡ Some fault
-  pub cause : StopsTicking (context_for i (incarnation_at i xs) moment limits) (λ t. local_at t i xs) (refused_at i ys)
-      fault
-
-pub record StopsAt (i moment : ℕ) (limits : List (List ℕ × Limits)) (xs ys : List Instance)
-    (before after : List Output) : Type 0 where
-  pub worked : up_at i xs ≡ true
-  pub down : IsDownAt i ys
-  pub cause : CauseAt i moment limits xs ys
-  pub silent : after ≡ before
+  pub told : cause_at i w'.instances ≡ Some fault
+  pub cause : Turns i (λ x x'. StopsTicking (around_at w.clock w) x (refused_in x') fault) w.instances w'.instances
+  pub posted : IsSamePost w.messages w'.messages
+  pub silent : put_out w' ≡ put_out w
+  pub faults : fault_count w' ≡ min (fault_count w + 1) (2 ^ 64 - 1)
 
 -- the turn of the instance of a number: it goes on, or stops
-pub record TakesTurn (i moment : ℕ) (limits : List (List ℕ × Limits)) (goes_on : Bool) (xs ys : List Instance)
-    (before after : List Output) : Type 0 where
-  pub ends : Either goes_on (TicksAt i moment limits xs ys before after) (StopsAt i moment limits xs ys before after)
-  pub incarnation : incarnation_at i ys ≡ incarnation_at i xs
-  pub others : SameElsewhere i xs ys
-  pub refused : KeepRefused xs ys
+pub record TakesTurn (i : ℕ) (w w' : State) : Type 0 where
+  pub ends : TicksAt i w w' ⊎ StopsAt i w w'
+  pub stays : Turns i IsSameNode w.instances w'.instances
+  pub others : ChangesAt i w.instances w'.instances
+  pub beside : IsSameBeside w w'
 
--- instances of these numbers took their turns in this order, and so many stopped
-abbrev pub TakeTurns : (moment : ℕ) → List (List ℕ × Limits) → List ℕ → (xs ys : List Instance)
-    (before after : List Output) → (faults : ℕ) → Type 0
-TakeTurns moment limits [] xs ys before after faults = (ys ≡ xs) × (after ≡ before) × (faults ≡ 0)
-TakeTurns moment limits (i ∷ is) xs ys before after faults =
-    (mid : List Instance) × (outs : List Output) × (goes_on : Bool) × (rest : ℕ)
-    × TakesTurn i moment limits goes_on xs mid before outs
-    × TakeTurns moment limits is mid ys outs after rest
-    × (faults ≡ (if goes_on then rest else rest + 1))
+-- instances of these numbers took their turns in this order
+abbrev pub TakeTurns : List ℕ → State → State → Type 0
+TakeTurns [] w w' = w' ≡ w
+TakeTurns (i ∷ is) w w' = (mid : State) × TakesTurn i w mid × TakeTurns is mid w'

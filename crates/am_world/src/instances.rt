@@ -1,26 +1,28 @@
 //! The eight instances, by number.
 
-ghost use Rattle.std.specs.Prelude.{◌≡◌, ◌==◌, ◌+◌, ◌<◌, true, ℕ, List, [], ◌++◌, None, Some, IfOk, IfErr, OnOk};
-ghost use Rattle.std.specs.Prelude.{OnErr, IfSome, IfNone, IsSome, IsTrue, find, option_copied, if◌then◌else◌};
+ghost use Rattle.std.specs.Prelude.{◌≡◌, ◌==◌, ◌+◌, ◌<◌, ◌++◌, true, false, ℕ, List, [], None, Some, IfOk, IfErr, OnOk};
+ghost use Rattle.std.specs.Prelude.{IfSome, IfNone, IsSome, OnErr, find, length, option_copied, if◌then◌else◌};
+ghost use Rattle.am_cluster.specs.Delivery.{outcome};
+ghost use Rattle.am_cluster.specs.RingChanges.{opened};
+ghost use Rattle.am_http.specs.Connections.{left_open};
 ghost use Rattle.am_http.specs.Verdict.{verdict};
-ghost use Rattle.am_node.specs.Held.{StopsFor as StopsReacting};
-ghost use Rattle.am_tenant.specs.Names.{same};
-ghost use Rattle.am_world.specs.Roster.{IsSameRoster};
-ghost use Rattle.am_ring.specs.Instances.{all_instances, is_instance};
-ghost use Rattle.am_rows.specs.Rows.{stored_in};
-ghost use Rattle.am_world.specs.Taking.{Takes};
-ghost use Rattle.am_world.specs.Ticks.{TakeTurns, TakesTurn};
+ghost use Rattle.am_rows.specs.Rows.{rows_of};
+ghost use Rattle.am_site.specs.Arriving.{IsRejected, with_brought};
+ghost use Rattle.am_site.specs.Reacting.{StopsReacting};
 
+use am_event::{AttemptName, Output};
 use am_http::ConnectionId;
-use am_instance::{AttemptName, Instance, Occasion, Output, Piece};
+use am_instance::{Begin, Ended, Instance, Occasion, Piece};
 use am_item::Fault;
+use am_ring::Instance as Number;
 use am_rows::{Rows, StoreRefusal};
-use am_text::{Failure, Moment};
+use am_text::Failure;
+use am_wire::Message;
 use std::alloc::{AllocError, Global};
 use std::marker::Model;
 
-/// The all_instances of all instances.
-const NUMBERS: [u8; 8] = [1, 2, 3, 4, 5, 6, 7, 8];
+/// The numbers of all instances.
+pub(crate) const NUMBERS: [u8; 8] = [1, 2, 3, 4, 5, 6, 7, 8];
 
 /// All instances, in order of number.
 #[derive(Drop)]
@@ -40,100 +42,94 @@ impl Model for Instances {
     ghost invariant = { λ s. AreNumbered s.list.items };
 }
 
-impl Instances {
-    ghost use Rattle.am_rows.specs.Refusing.{IsJudged, MayRefuse};
-    ghost use Rattle.am_node.specs.Retiring.{retired};
-    ghost use Rattle.am_replica.specs.Storing.{fault_in};
-    ghost use Rattle.am_world.specs.Leaving.{stop_at};
-    ghost use Rattle.am_instance.specs.Leaving.{BringsRejected, LeavesShelf, taken_in};
-    ghost use Rattle.am_world.specs.Opening.{FailsAt};
-    ghost use Rattle.am_world.specs.Shelves.{AreBacked, AreQuiet, IsBackedAt, IsStartedAt, NeverCleaner};
-    ghost use Rattle.am_world.specs.Shelves.{shelf_at, shelves_of};
-    ghost use Rattle.am_instance.specs.Shelves.{shelf_of};
-    ghost use Rattle.am_world.specs.Places.{ChangesAt, IsDownAt, IsReadOnce, SameElsewhere};
-    ghost use Rattle.am_world.specs.Places.{awaits_at, bytes_at, cause_at, incarnation_at, instance_at, local_at};
-    ghost use Rattle.am_world.specs.Places.{outcome_at, reader_of, refused_at, roster_of, situation_at, up_at};
-    ghost use Rattle.am_instance.specs.Instance.{reads, terms_in};
-    ghost use Rattle.am_instance.specs.Reaction.{IsCause};
+/// What all instances begin with.
+#[derive(Clone, Copy)]
+pub struct Beginning {
+    /// The first incarnation.
+    pub first: u32,
+    /// How many patterns each keeps built at most.
+    pub capacity: usize,
+    /// The secret of the hashes by which each keeps them.
+    pub hash_key: [u8; 16],
+}
 
-    /// All instances in their first incarnation. All are down and have nothing. Each keeps at most `capacity` patterns
-    /// built, by hashes of which `hash_key` is the secret.
-    pub fn new(
-        alloc: Global,
-        first: u32,
-        capacity: usize,
-        hash_key: [u8; 16],
-    ) -> Result<Instances, AllocError>
-        requires { 0 < capacity }
-        ensures down { IfOk result (λ instances. (i : ℕ) → IsDownAt i instances) }
-        ensures incarnation { IfOk result (λ instances. (i : ℕ) →
-            incarnation_at i instances ≡ (if is_instance i then first else 0)) }
-        ensures refused { IfOk result (λ instances. (i : ℕ) → refused_at i instances ≡ []) }
+impl Instances {
+    ghost use Rattle.am_node.specs.Retiring.{retired as retired_in_node};
+    ghost use Rattle.am_replica.specs.Storing.{fault_in};
+    ghost use Rattle.am_instance.specs.Bringing.{Brings, IsCause};
+    ghost use Rattle.am_instance.specs.Here.{Circumstances, circumstances, here_on};
+    ghost use Rattle.am_instance.specs.Instance.{GoesOn, IsDown, IsSameNode, ReadsAlike, ReadsOn, Starts};
+    ghost use Rattle.am_instance.specs.Instance.{bytes_in, local_in, node_local_in, reads, refused_in};
+    ghost use Rattle.am_instance.specs.Leaving.{LeavesShelf, stop_for};
+    ghost use Rattle.am_instance.specs.Reacting.{Reacts};
+    ghost use Rattle.am_instance.specs.Receiving.{Receives, StopsReceiving, brought_on};
+    ghost use Rattle.am_instance.specs.Shelves.{IsBacked, shelf_of};
+    ghost use Rattle.am_instance.specs.Ticks.{Either, Stops, Ticks};
+    ghost use Rattle.am_instance.specs.Whole.{IsWhole};
+    ghost use Rattle.am_world.specs.Places.{AreNumbered, At, ChangesAt, EachIs, IsReadOnce, SameElsewhere, Turns};
+    ghost use Rattle.am_world.specs.Places.{awaits_at, bytes_at, cause_at, incarnations_of, instance_at};
+    ghost use Rattle.am_world.specs.Places.{reader_of, up_at};
+    ghost use Rattle.am_world.specs.Shelves.{IsQuiet, StaysBacked};
+    ghost use Rattle.am_rows.specs.Refusing.{IsJudged, MayRefuse};
+
+    /// All instances in their first incarnation. All are down, have nothing, and know the first ring.
+    pub fn new(alloc: Global, beginning: Beginning) -> Result<Instances, AllocError>
+        requires { 0 < beginning.capacity }
+        ensures numbered { IfOk result AreNumbered }
+        ensures down { IfOk result (EachIs IsDown) }
+        ensures incarnation { IfOk result (EachIs (λ x. x.incarnation ≡ beginning.first)) }
+        ensures known { IfOk result (EachIs (λ x. x.known ≡ 0)) }
+        ensures refused { IfOk result (EachIs (λ x. refused_in x ≡ [])) }
+        ensures whole { IfOk result (λ xs. (around : Circumstances) → 0 < length around.rings →
+            EachIs (IsWhole around) xs) }
     {
         let mut list = Vec::with_capacity(alloc, NUMBERS.len())?;
         for number in NUMBERS {
-            list.push(Instance::new(alloc, number, first, capacity, hash_key)?)?;
+            let number = Number::new(number).unwrap();
+            list.push(Instance::new(alloc, begin(number, beginning))?)?;
         }
         Ok(Instances { list })
     }
 
-    /// Starts an instance that is down at a moment: it opens its store and accepts what that has of all tenants.
+    /// Starts an instance that is down on an occasion: it opens its store, and accepts what that has of the tenants of
+    /// which it is a replica.
     ///
     /// # Errors
     /// `F2` or `F3` of the store, or out of memory.
     pub fn start<R: Rows>(
         &mut self,
         alloc: Global,
-        number: u8,
-        moment: Moment,
-        stores: &mut [R],
-    ) -> Result<(), Failure<StoreRefusal>>
-        requires exists { IsTrue (is_instance number) }
-        requires down { IsDownAt number self.old }
-        requires backed { AreBacked self.old (shelves_of R.Rows stores.old) }
-        ensures starts { OnOk result (IsStartedAt number moment self.old self.new
-            (shelf_at number (shelves_of R.Rows stores.old))
-            (shelf_at number (shelves_of R.Rows stores.new))) }
-        ensures others { SameElsewhere number self.old self.new }
-        ensures clean { NeverCleaner (shelves_of R.Rows stores.old) (shelves_of R.Rows stores.new) }
-        ensures backed { OnOk result (AreBacked self.new (shelves_of R.Rows stores.new)) }
-        ensures fails { IfErr result (FailsAt R.Rows number stores.old) }
-    {
-        self.start_at(alloc, number, moment, &mut stores[place(number)])
-    }
-
-    // The same, with its store.
-    fn start_at<R: Rows>(
-        &mut self,
-        alloc: Global,
-        number: u8,
-        moment: Moment,
+        number: Number,
+        occasion: &Occasion<'_>,
         store: &mut R,
     ) -> Result<(), Failure<StoreRefusal>>
-        requires exists { IsTrue (is_instance number) }
-        requires down { IsDownAt number self.old }
-        ensures starts { OnOk result (IsStartedAt number moment self.old self.new
-            (shelf_of R.Rows store.old)
-            (shelf_of R.Rows store.new)) }
-        ensures others { SameElsewhere number self.old self.new }
+        requires down { At number IsDown self.old }
+        requires whole { At number (IsWhole (circumstances occasion.now)) self.old }
+        ensures starts { OnOk result (Turns number Starts self.old self.new) }
+        ensures opened { R.is_clean store.new ≡ true → OnOk result (Turns number (λ x x'. (t : List ℕ) → local_in t x'
+            ≡ opened (here_on (circumstances occasion.now) x t) (rows_of t (R.pairs store.old))) self.old self.new) }
+        ensures stays { Turns number (λ x x'. IsSameNode x x' × ReadsAlike x x') self.old self.new }
+        ensures at { ChangesAt number self.old self.new }
+        ensures whole { OnOk result (At number (IsWhole (circumstances occasion.now)) self.new) }
         ensures clean { R.is_clean store.new ≡ true → R.is_clean store.old ≡ true }
-        ensures backed { OnOk result (IsBackedAt number self.new (shelf_of R.Rows store.new)) }
-        ensures fails { R.is_clean store.new ≡ true
-            → IfErr result (IsJudged (R.is_foreign store.old) (MayRefuse (R.medium store.old) (R.medium store.new))) }
+        ensures backed { OnOk result (At number (λ x. IsBacked x (shelf_of R.Rows store.new)) self.new) }
+        ensures fails { R.is_clean store.new ≡ true → IfErr result
+            (IsJudged (R.is_foreign store.old) (MayRefuse (R.medium store.old) (R.medium store.new))) }
     {
-        self.list[place(number)].start(alloc, moment, store)
+        self.list[place(number)].start(alloc, occasion, store)
     }
 
-    /// Whether an instance is up.
-    #[tactic(auto, unfolding(crate::specs::Places::up_at))]
-    pub fn is_up(&self, number: u8) -> bool
-        ensures up { result ≡ up_at number self.now }
-        ensures exists { IsTrue result → IsTrue (is_instance number) }
+    /// The instance of a number, where it is up.
+    pub fn up(&self, number: u8) -> Option<Number>
+        ensures up { IfSome result (λ i. up_at number self.now ≡ true) }
+        ensures at { IfSome result (λ i. i ≡ number) }
+        ensures exists { IfSome result (λ i. IsSome (instance_at i self.now)) }
+        ensures none { IfNone result (up_at number self.now ≡ false) }
     {
         let _ = &self.list;
         match self.at(number) {
-            Some(instance) => instance.is_up(),
-            None => false,
+            Some(instance) if instance.is_up() => Some(instance.number()),
+            _ => None,
         }
     }
 
@@ -148,12 +144,23 @@ impl Instances {
         }
     }
 
-    /// The number of the instance that reads a connection.
-    pub fn reader_of(&self, connection: ConnectionId) -> Option<u8>
+    /// The present incarnations of all instances, in order of number.
+    pub fn incarnations(&self) -> [u32; 8]
+        ensures { result ≡ incarnations_of self.now }
+    {
+        let mut incarnations = [0; 8];
+        for (place, instance) in self.list.iter().enumerate() {
+            incarnations[place] = instance.incarnation();
+        }
+        incarnations
+    }
+
+    /// The instance that reads a connection.
+    pub fn reader_of(&self, connection: ConnectionId) -> Option<Number>
         ensures reader { result ≡ reader_of connection self.now }
-        ensures reads { IfSome result (λ i. IsSome (bytes_at connection i self.now)) }
-        ensures exists { IfSome result (λ i. IsTrue (is_instance i)) }
-        ensures none { IfNone result ((i : ℕ) → bytes_at connection i self.now ≡ None) }
+        ensures reads { IfSome result (λ i. At i (λ x. IsSome (bytes_in connection x)) self.now) }
+        ensures exists { IfSome result (λ i. IsSome (instance_at i self.now)) }
+        ensures none { IfNone result (EachIs (λ x. bytes_in connection x ≡ None) self.now) }
     {
         let _ = &self.list;
         match self.reader(connection) {
@@ -180,32 +187,51 @@ impl Instances {
         ensures { option_copied result ≡ instance_at number self.now }
     {
         for instance in &self.list {
-            if instance.number() == number {
+            if instance.number().number() == number {
                 return Some(instance);
             }
         }
         None
     }
 
-    /// Begins a connection to an instance that is up. Where the connection is being read already, it begins anew. An
-    /// error leaves every other instance as it was.
+    // Begins a connection to an instance.
+    fn open(
+        &mut self,
+        alloc: Global,
+        number: Number,
+        connection: ConnectionId,
+    ) -> Result<(), AllocError>
+        ensures reading { OnOk result ((c i : ℕ) → bytes_at c i self.new ≡
+            (if i == number then (if c == connection then Some [] else bytes_at c i self.old)
+            else bytes_at c i self.old)) }
+        ensures stays { Turns number (λ x x'. GoesOn x x' × (x'.site ≡ x.site) × (refused_in x' ≡ refused_in x))
+            self.old self.new }
+        ensures at { ChangesAt number self.old self.new }
+    {
+        self.list[place(number)].open(alloc, connection)
+    }
+
+    /// Begins a connection to an instance. Where the connection is being read already, it begins anew. An error leaves
+    /// every other instance as it was.
     pub fn begin(
         &mut self,
         alloc: Global,
-        number: u8,
+        number: Number,
         connection: ConnectionId,
     ) -> Result<(), AllocError>
-        requires { IsTrue (up_at number self.old) }
         ensures reading { OnOk result (IsReadOnce connection self.old → (c i : ℕ) → bytes_at c i self.new ≡
             (if c == connection then (if i == number then Some [] else None) else bytes_at c i self.old)) }
-        ensures local { OnOk result ((t : List ℕ) (i : ℕ) → local_at t i self.new ≡ local_at t i self.old) }
+        ensures beside { OnOk result ((i : ℕ) → Turns i (λ x x'. GoesOn x x' × (x'.site ≡ x.site)
+            × (refused_in x' ≡ refused_in x)) self.old self.new) }
+        ensures numbered { AreNumbered self.new }
         ensures others { OnErr result (SameElsewhere number self.old self.new) }
-        ensures roster { IsSameRoster (roster_of self.new) (roster_of self.old) }
-        ensures refused { (i : ℕ) → refused_at i self.new ≡ refused_at i self.old }
-        ensures quiet { AreQuiet self.old → OnOk result (AreQuiet self.new) }
+        ensures same { Turns number GoesOn self.old self.new }
+        ensures quiet { (i : ℕ) → At i IsQuiet self.old → At number (λ x. x.up ≡ true) self.old →
+            OnOk result (At i IsQuiet self.new) }
     {
+        let _ = &self.list;
         let reader = self.reader_of(connection);
-        self.open_at(alloc, number, connection)?;
+        self.open(alloc, number, connection)?;
         match reader {
             Some(reader) if reader != number => self.close(reader, connection),
             _ => {}
@@ -213,184 +239,192 @@ impl Instances {
         Ok(())
     }
 
-    // Begins a connection to an instance.
-    fn open_at(
-        &mut self,
-        alloc: Global,
-        number: u8,
-        connection: ConnectionId,
-    ) -> Result<(), AllocError>
-        requires { IsTrue (up_at number self.old) }
-        ensures reading { OnOk result ((c i : ℕ) → bytes_at c i self.new ≡
-            (if i == number then (if c == connection then Some [] else bytes_at c i self.old)
-            else bytes_at c i self.old)) }
-        ensures local { OnOk result ((t : List ℕ) (i : ℕ) → local_at t i self.new ≡ local_at t i self.old) }
-        ensures others { SameElsewhere number self.old self.new }
-        ensures roster { IsSameRoster (roster_of self.new) (roster_of self.old) }
-        ensures refused { (i : ℕ) → refused_at i self.new ≡ refused_at i self.old }
-    {
-        self.list[place(number)].open(alloc, connection)
-    }
-
     /// Lets an instance read a connection no more.
-    pub fn close(&mut self, number: u8, connection: ConnectionId)
-        requires { IsSome (bytes_at connection number self.old) }
-        ensures reading { (c i : ℕ) → bytes_at c i self.new ≡
-            (if i == number then (if c == connection then None else bytes_at c i self.old) else bytes_at c i self.old) }
-        ensures local { (t : List ℕ) (i : ℕ) → local_at t i self.new ≡ local_at t i self.old }
-        ensures roster { IsSameRoster (roster_of self.new) (roster_of self.old) }
-        ensures refused { (i : ℕ) → refused_at i self.new ≡ refused_at i self.old }
+    pub fn close(&mut self, number: Number, connection: ConnectionId)
+        ensures reading { Turns number (λ x x'. (c : ℕ) →
+            bytes_in c x' ≡ (if c == connection then None else bytes_in c x)) self.old self.new }
+        ensures stays { Turns number (λ x x'. GoesOn x x' × (x'.site ≡ x.site) × (refused_in x' ≡ refused_in x))
+            self.old self.new }
+        ensures at { ChangesAt number self.old self.new }
     {
         self.list[place(number)].close(connection);
     }
 
-    /// Lets each instance that is up tick on an occasion, in order of number, and puts out the tries that go out. Gives
-    /// how many a fault stopped; these have put nothing out.
+    /// Gives a piece to the instance that reads its connection, on an occasion.
+    ///
+    /// # Errors
+    /// As of [`Instance::feed`].
+    pub fn feed(
+        &mut self,
+        alloc: Global,
+        number: Number,
+        piece: &Piece<'_>,
+        occasion: &Occasion<'_>,
+        outputs: &mut Vec<Output>,
+    ) -> Result<(), Fault>
+        requires whole { At number (IsWhole (circumstances occasion.now)) self.old }
+        requires reads { At number (λ x. IsSome (bytes_in piece.now.connection x)) self.old }
+        ensures brings { OnOk result (Turns number (λ x x'. (before : List ℕ) →
+            bytes_in piece.now.connection x ≡ Some before →
+            Brings (verdict (before ++ piece.now.bytes.now)) piece.now.connection (circumstances occasion.now)
+            x x' outputs.old.items outputs.new.items) self.old self.new) }
+        ensures front { OnOk result (Turns number (λ x x'. (before : List ℕ) →
+            bytes_in piece.now.connection x ≡ Some before → (c : ℕ) → bytes_in c x' ≡ (if c == piece.now.connection
+            then left_open (verdict (before ++ piece.now.bytes.now)) (before ++ piece.now.bytes.now)
+            else bytes_in c x)) self.old self.new) }
+        ensures cause { IfErr result (λ fault. At number (λ x. (before : List ℕ) →
+            bytes_in piece.now.connection x ≡ Some before →
+            IsCause fault (verdict (before ++ piece.now.bytes.now)) piece.now.connection (circumstances occasion.now)
+            x) self.old) }
+        ensures stays { Turns number (λ x x'. GoesOn x x' × (refused_in x' ≡ refused_in x)) self.old self.new }
+        ensures at { ChangesAt number self.old self.new }
+        ensures whole { OnOk result (At number (IsWhole (circumstances occasion.now)) self.new) }
+        ensures backed { OnOk result (Turns number StaysBacked self.old self.new) }
+    {
+        self.list[place(number)].feed(alloc, piece, occasion, outputs)
+    }
+
+    /// Gives an instance that is up a message that comes, on an occasion.
+    ///
+    /// # Errors
+    /// As of [`Instance::receive`].
+    pub fn receive<R: Rows>(
+        &mut self,
+        alloc: Global,
+        number: Number,
+        message: Message,
+        occasion: &Occasion<'_>,
+        outputs: &mut Vec<Output>,
+        store: &mut R,
+    ) -> Result<(), Fault>
+        requires up { At number (λ x. x.up ≡ true) self.old }
+        requires whole { At number (IsWhole (circumstances occasion.now)) self.old }
+        requires backed { At number (λ x. IsBacked x (shelf_of R.Rows store.old)) self.old }
+        ensures receives { OnOk result (Turns number (λ x x'. Receives (circumstances occasion.now) message x x'
+            outputs.old.items outputs.new.items) self.old self.new) }
+        ensures cause { IfErr result (λ fault. Turns number (λ x x'. StopsReceiving (refused_in x) (refused_in x')
+            (circumstances occasion.now) message x fault) self.old self.new) }
+        ensures stays { Turns number ReadsOn self.old self.new }
+        ensures at { ChangesAt number self.old self.new }
+        ensures whole { OnOk result (At number (IsWhole (circumstances occasion.now)) self.new) }
+        ensures clean { R.is_clean store.new ≡ true → R.is_clean store.old ≡ true }
+        ensures backed { OnOk result (At number (λ x. IsBacked x (shelf_of R.Rows store.new)) self.new) }
+        ensures left { At number (λ x. LeavesShelf (λ t. node_local_in t x)
+            (with_brought (brought_on (circumstances occasion.now) x message)
+            message.tenant occasion.now.moment (λ t. node_local_in t x))
+            (IsRejected R.rejects message.tenant (brought_on (circumstances occasion.now) x message))
+            (fault_in result) (shelf_of R.Rows store.old) (shelf_of R.Rows store.new)) self.old }
+    {
+        self.list[place(number)].receive(alloc, message, occasion, outputs, store)
+    }
+
+    /// Lets an instance tick on an occasion, where it is up, and puts out what it tells. `false` where a fault stopped
+    /// it; it has put nothing out then.
     pub fn tick<R: Rows>(
         &mut self,
         alloc: Global,
-        occasion: &Occasion<'_>,
-        outputs: &mut Vec<Output>,
-        stores: &mut [R],
-    ) -> u64
-        requires { AreBacked self.old (shelves_of R.Rows stores.old) }
-        ensures turns { TakeTurns occasion.now.moment occasion.now.limits.now all_instances self.old self.new
-            outputs.old.items outputs.new.items result }
-        ensures backed { AreBacked self.new (shelves_of R.Rows stores.new) }
-        ensures clean { NeverCleaner (shelves_of R.Rows stores.old) (shelves_of R.Rows stores.new) }
-        // No other all_instances are those of instances that are up.
-        ensures exist { (i : ℕ) → IsTrue (up_at i self.old) → IsTrue (is_instance i) }
-        ensures left { (i : ℕ) → is_instance i ≡ true → up_at i self.old ≡ true → LeavesShelf
-            (λ t. local_at t i self.old) (λ t. retired occasion.now.moment (local_at t i self.old)) ⊥
-            (stop_at i self.new)
-            (shelf_at i (shelves_of R.Rows stores.old)) (shelf_at i (shelves_of R.Rows stores.new)) }
-    {
-        let _ = &self.list;
-        let mut faults = 0u64;
-        for number in NUMBERS {
-            let store = &mut stores[place(number)];
-            if !self.tick_at(alloc, number, occasion, outputs, store) {
-                faults += 1;
-            }
-        }
-        faults
-    }
-
-    // The turn of one of them: `false` where a fault stopped it.
-    fn tick_at<R: Rows>(
-        &mut self,
-        alloc: Global,
-        number: u8,
+        number: Number,
         occasion: &Occasion<'_>,
         outputs: &mut Vec<Output>,
         store: &mut R,
     ) -> bool
-        requires exists { IsTrue (is_instance number) }
-        requires backed { IsBackedAt number self.old (shelf_of R.Rows store.old) }
-        ensures turn { TakesTurn number occasion.now.moment occasion.now.limits.now result self.old self.new
-            outputs.old.items outputs.new.items }
+        requires whole { At number (IsWhole (circumstances occasion.now)) self.old }
+        requires backed { At number (λ x. IsBacked x (shelf_of R.Rows store.old)) self.old }
+        ensures ends { Turns number (λ x x'. Either result
+            (Ticks (circumstances occasion.now) x x' outputs.old.items outputs.new.items)
+            (Stops (circumstances occasion.now) x x' outputs.old.items outputs.new.items)) self.old self.new }
+        ensures stays { Turns number IsSameNode self.old self.new }
+        ensures at { ChangesAt number self.old self.new }
+        ensures whole { At number (IsWhole (circumstances occasion.now)) self.new }
         ensures clean { R.is_clean store.new ≡ true → R.is_clean store.old ≡ true }
-        ensures backed { IsBackedAt number self.new (shelf_of R.Rows store.new) }
-        ensures left { up_at number self.old ≡ true → LeavesShelf
-            (λ t. local_at t number self.old) (λ t. retired occasion.now.moment (local_at t number self.old)) ⊥
-            (stop_at number self.new)
-            (shelf_of R.Rows store.old) (shelf_of R.Rows store.new) }
+        ensures backed { At number (λ x. IsBacked x (shelf_of R.Rows store.new)) self.new }
+        ensures left { Turns number (λ x x'. x.up ≡ true → LeavesShelf (λ t. node_local_in t x)
+            (λ t. retired_in_node occasion.now.moment (node_local_in t x)) ⊥
+            (stop_for x'.up x'.cause) (shelf_of R.Rows store.old) (shelf_of R.Rows store.new)) self.old self.new }
+        ensures idle { At number (λ x. x.up ≡ false → store.new ≡ store.old) self.old }
     {
         self.list[place(number)].tick(alloc, occasion, outputs, store)
     }
 
-    /// Whether the outcome of this try of an attempt is awaited.
-    pub fn is_awaiting(&self, attempt: &AttemptName, tries: u8) -> bool
-        ensures awaits { result ≡ awaits_at attempt.now tries self.now }
-        ensures exists { IsTrue result → IsTrue (is_instance attempt.now.instance) }
+    /// The instance that awaits the outcome of this try of an attempt, where one does.
+    pub fn awaiting(&self, attempt: &AttemptName, tries: u8) -> Option<Number>
+        ensures awaits { IfSome result (λ i. awaits_at attempt.now tries self.now ≡ true) }
+        ensures at { IfSome result (λ i. i ≡ attempt.now.instance) }
+        ensures exists { IfSome result (λ i. IsSome (instance_at i self.now)) }
+        ensures none { IfNone result (awaits_at attempt.now tries self.now ≡ false) }
     {
         let _ = &self.list;
         match self.at(attempt.instance) {
-            Some(instance) => instance.is_awaiting(attempt, tries),
-            None => false,
+            Some(instance) if instance.is_up() && instance.is_awaiting(attempt, tries) => {
+                Some(instance.number())
+            }
+            _ => None,
         }
     }
 
-    /// Gives the instance of an attempt the outcome of one of its tries on an occasion.
+    /// Gives the instance of an attempt the end of one of its tries on an occasion.
+    ///
+    /// # Errors
+    /// As of [`Instance::take_outcome`].
     pub fn take_outcome(
         &mut self,
         alloc: Global,
+        number: Number,
         attempt: &AttemptName,
-        tries: u8,
-        occasion: &Occasion<'_>,
-        status: Option<u16>,
-    ) -> Result<(), Fault>
-        requires { IsTrue (is_instance attempt.now.instance) }
-        ensures local { OnOk result ((t : List ℕ) → local_at t attempt.now.instance self.new ≡
-            (if same t attempt.now.tenant then (outcome_at self.old occasion.now attempt.now tries status
-            (local_at t attempt.now.instance self.old)).local else local_at t attempt.now.instance self.old)) }
-        ensures fits { IfOk result (λ _. (outcome_at self.old occasion.now attempt.now tries status
-            (local_at attempt.now.tenant attempt.now.instance self.old)).fits ≡ true) }
-        ensures cause { IfErr result (λ fault. StopsReacting (outcome_at self.old occasion.now attempt.now tries status
-            (local_at attempt.now.tenant attempt.now.instance self.old)) fault) }
-        ensures stored { OnOk result ((t : List ℕ) (i : ℕ) →
-            stored_in (local_at t i self.new).held ≡ stored_in (local_at t i self.old).held) }
-        ensures others { SameElsewhere attempt.now.instance self.old self.new }
-        ensures reading { (c i : ℕ) → bytes_at c i self.new ≡ bytes_at c i self.old }
-        ensures roster { IsSameRoster (roster_of self.new) (roster_of self.old) }
-        ensures refused { (i : ℕ) → refused_at i self.new ≡ refused_at i self.old }
-    {
-        self.list[place(attempt.instance)].take_outcome(alloc, attempt, tries, occasion, status)
-    }
-
-    /// Gives a piece to the instance that reads its connection, on an occasion.
-    pub fn feed<R: Rows>(
-        &mut self,
-        alloc: Global,
-        number: u8,
-        piece: &Piece<'_>,
+        ended: Ended,
         occasion: &Occasion<'_>,
         outputs: &mut Vec<Output>,
-        store: &mut R,
     ) -> Result<(), Fault>
-        requires up { IsTrue (up_at number self.old) }
-        requires backed { IsBackedAt number self.old (shelf_of R.Rows store.old) }
-        requires reads { IsSome (bytes_at piece.now.connection number self.old) }
-        ensures takes { OnOk result ((before : List ℕ) → bytes_at piece.now.connection number self.old ≡ Some before →
-            Takes number piece.now.connection (before ++ piece.now.bytes.now) occasion.now.moment
-            (terms_in occasion.now)
-            self.old self.new outputs.old.items outputs.new.items) }
-        ensures silent { OnErr result (outputs.new.items ≡ outputs.old.items) }
-        ensures cause { IfErr result (λ fault. (before : List ℕ) →
-            bytes_at piece.now.connection number self.old ≡ Some before →
-            IsCause fault (verdict (before ++ piece.now.bytes.now)) (situation_at number self.old occasion.now)
-            (λ t. local_at t number self.old) (refused_at number self.new)) }
-        ensures stays { ChangesAt number self.old self.new }
-        ensures clean { R.is_clean store.new ≡ true → R.is_clean store.old ≡ true }
-        ensures backed { OnOk result (IsBackedAt number self.new (shelf_of R.Rows store.new)) }
-        ensures left { (before : List ℕ) → bytes_at piece.now.connection number self.old ≡ Some before → LeavesShelf
-            (λ t. local_at t number self.old)
-            (taken_in (verdict (before ++ piece.now.bytes.now)) (situation_at number self.old occasion.now)
-            occasion.now.moment piece.now.connection (λ t. local_at t number self.old))
-            (BringsRejected R.rejects (verdict (before ++ piece.now.bytes.now))
-            (situation_at number self.old occasion.now) (λ t. local_at t number self.old))
-            (fault_in result) (shelf_of R.Rows store.old) (shelf_of R.Rows store.new) }
+        requires { At number (IsWhole (circumstances occasion.now)) self.old }
+        ensures reacts { OnOk result (Turns number (λ x x'. Reacts (circumstances occasion.now) attempt.now.tenant
+            (λ here. outcome here attempt.now.number ended.tries ended.status)
+            x x' outputs.old.items outputs.new.items) self.old self.new) }
+        ensures cause { IfErr result (λ fault. At number (λ x. StopsReacting attempt.now.tenant
+            (outcome (here_on (circumstances occasion.now) x attempt.now.tenant)
+            attempt.now.number ended.tries ended.status) x.site fault) self.old) }
+        ensures stays { Turns number (λ x x'. ReadsOn x x' × (refused_in x' ≡ refused_in x)) self.old self.new }
+        ensures at { ChangesAt number self.old self.new }
+        ensures whole { OnOk result (At number (IsWhole (circumstances occasion.now)) self.new) }
+        ensures backed { OnOk result (Turns number StaysBacked self.old self.new) }
     {
-        self.list[place(number)].feed(alloc, piece, occasion, outputs, store)
+        self.list[place(number)].take_outcome(alloc, attempt, ended, occasion, outputs)
     }
 
-    /// Stops an instance for a fault, as a crash does: it is down, and all that it had is lost.
-    pub fn stop(&mut self, alloc: Global, number: u8, fault: Fault)
-        requires { IsTrue (is_instance number) }
-        ensures down { IsDownAt number self.new }
-        ensures cause { cause_at number self.new ≡ Some fault }
-        ensures others { SameElsewhere number self.old self.new }
-        ensures incarnation { incarnation_at number self.new ≡ incarnation_at number self.old }
-        ensures refused { (i : ℕ) → refused_at i self.new ≡ refused_at i self.old }
+    /// Stops an instance for a fault, as a crash does: it is down, and has lost all but its patterns.
+    pub fn stop(&mut self, alloc: Global, number: Number, fault: Fault)
+        ensures down { At number IsDown self.new }
+        ensures cause { At number (λ x. x.cause ≡ Some fault) self.new }
+        ensures stays { Turns number (λ x x'. IsSameNode x x' × (refused_in x' ≡ refused_in x)) self.old self.new }
+        ensures at { ChangesAt number self.old self.new }
+        ensures whole { (around : Circumstances) → Turns number (λ x x'. x.known < length around.rings →
+            IsWhole around x') self.old self.new }
     {
         self.list[place(number)].stop(alloc, fault);
     }
 }
 
-/// Where the instance of a number stands in the list.
-pub(crate) fn place(number: u8) -> usize
-    requires { IsTrue (is_instance number) }
-    ensures { result + 1 ≡ number }
+// What the instance of a number begins with.
+fn begin(number: Number, beginning: Beginning) -> Begin
+    ensures { result ≡ record {
+      number = number;
+      incarnation = beginning.first;
+      capacity = beginning.capacity;
+      hash_key = beginning.hash_key;
+    } }
 {
-    usize::from(number) - 1
+    let hash_key = beginning.hash_key;
+    Begin {
+        number,
+        incarnation: beginning.first,
+        capacity: beginning.capacity,
+        hash_key,
+    }
+}
+
+/// Where the instance of a number stands in the list.
+pub(crate) fn place(number: Number) -> usize
+    ensures place { result + 1 ≡ number }
+    ensures range { result < 8 }
+{
+    usize::from(number.number()) - 1
 }

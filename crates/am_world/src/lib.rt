@@ -1,14 +1,17 @@
-//! Events, the instances, and the theorem: every tenant as if alone.
+//! Eight instances, the messages between them, and the theorem: every tenant as if alone.
 #![tactic(auto)]
 
-pub mod event;
+mod common;
+mod handling;
 mod instances;
 mod opening;
+mod posting;
 mod state;
 pub mod theorem;
+mod turning;
 pub mod world;
 
+pub use am_event::{AttemptName, Event, LAST_MOMENT, Output, Refused};
 pub use am_item::Fault;
-pub use event::{AttemptName, Event, LAST_MOMENT, Output, Refused};
 pub use opening::OpenRefusal;
 pub use world::World;

@@ -4,6 +4,7 @@ ghost use Rattle.std.specs.Prelude.{◌≡◌};
 ghost use Rattle.am_world.specs.Opening.{refusal_for};
 ghost use Rattle.am_world.specs.declared.opening.OpenRefusal.TheVariants.{OutOfMemory};
 
+use am_ring::Instance as Number;
 use am_rows::StoreRefusal;
 use am_text::Failure;
 use std::alloc::AllocError;
@@ -15,7 +16,7 @@ use std::fmt;
 pub enum OpenRefusal {
     /// The store of an instance was refused.
     Store {
-        /// The number of the instance.
+        /// The number of the instance, 1 to 8.
         instance: u8,
         /// `F2` or `F3`.
         refusal: StoreRefusal,
@@ -25,11 +26,14 @@ pub enum OpenRefusal {
 }
 
 impl OpenRefusal {
-    pub(crate) fn of_store(instance: u8, failure: Failure<StoreRefusal>) -> OpenRefusal
+    pub(crate) fn of_store(instance: Number, failure: Failure<StoreRefusal>) -> OpenRefusal
         ensures { result ≡ refusal_for instance failure }
     {
         match failure {
-            Failure::Refused(refusal) => OpenRefusal::Store { instance, refusal },
+            Failure::Refused(refusal) => OpenRefusal::Store {
+                instance: instance.number(),
+                refusal,
+            },
             Failure::OutOfMemory => OpenRefusal::OutOfMemory,
         }
     }

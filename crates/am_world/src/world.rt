@@ -1,17 +1,20 @@
 //! The world: one way in, one way out.
 
-ghost use Rattle.std.specs.Prelude.{◌≡◌, IfErr, IfOk, IsOk, MatchOption, OnErr, length};
+ghost use Rattle.std.specs.Prelude.{◌≡◌, IfErr, IfOk, IsOk, MatchOption, OnErr, Err, length};
+ghost use Rattle.std.specs.Option.{option_copied};
 
-use crate::event::{Event, Output, Refused};
 use crate::opening::OpenRefusal;
 use crate::state::State;
+use am_event::{Event, Output, Refused};
 use am_item::Fault;
+use am_messages::MessageName;
 use am_rows::Rows;
 use am_setup::Setup;
+use am_wire::Message;
 use std::alloc::Global;
 use std::marker::Model;
 
-/// The eight instances with their stores, the clock, and what was put out so far.
+/// The eight instances with their stores, the messages between them, the clock, and what was put out so far.
 pub struct World<R: Rows> {
     state: State,
     // In order of the instances' numbers.
@@ -19,14 +22,15 @@ pub struct World<R: Rows> {
 }
 
 impl<R: Rows> Model for World<R> {
+    ghost use Rattle.am_world.specs.Consistent.{Contents, IsConsistent};
     ghost use Rattle.am_world.specs.Shelves.{AreBacked, shelves_of};
-    ghost use Rattle.am_world.specs.Whole.{Whole};
 
-    ghost Value = { Whole };
+    ghost Value = { Contents };
 
     ghost view = { λ w. record { state = w.state; shelves = shelves_of R.Rows w.stores.items } };
 
-    ghost invariant = { λ w. AreBacked w.state.instances (shelves_of R.Rows w.stores.items) };
+    ghost invariant = { λ w.
+        IsConsistent w.state × AreBacked w.state.instances (shelves_of R.Rows w.stores.items) };
 }
 
 // Written out, so that a crate which owns a world has no need to prove anew how each of its parts is dropped.
@@ -39,12 +43,12 @@ impl<R: Rows + Drop> Drop for World<R> {
 }
 
 impl<R: Rows + Drop> World<R> {
-    ghost use Rattle.am_world.specs.Opening.{FailsToOpen};
+    ghost use Rattle.am_world.specs.Opening.{FailsToOpen, Opens, StayOutside, origin_of};
     ghost use Rattle.am_world.specs.Shelves.{AreClean, NeverCleaner, rows_in, shelves_of};
-    ghost use Rattle.am_world.specs.Simulation.{Opens};
 
-    /// A world at moment 0 over the stores of the eight instances, in order of number. No connection is open. The
-    /// instance that serves opens its store, and holds what that has of all tenants.
+    /// A world at moment 0 over the stores of the eight instances, in order of number. No connection is open, and no
+    /// message was sent. The instances of the ring open their stores, and each holds what its store has of the tenants
+    /// of which it is a replica; what it has of others is dropped. The other stores stay as they were.
     ///
     /// # Errors
     /// The store of an instance was refused: with `F2`, where a call of the database was, and with `F3`, where it is no
@@ -52,9 +56,11 @@ impl<R: Rows + Drop> World<R> {
     pub fn open(alloc: Global, setup: Setup, mut stores: Vec<R>) -> Result<World<R>, OpenRefusal>
         requires { length stores.items ≡ 8 }
         ensures opens { IfOk result (λ world. AreClean world.shelves →
-            Opens setup.origin (rows_in (shelves_of R.Rows stores.items)) world.state) }
+            Opens (origin_of setup.origin) (rows_in (shelves_of R.Rows stores.items)) world.state) }
         ensures clean { IfOk result (λ world. NeverCleaner (shelves_of R.Rows stores.items) world.shelves) }
-        ensures refused { IfErr result (FailsToOpen R.Rows stores.items) }
+        ensures left { IfOk result (λ world.
+            StayOutside setup.origin.ring (shelves_of R.Rows stores.items) world.shelves) }
+        ensures refused { IfErr result (FailsToOpen R.Rows setup.origin.ring stores.items) }
     {
         let state = State::open(alloc, setup, &mut stores)?;
         Ok(World { state, stores })
@@ -67,7 +73,8 @@ impl<R: Rows> World<R> {
     ghost use Rattle.am_world.specs.Refusal.{refusal};
     ghost use Rattle.am_world.specs.Runs.{Forgets, Headline, Prefixes, Run};
     ghost use Rattle.am_world.specs.Shelves.{NeverCleaner, shelves_of};
-    ghost use Rattle.am_world.specs.Simulation.{Step, fault_count, put_out};
+    ghost use Rattle.am_world.specs.Simulation.{fault_count, message_named, put_out};
+    ghost use Rattle.am_world.specs.Stopping.{Step};
 
     /// The stores, in order of the instances' numbers, each at its last commit.
     pub fn into_stores(self) -> Vec<R>
@@ -117,10 +124,17 @@ impl<R: Rows> World<R> {
         self.state.cause(instance)
     }
 
+    /// The message of a name, where it was sent and isn't lost.
+    pub fn message(&self, name: &MessageName) -> Option<&Message>
+        ensures { option_copied result ≡ message_named name.now self.now.state }
+    {
+        self.state.message(name)
+    }
+
     /// Handles one event. A refused one changes nothing. Where the system refuses memory, a store refuses a call, a
-    /// count passes its greatest number, or a pattern that is in use gives no answer, the instance that was handling it
-    /// stops, puts nothing out, and one fault more is counted; its store stays at its last commit, which may have been
-    /// the event's own.
+    /// count passes its greatest number, a message its greatest length, or a pattern that is in use gives no answer,
+    /// the instance that was handling it stops, puts nothing out, and one fault more is counted; its store stays at its
+    /// last commit, which may have been the event's own.
     pub fn step(&mut self, alloc: Global, event: &Event) -> Result<(), Refused>
         ensures step { Step self.old.state event.now self.new.state }
         ensures refused { MatchOption (refusal self.old.state event.now) (IsOk result) (λ r. result ≡ Err r) }

@@ -1,10 +1,15 @@
-//! Worked examples: heads of requests, requests and their replies, two worlds beside each other, and one that is served.
+//! Worked examples: heads of requests, requests and their replies, two worlds beside each other, a ring of three, and a
+//! world that is served.
 #![tactic(auto)]
 
 #[cfg(test)]
 mod api;
 #[cfg(test)]
 mod http;
+#[cfg(test)]
+mod playing;
+#[cfg(test)]
+mod ring;
 #[cfg(test)]
 mod serving;
 #[cfg(test)]

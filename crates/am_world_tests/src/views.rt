@@ -1,14 +1,14 @@
 //! Two worlds in which a tenant's requests are the same.
 
+use crate::playing::{IN_ORDER, Play};
 use crate::{setup, stores};
+use am_event::{Event, Output};
 use am_expect::{equal, holds};
 use am_http::ConnectionId;
 use am_setup::Setup;
 use am_test_store::TestStore;
-use am_text::Octets;
-use am_world::event::{Event, Output};
+use am_world::World;
 use am_world::theorem::run_both;
-use am_world::world::World;
 use std::alloc::Global;
 use std::test::Fail;
 
@@ -25,24 +25,27 @@ const QUERY_A: &str =
 const QUERY_B: &str =
     "GET /alertmanager/api/v2/alerts?receiver=%5Cw%7B200%7D HTTP/1.1\r\nX-Scope-OrgID: b\r\n\r\n";
 
-/// A whole request that comes at once on a connection of its own.
-fn asked(
-    alloc: Global,
-    events: &mut Vec<Event>,
-    connection: u64,
-    request: &str,
-) -> Result<(), Fail> {
-    let connection = ConnectionId::new(connection);
-    events.push(Event::Open {
-        connection,
-        instance: 1,
-    })?;
-    events.push(Event::Bytes {
-        connection,
-        moment: 1_750_000_000_000,
-        piece: Octets::read(alloc, request.as_bytes())?,
-    })?;
-    Ok(())
+// Requests of a tenant, each on a connection of its own, and the same between those of another, whose messages come
+// between the tenant's. Those of a row are made at once.
+const ALONE: [&[(u64, &str)]; 2] = [&[(0, POST_A)], &[(1, QUERY_A)]];
+
+const AMONG: [&[(u64, &str)]; 2] = [&[(2, POST_B), (0, POST_A)], &[(3, QUERY_B), (1, QUERY_A)]];
+
+/// Makes the requests of a row, and then all their messages come.
+fn make(alloc: Global, play: &mut Play, requests: &[(u64, &str)]) -> Result<(), Fail> {
+    for (connection, request) in requests {
+        play.ask(alloc, *connection, 1, request)?;
+    }
+    play.pump(alloc, &IN_ORDER)
+}
+
+/// What happens where these requests are made, row by row.
+fn events_of(alloc: Global, rows: &[&[(u64, &str)]]) -> Result<Vec<Event>, Fail> {
+    let mut play = Play::open(alloc)?;
+    for row in rows {
+        make(alloc, &mut play, row)?;
+    }
+    Ok(play.into_events())
 }
 
 /// The reply on a connection.
@@ -52,26 +55,8 @@ fn reply_on(world: &World<TestStore>, connection: u64) -> Option<&[u8]> {
             connection: answered,
             bytes,
         } => (*answered == ConnectionId::new(connection)).then_some(bytes.as_slice()),
-        Output::Notice { .. } => None,
+        Output::Notice { .. } | Output::Send(_) => None,
     })
-}
-
-/// The requests of a tenant.
-fn alone(alloc: Global) -> Result<Vec<Event>, Fail> {
-    let mut events = Vec::new(alloc);
-    asked(alloc, &mut events, 0, POST_A)?;
-    asked(alloc, &mut events, 1, QUERY_A)?;
-    Ok(events)
-}
-
-/// The same between those of another.
-fn among(alloc: Global) -> Result<Vec<Event>, Fail> {
-    let mut events = Vec::new(alloc);
-    asked(alloc, &mut events, 2, POST_B)?;
-    asked(alloc, &mut events, 0, POST_A)?;
-    asked(alloc, &mut events, 3, QUERY_B)?;
-    asked(alloc, &mut events, 1, QUERY_A)?;
-    Ok(events)
 }
 
 /// The reply on a connection is the same in both worlds.
@@ -83,8 +68,8 @@ fn is_same(one: &World<TestStore>, other: &World<TestStore>, connection: u64) ->
 
 #[test]
 fn equal_views_give_equal_outputs(rt: HostRuntime) -> Result<(), Fail> {
-    let events = alone(rt.alloc())?;
-    let others = among(rt.alloc())?;
+    let events = events_of(rt.alloc(), &ALONE)?;
+    let others = events_of(rt.alloc(), &AMONG)?;
     let small = Setup::new([0; 32], &[1, 2, 3], 1, 1).ok_or("no settings")?;
     let stores_of_one = stores(rt.alloc())?;
     let stores_of_other = stores(rt.alloc())?;
@@ -100,8 +85,11 @@ fn equal_views_give_equal_outputs(rt: HostRuntime) -> Result<(), Fail> {
         stores_of_other,
         &others,
     )?;
-    equal(world.outputs().len(), 2, "alone")?;
-    equal(other.outputs().len(), 4, "among others")?;
+    // A post sends twelve messages, and a query six.
+    equal(world.outputs().len(), 20, "alone")?;
+    equal(other.outputs().len(), 40, "among others")?;
+    equal(world.faults(), 0, "faults")?;
+    equal(other.faults(), 0, "faults among others")?;
     let refused = reply_on(&other, 3).ok_or("no reply")?;
     holds(refused.ends_with(b"{\"code\":\"B2\"}"), "a large pattern")?;
     is_same(&world, &other, 0)?;

@@ -2,12 +2,13 @@
 
 ghost use Rattle.std.specs.Prelude.{◌≡◌, length};
 
-use crate::stores;
+use crate::stores::{self, NUMBERS};
 use am_gateway::Gateway;
 use am_options::Serving;
 use am_play::ending;
 use am_play::stops::Stops;
 use am_play::streams::Sink;
+use am_ring::Ring;
 use am_rows::Rows;
 use am_server::{Server, listen};
 use am_setup::Setup;
@@ -17,9 +18,6 @@ use std::net::{Ipv4Addr, Net, SocketAddr};
 use std::process::ExitCode;
 use std::time::Clock;
 use std::{io, mem};
-
-/// The instance that all connections are opened to: the lowest of the ring.
-const SERVING: u8 = 1;
 
 /// The exit status where the port can't be had.
 const NO_PORT: u8 = 2;
@@ -96,6 +94,7 @@ fn serve_over<S: Rows + Drop, R: Net + Clock + Print + AllocGlobal, E: Sink>(
 ) -> io::Result<ExitCode>
     requires { length stores.items ≡ 8 }
 {
+    let serving = lowest(&setup.ring());
     let mut world = match World::open(rt.alloc(), setup, stores) {
         Ok(world) => world,
         Err(refusal) => return stores::refuse(rt.alloc(), errors, refusal),
@@ -109,11 +108,11 @@ fn serve_over<S: Rows + Drop, R: Net + Clock + Print + AllocGlobal, E: Sink>(
         "amring: serves http://{address}; GET /ready tells it the time, once a second or so\n"
     )?;
     errors.write_whole(ready.as_bytes())?;
-    attend(rt, listener, &mut world, count, errors)?;
+    attend(rt, listener, &mut world, serving, count, errors)?;
     Stops::none().tell(rt.alloc(), &world, errors)?;
     let faults = world.faults();
     print!(rt; "faults {faults}\n")?;
-    let status = match world.cause(SERVING) {
+    let status = match world.cause(serving) {
         None => ExitCode::SUCCESS,
         Some(_) => ExitCode::FAILURE,
     };
@@ -122,15 +121,26 @@ fn serve_over<S: Rows + Drop, R: Net + Clock + Print + AllocGlobal, E: Sink>(
     Ok(status)
 }
 
+/// The lowest instance of the ring, to which all connections are opened.
+fn lowest(ring: &Ring) -> u8 {
+    for number in NUMBERS {
+        if ring.contains(number) {
+            return number;
+        }
+    }
+    NUMBERS[0]
+}
+
 /// Serves the clients of a listener until all is done, or the instance stopped; tells where the clock is off.
 fn attend<S: Rows + Drop, R: Net + Clock + AllocGlobal, E: Sink>(
     rt: &R,
     listener: TcpListener,
     world: &mut World<S>,
+    serving: u8,
     count: Option<u64>,
     errors: &mut E,
 ) -> io::Result<()> {
-    let mut gateway = Gateway::new(rt.alloc(), world, SERVING)?;
+    let mut gateway = Gateway::new(rt.alloc(), world, serving)?;
     let mut server = Server::open(rt, rt.alloc(), listener, &mut gateway, count)?;
     for _ in 0..u64::MAX {
         if server.is_done() || !server.is_up() {

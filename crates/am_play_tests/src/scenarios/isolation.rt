@@ -1,6 +1,7 @@
 //! Tenants beside each other, and the same tenants alone.
 
-use super::{READ, played, plays, push_pieces};
+use super::pieces::push_pieces;
+use super::{READ, played, plays};
 use am_expect::equal;
 use am_play::play::Played;
 use std::alloc::Global;
@@ -67,13 +68,16 @@ const READS: [(&str, &str, usize); 3] = [
 
 const LAST_READS: [(&str, &str, usize); 2] = [("b-read", READ_B, 8), ("a-again", READ, 11)];
 
-/// A scenario of three tenants, whose requests come in pieces between those of the others.
+/// A scenario of three tenants, whose requests come in pieces between those of the others, and so do the messages of
+/// these.
 fn mixed(alloc: Global) -> Result<String, Fail> {
     let mut scenario = String::from_str(alloc, "at 1750000000000\ntick\n")?;
     push_in_turns(alloc, &mut scenario, &POSTS)?;
-    scenario.push_str("at 1750000000500\ntick\n")?;
+    scenario.push_str("pump\nat 1750000000500\ntick\n")?;
     push_in_turns(alloc, &mut scenario, &READS)?;
+    scenario.push_str("pump\n")?;
     push_in_turns(alloc, &mut scenario, &LAST_READS)?;
+    scenario.push_str("pump\n")?;
     Ok(scenario)
 }
 

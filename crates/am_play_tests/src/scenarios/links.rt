@@ -2,7 +2,8 @@
 
 ghost use Rattle.std.specs.Prelude.{◌≡◌, true};
 
-use super::{EMPTY_AND_REFUSED_POSTS, NOTIFIED, POSTED_AND_READ, many_pieces, played_over};
+use super::pieces::many_pieces;
+use super::{EMPTY_AND_REFUSED_POSTS, NOTIFIED, POSTED_AND_READ, played_over};
 use am_expect::equal;
 use am_play::link::Link;
 use am_play::loopback::Loopback;
@@ -52,14 +53,20 @@ impl Link for Failing {
     }
 }
 
-// How many calls of the link don't fail before one does, and which lines are written then of those of `NOTIFIED`. The
-// first call carries a configuration and the second one a post; the next two tell of notices, of which the first is tried
-// again where its answer doesn't come.
-const LINES_LEFT: [(usize, &[usize]); 4] = [
-    (0, &[1, 6]),
-    (1, &[0, 6]),
-    (2, &[0, 1, 2, 3, 5, 6]),
-    (3, &[0, 1, 2, 5, 6]),
+// How many calls of the link don't fail before one does, which instance tells the webhook then, and which lines are
+// written of those of `NOTIFIED`. The first call carries a configuration, and the next twelve the messages of its
+// operation, of which the seventh puts it to instance 3; then come a post with its twelve messages, a notice, the two
+// messages that put to the others that the webhook was told, and the second notice. A notice whose answer doesn't come
+// is tried again.
+const LINES_LEFT: [(usize, &str, &[usize]); 8] = [
+    (0, "3", &[1, 6]),
+    (1, "3", &[0, 1, 2, 4, 6]),
+    (7, "2", &[0, 1, 2, 4, 6]),
+    (8, "3", &[0, 1, 2, 4, 6]),
+    (12, "3", &[0, 1, 2, 4, 6]),
+    (13, "3", &[0, 6]),
+    (26, "3", &[0, 1, 2, 3, 4, 6]),
+    (29, "3", &[0, 1, 2, 4, 5, 6]),
 ];
 
 /// Plays a scenario over a link of which a call fails, after so many that don't, and holds what is written to what is wanted.
@@ -81,6 +88,13 @@ fn lines_at(alloc: Global, text: &str, places: &[usize]) -> Result<String, Fail>
     Ok(lines)
 }
 
+/// Those lines of what `NOTIFIED` writes that have these places, where this instance tells the webhook.
+fn told_by(alloc: Global, teller: &str, places: &[usize]) -> Result<String, Fail> {
+    let told = format!(in alloc; "notice shop {teller} ")?;
+    let lines = lines_at(alloc, NOTIFIED.1, places)?;
+    Ok(lines.replace(alloc, "notice shop 3 ", told.as_str())?)
+}
+
 /// The scenario `NOTIFIED`, whose webhook always takes what it is told.
 fn taken(alloc: Global) -> Result<String, Fail> {
     let mut taken = String::new(alloc);
@@ -94,15 +108,15 @@ fn taken(alloc: Global) -> Result<String, Fail> {
 #[test]
 fn a_call_fails(rt: HostRuntime) -> Result<(), Fail> {
     let scenario = taken(rt.alloc())?;
-    for (call, left) in LINES_LEFT {
-        let wanted = lines_at(rt.alloc(), NOTIFIED.1, left)?;
+    for (call, teller, left) in LINES_LEFT {
+        let wanted = told_by(rt.alloc(), teller, left)?;
         writes(rt.alloc(), scenario.as_str(), call, wanted.as_str())?;
     }
     Ok(())
 }
 
-// A post in five pieces, of which one is lost, isn't answered, and nothing is read back; then the request that reads is
-// lost.
+// A post in five pieces, of which one is lost, isn't answered, and nothing is read back. Where one of its twelve
+// messages is lost it is answered and read back all the same. Then the request that reads is lost.
 #[test]
 fn a_piece_is_lost(rt: HostRuntime) -> Result<(), Fail> {
     let alloc = rt.alloc();
@@ -111,8 +125,11 @@ fn a_piece_is_lost(rt: HostRuntime) -> Result<(), Fail> {
     for call in 0..5 {
         writes(alloc, posted.as_str(), call, read_none.as_str())?;
     }
+    for call in 5..17 {
+        writes(alloc, posted.as_str(), call, POSTED_AND_READ.1)?;
+    }
     let post_only = lines_at(alloc, POSTED_AND_READ.1, &[0, 2])?;
-    writes(alloc, posted.as_str(), 5, post_only.as_str())
+    writes(alloc, posted.as_str(), 17, post_only.as_str())
 }
 
 #[test]

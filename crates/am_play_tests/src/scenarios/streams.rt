@@ -87,15 +87,15 @@ impl<'a> Read for Broken<'a> {
     }
 }
 
-/// The replies to the calls of the lines that end in this part of a scenario.
+/// The replies of the lines that end in this part of a scenario: each `pump` brings one.
 fn replies_of(alloc: Global, part: &str, replies: &str) -> Result<String, Fail> {
     let (lines, _) = part.rsplit_once('\n').unwrap_or(("", ""));
-    let calls = lines
+    let pumps = lines
         .lines()
-        .filter(|line| line.starts_with("call"))
+        .filter(|line| line.starts_with("pump"))
         .count();
     let mut told = String::new(alloc);
-    for reply in replies.lines().take(calls) {
+    for reply in replies.lines().take(pumps) {
         told.push_str(reply)?;
         told.push('\n')?;
     }

@@ -9,12 +9,6 @@ returns-in_err-get_str c =
     sym (first_value-rows (found_of c.args.matches.now) c.args.name.now) ∙ search rules in
     rw said (search rules)
 
-pub returns-in_err-number : goal.returns-in_err-number
-returns-in_err-number c =
-    let said : first_of c.args.name.now (rows_of (found_of c.args.matches.now)) ≡ Some c.in_ok-get_str.field-0.now =
-    sym (first_value-rows (found_of c.args.matches.now) c.args.name.now) ∙ search rules in
-    rw said (search rules)
-
 pub returns : goal.returns
 returns c =
     let said : first_of c.args.name.now (rows_of (found_of c.args.matches.now)) ≡ Some c.in_ok-get_str.field-0.now =

@@ -1,10 +1,11 @@
-use Rattle.std.proofs.Common.{◌∙◌, inr, sym}
-use Rattle.am_gateway.proofs.HearingLemmas.{handles, lets_before, replies_still}
+use Rattle.std.proofs.Common.{◌∙◌, ap, inr, sym}
+use Rattle.am_gateway.specs.Passing.{has_message}
+use Rattle.am_gateway.proofs.HearingLemmas.{handles, lets_before, replies_still, unreplied_on}
 use Rattle.am_gateway.proofs.gateway.Gateway.answer.Goals as goal
 
 pub returns-in-Err-clause-err : goal.returns-in-Err-clause-err
 returns-in-Err-clause-err g c = record {
-  reached = inr (_, handles _ _ _ _ c.step.ensures.step c.sort.ensures.forgets, c.in-Err.ensures.err);
+  reached = inr (_, handles _ _ _ _ _ _ c.step.ensures.step c.pass_all.ensures c.sort.ensures.forgets, record { queues = c.in-Err.ensures.err.queues; keeps = c.in-Err.ensures.err.keeps });
   is_tick_due = c.sort.ensures.is_tick_due;
   under_way = c.sort.ensures.under_way;
   same = record {
@@ -15,29 +16,29 @@ returns-in-Err-clause-err g c = record {
 }
 
 pub returns-in-Ok-None-clause-verdict : goal.returns-in-Ok-None-clause-verdict
-returns-in-Ok-None-clause-verdict g c = (
-  record {
-    outs = _;
-    handles = handles _ _ _ _ c.step.ensures.step c.sort.ensures.forgets;
-    reply_is = sym (sym c.in-Ok-None.field-0-is ∙ c.in-Ok-None.ensures.reply);
-    queues = c.in-Ok-None.ensures.queued;
-    under_way = c.sort.ensures.under_way;
-    same = record {
-      instance = c.sort.ensures.same.instance;
-      moment = c.sort.ensures.same.moment;
-      ready = c.sort.ensures.same.ready;
-    };
-  },
-  c.sort.ensures.is_tick_due,
-)
+returns-in-Ok-None-clause-verdict g c = rw c.unreplied.ensures (
+    unreplied_on _ _ _ c.args.self.now c.sort.new.self c.has_message-is_whole.result
+    (sym (c.has_message-is_whole.ensures ∙ ap has_message c.outputs.ensures)) (record {
+      handles = handles _ _ _ _ _ _ c.step.ensures.step c.pass_all.ensures c.sort.ensures.forgets;
+      reply_is = sym (sym c.in-Ok-None.field-0-is ∙ c.in-Ok-None.ensures.reply);
+      sorts = record { queues = c.in-Ok-None.ensures.sorted.queues; keeps = c.in-Ok-None.ensures.sorted.keeps };
+      under_way = c.sort.ensures.under_way;
+      same = record {
+        instance = c.sort.ensures.same.instance;
+        moment = c.sort.ensures.same.moment;
+        ready = c.sort.ensures.same.ready;
+      };
+    })
+    c.sort.ensures.is_tick_due
+    )
 
 pub returns-in-Ok-Some-clause-verdict : goal.returns-in-Ok-Some-clause-verdict
 returns-in-Ok-Some-clause-verdict g c = rw c.into_vec.ensures (
-  replies_still _ _ _ c.args.self.now c.sort.new.self c.note.new.self c.note.ensures.rest (record {
-    outs = _;
-    handles = handles _ _ _ _ c.step.ensures.step c.sort.ensures.forgets;
+  _,
+  replies_still _ _ _ _ c.args.self.now c.sort.new.self c.note.new.self c.note.ensures.rest (record {
+    handles = handles _ _ _ _ _ _ c.step.ensures.step c.pass_all.ensures c.sort.ensures.forgets;
     reply_is = sym (sym c.in-Ok-Some.field-0-is ∙ c.in-Ok-Some.ensures.reply);
-    queues = c.in-Ok-Some.ensures.queued;
+    sorts = record { queues = c.in-Ok-Some.ensures.sorted.queues; keeps = c.in-Ok-Some.ensures.sorted.keeps };
     under_way = c.sort.ensures.under_way;
     same = record {
       instance = c.sort.ensures.same.instance;

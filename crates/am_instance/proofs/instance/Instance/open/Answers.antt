@@ -1,7 +1,6 @@
 use Rattle.std.proofs.Common.{refl}
-use Rattle.am_instance.specs.Instance.{local_in}
+use Rattle.am_instance.proofs.Growing.{more_nothing}
 use Rattle.am_instance.proofs.instance.Instance.open.Goals as goal
 
-pub returns-clause-local : goal.returns-clause-local
-unfolding local_in
-returns-clause-local c t = refl
+pub returns-clause-stays : goal.returns-clause-stays
+returns-clause-stays c = record { up = refl; number = refl; incarnation = refl; known = refl; refused = more_nothing _ _ refl }

@@ -1,7 +1,8 @@
 use Rattle.std.proofs.Common.{◌≡◌, ◌++◌, None, Some, refl, sym, ap, ◌∙◌, append-nil}
 use Rattle.std.specs.Global.{Vec}
 use Rattle.am_world.specs.Refusal.{refusal}
-use Rattle.am_world.specs.Whole.{Whole}
+use Rattle.am_world.specs.Consistent.{Contents}
+use Rattle.am_play.specs.Mail.{letters_in}
 use Rattle.am_play.specs.Trace.{refusal_line}
 use Rattle.am_play.specs.declared.report.Try.{Try}
 use Rattle.am_play.proofs.PlayingLemmas.{reports_event, refusal_same, taken_none, refused_some}
@@ -21,6 +22,7 @@ returns-in-Ok-clause-happens g c =
     reports_event c.args.self.now c.args.event.now _ c.clear_outputs.new.self.state None c.args.report.now
     c.push_outputs.new.report c.clear_outputs.ensures.forgets
     c.step-taken.ensures.step taken (λ h. absurd (cc)) refl refl refl
+    (c.in_ok-post.ensures ∙ ap (λ os. c.args.self.now.mail ++ letters_in os) c.outputs.ensures)
     (c.in_ok-push_outputs.ensures.text ∙ sym (append-nil _)) c.in_ok-push_outputs.ensures.tries
 
 pub returns-in_ok-push_refusal-in-Err-clause-taken :
@@ -38,7 +40,8 @@ returns-in_ok-push_refusal-in-Err-clause-happens g c =
     refused_some _ _ _ c.in-Err.is c.step-taken.ensures.refused in
     reports_event c.args.self.now c.args.event.now _ c.clear_outputs.new.self.state (Some c.in-Err.refused)
     c.args.report.now c.push_refusal.new.self
-    c.clear_outputs.ensures.forgets c.step-taken.ensures.step refused (λ h. ap (λ (w : Whole). w.state) c.in-Err.ensures.err) refl refl refl
+    c.clear_outputs.ensures.forgets c.step-taken.ensures.step refused (λ h. ap (λ (w : Contents). w.state) c.in-Err.ensures.err) refl refl refl
+    (c.in_ok-post.ensures ∙ ap (λ os. c.args.self.now.mail ++ letters_in os) c.outputs.ensures)
     (c.in_ok-push_refusal-in-Err.ensures.text
     ∙ ap (λ s. s ++ refusal_line (Some c.in-Err.refused)) c.in_ok-push_outputs.ensures.text)
     (ap (λ (tries : Vec Try). tries.items) c.in_ok-push_refusal-in-Err.ensures.tries

@@ -1,31 +1,39 @@
-use Rattle.std.proofs.Common.{◌≡◌, nat_eq, false, arith}
+use Rattle.std.proofs.Common.{◌≡◌, nat_eq, false, None, arith, rules}
 use Rattle.std.proofs.lemmas.Bool.Decides.{nat_tests}
-use Rattle.am_world.proofs.InstancesLemmas.{begun, begun_anew, unread_elsewhere}
-use Rattle.am_world.proofs.Shelved.{quiet_closed, quiet_opened}
+use Rattle.am_world.proofs.InstancesBegin.{IsRead, begins_again, begins_elsewhere, begins_first, quiet_closed}
+use Rattle.am_world.proofs.InstancesBegin.{quiet_opened}
 use Rattle.am_world.proofs.instances.Instances.begin.Goals as goal
 
-pub close-requires : goal.close-requires
-close-requires c =
-    let apart : nat_eq c.in-Some.reader c.args.number ≡ false = grind (arith, nat_tests) in
-    rw (c.in_ok-open_at.ensures.reading c.args.connection c.in-Some.reader, apart) (rw c.in-Some.is at c.reader_of-reader.ensures.reads)
-
 pub returns-in-Some-clause-reading : goal.returns-in-Some-clause-reading
-returns-in-Some-clause-reading c once =
+returns-in-Some-clause-reading c =
+    let read : IsRead c.args.connection c.in-Some.reader c.args.self.now =
+    record { exists = c.in-Some.ensures.exists; reads = c.in-Some.ensures.reads } in
     let apart : nat_eq c.in-Some.reader c.args.number ≡ false = grind (arith, nat_tests) in
-    begun_anew c.args.connection c.args.number c.in-Some.reader _ _ _ once (rw c.in-Some.is at c.reader_of-reader.ensures.reads) apart
-    c.in_ok-open_at.ensures.reading c.close.ensures.reading
-
-pub returns-else-reader-number-clause-reading : goal.returns-else-reader-number-clause-reading
-returns-else-reader-number-clause-reading c once =
-    let same : c.in-Some.reader ≡ c.args.number = grind (arith, nat_tests) in
-    let reads = rw c.in-Some.is at c.reader_of-reader.ensures.reads in
-    begun c.args.connection c.args.number _ _ (unread_elsewhere c.args.connection c.args.number _ once (rw same at reads)) c.in_ok-open_at.ensures.reading
+    begins_elsewhere c.args.connection c.args.number c.in-Some.reader c.args.self.now c.open.new.self c.close.new.self
+    (rw c.self.view_is at c.self.invariant) c.open.ensures.at.numbered read apart c.in_ok-open.ensures.reading
+    (rw c.in-Some.is at c.close.ensures.at) (rw c.in-Some.is at c.close.ensures.reading)
 
 pub returns-in-Some-clause-quiet : goal.returns-in-Some-clause-quiet
-returns-in-Some-clause-quiet c quiet =
-    quiet_closed c.in-Some.reader c.args.connection _ _ c.close.ensures.roster.up c.close.ensures.reading
-    (quiet_opened c.args.number c.args.connection _ _ c.requires c.open_at.ensures.roster.up c.in_ok-open_at.ensures.reading quiet)
+returns-in-Some-clause-quiet c i quiet up =
+    quiet_closed c.args.connection _ c.open.new.self c.close.new.self c.open.ensures.at.numbered
+    c.close.ensures.at c.close.ensures.stays c.close.ensures.reading i
+    (quiet_opened c.args.number c.args.self.now c.open.new.self (rw c.self.view_is at c.self.invariant)
+    c.open.ensures.at c.open.ensures.stays up i quiet)
 
-pub returns-else-reader-number-clause-quiet : goal.returns-else-reader-number-clause-quiet
-returns-else-reader-number-clause-quiet c quiet =
-    quiet_opened c.args.number c.args.connection _ _ c.requires c.open_at.ensures.roster.up c.in_ok-open_at.ensures.reading quiet
+pub returns-else-ne-clause-reading : goal.returns-else-ne-clause-reading
+returns-else-ne-clause-reading c =
+    let same : c.in-Some.reader ≡ c.args.number = grind (arith, nat_tests) in
+    begins_again c.args.connection c.args.number c.args.self.now c.open.new.self
+    (rw (← same) (record { exists = c.in-Some.ensures.exists; reads = c.in-Some.ensures.reads }))
+    c.in_ok-open.ensures.reading
+
+pub returns-in_ok-open-clause-reading : goal.returns-in_ok-open-clause-reading
+returns-in_ok-open-clause-reading c once =
+    let none : c.reader_of-reader.result ≡ None = search rules in
+    begins_first c.args.connection c.args.number c.args.self.now c.open.new.self
+    (rw none at c.reader_of-reader.ensures.none) c.in_ok-open.ensures.reading
+
+pub returns-in_ok-open-clause-quiet : goal.returns-in_ok-open-clause-quiet
+returns-in_ok-open-clause-quiet c i quiet up =
+    quiet_opened c.args.number c.args.self.now c.open.new.self (rw c.self.view_is at c.self.invariant)
+    c.open.ensures.at c.open.ensures.stays up i quiet

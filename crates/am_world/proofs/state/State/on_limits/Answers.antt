@@ -1,13 +1,29 @@
-use Rattle.std.proofs.Common.{◌∙◌, inl, inr, refl, ap}
-use Rattle.am_limit.specs.Books.{limits_of}
+use Rattle.std.proofs.Common.{inl, inr, refl}
 use Rattle.am_world.proofs.Faults.{faulted_limits}
-use Rattle.am_world.proofs.Kept.{kept_limits}
+use Rattle.am_world.proofs.KeptQuiet.{kept_limits}
+use Rattle.am_world.proofs.KeptQuietWhole.{consistent_limits}
 use Rattle.am_world.proofs.state.State.on_limits.Goals as goal
 
 pub returns-in-Ok-clause-step : goal.returns-in-Ok-clause-step
-returns-in-Ok-clause-step c = inl (kept_limits c.args.self.now _ c.args.tenant.now c.args.limits c.in-Ok.ensures.set refl refl refl refl refl)
+returns-in-Ok-clause-step c =
+    inl (kept_limits c.args.self.now _ c.args.tenant.now c.args.limits c.in-Ok.ensures.set
+    (record { service_key = refl; rings = refl; first = refl; clock = refl; messages = refl; instances = refl })
+    refl refl)
+
+pub returns-in-Ok-clause-consistent : goal.returns-in-Ok-clause-consistent
+returns-in-Ok-clause-consistent c =
+    consistent_limits c.args.self.now _
+    (record { service_key = refl; rings = refl; first = refl; clock = refl; messages = refl; instances = refl })
+    c.requires
 
 pub returns-in-Err-clause-step : goal.returns-in-Err-clause-step
-returns-in-Err-clause-step c = inr (faulted_limits c.args.self.now c.count_faults.new.self c.args.tenant.now c.args.limits c.count_faults.ensures.instances
-    c.count_faults.ensures.beside.outputs c.count_faults.ensures.counted c.count_faults.ensures.beside.clock
-    (λ t. ap (limits_of t) c.count_faults.ensures.beside.limits ∙ c.in-Err.ensures.err t) c.count_faults.ensures.beside.service_key)
+returns-in-Err-clause-step c = rw c.count_fault.ensures
+    (inr (faulted_limits c.args.self.now _ c.args.tenant.now c.args.limits
+    (record { service_key = refl; rings = refl; first = refl; clock = refl; messages = refl; instances = refl })
+    c.in-Err.ensures.err refl refl))
+
+pub returns-in-Err-clause-consistent : goal.returns-in-Err-clause-consistent
+returns-in-Err-clause-consistent c = rw c.count_fault.ensures
+    (consistent_limits c.args.self.now _
+    (record { service_key = refl; rings = refl; first = refl; clock = refl; messages = refl; instances = refl })
+    c.requires)

@@ -1,35 +1,102 @@
-use Rattle.std.proofs.Common.{◌≡◌, ◌∙◌, refl, rules}
-use Rattle.std.proofs.lemmas.List.{length-map}
-use Rattle.am_world.specs.Shelves.{rows_in, shelf_at, shelves_of}
-use Rattle.am_world.proofs.Opened.{fails_to_open, follows_opening, local_open, none_backed, refused_open, roster_open}
-use Rattle.am_world.proofs.Opened.{stands_opening, unread_open}
+use Rattle.std.proofs.Common.{◌≡◌, arith, get_or, subst, suc}
+use Rattle.am_world.specs.Opening.{FailsWith}
+use Rattle.am_world.proofs.Opened.{down_at, none_opened, ring_first, turn_clean, turn_given, turn_number}
+use Rattle.am_world.proofs.Opened.{turn_left, turn_taken}
+use Rattle.am_world.proofs.OpenedWorld.{backed, consistent, fails_to_open, if_refused, opens}
 use Rattle.am_world.proofs.state.State.open.Goals as goal
 
-pub start-requires-clause-backed : goal.start-requires-clause-backed
-start-requires-clause-backed g c =
-    none_backed _ _ (length-map c.args.stores.now _ ∙ c.requires) c.in_ok-instances.ensures.down
+pub loop-number-init : goal.loop-number-init
+loop-number-init g c =
+    none_opened g.R.Rows c.args.setup.origin c.args.stores.now c.in_ok-state.state c.requires c.in_ok-state.ensures
 
-pub start-requires-clause-down : goal.start-requires-clause-down
-start-requires-clause-down g c = c.in_ok-instances.ensures.down 1
+pub open_at-requires-clause-down : goal.open_at-requires-clause-down
+open_at-requires-clause-down g c =
+    let setting = c.args.setup.origin in
+    let old = c.args.stores.now in
+    let loop = c.loop-number in
+    let k = loop.number-index in
+    let low = c.loop-number-test.true in
+    let i = c.unwrap-number.result in
+    let next = turn_number k i c.new.result low c.new.ensures c.unwrap-number.ensures in
+    down_at g.R.Rows setting k i old loop.stores loop.state next low loop.invariant
 
-pub returns-in-Ok-clause-opens : goal.returns-in-Ok-clause-opens
-returns-in-Ok-clause-opens g c = λ clean.
-    let zero : c.unwrap-opening.result ≡ 0 = search rules in
-    let origin = c.args.setup.origin in
-    let old = shelves_of g.R.Rows c.args.stores.now in
-    let new = shelves_of g.R.Rows c.start.new.stores in
-    let rows = rows_in old in
-    let starts = rw zero at c.in-Ok.ensures.starts in
-    let first = rw c.start-first.ensures at c.in_ok-instances.ensures.incarnation in
-    let roster = roster_open origin rows _ _ (shelf_at 1 old) (shelf_at 1 new) c.in_ok-instances.ensures.down first starts c.start.ensures.others (clean 1 refl) (λ t. refl) in
-    record {
-      follows = follows_opening origin _ roster (unread_open origin rows _ _ (shelf_at 1 old) (shelf_at 1 new) c.in_ok-instances.ensures.down first starts c.start.ensures.others (clean 1 refl) (λ t. refl));
-      stands = λ t. stands_opening origin (rows t) t _ zero (search rules) c.service_key.ensures roster
-          (local_open origin rows _ _ (shelf_at 1 old) (shelf_at 1 new) c.in_ok-instances.ensures.down first starts c.start.ensures.others (clean 1 refl) (λ t. refl) t);
-      outputs = search rules;
-      faults = refl;
-      refused = refused_open origin rows _ _ (shelf_at 1 old) (shelf_at 1 new) c.in_ok-instances.ensures.down first starts c.start.ensures.others (clean 1 refl) (λ t. refl) c.in_ok-instances.ensures.refused;
-    }
+pub open_at-requires-clause-whole : goal.open_at-requires-clause-whole
+open_at-requires-clause-whole g c = c.loop-number.invariant.whole c.unwrap-number.result
 
-pub returns-in-Err-clause-refused : goal.returns-in-Err-clause-refused
-returns-in-Err-clause-refused g c = rw c.of_store.ensures (fails_to_open g.R.Rows c.args.stores.now 1 c.in-Err.failure refl c.in-Err.ensures.fails)
+pub loop-number-preserved : goal.loop-number-preserved
+loop-number-preserved g c =
+    let setting = c.args.setup.origin in
+    let old = c.args.stores.now in
+    let loop = c.loop-number in
+    let k = loop.number-index in
+    let low = c.loop-number-test.true in
+    let i = c.unwrap-number.result in
+    let next = turn_number k i c.new.result low c.new.ensures c.unwrap-number.ensures in
+    turn_taken g.R.Rows setting k c.place.result i old loop.stores loop.state c.place.ensures.place next low
+    loop.invariant c.open_at.new.store c.index-stores-place.result c.open_at.new.self
+    c.in_ok-open_at.ensures.beside c.in_ok-open_at.ensures.opens c.in_ok-open_at.ensures.clean
+
+pub returns-in_err-open_at-clause-clean : goal.returns-in_err-open_at-clause-clean
+returns-in_err-open_at-clause-clean g c =
+    let setting = c.args.setup.origin in
+    let old = c.args.stores.now in
+    let loop = c.loop-number in
+    let k = loop.number-index in
+    let low = c.loop-number-test.true in
+    let i = c.unwrap-number.result in
+    let next = turn_number k i c.new.result low c.new.ensures c.unwrap-number.ensures in
+    turn_clean g.R.Rows setting k c.place.result i old loop.stores loop.state c.place.ensures.place next low
+    loop.invariant c.open_at.new.store c.index-stores-place.result c.in_err-open_at.ensures.clean
+
+pub returns-in_err-open_at-clause-left : goal.returns-in_err-open_at-clause-left
+returns-in_err-open_at-clause-left g c =
+    let setting = c.args.setup.origin in
+    let old = c.args.stores.now in
+    let loop = c.loop-number in
+    let k = loop.number-index in
+    let low = c.loop-number-test.true in
+    let i = c.unwrap-number.result in
+    let next = turn_number k i c.new.result low c.new.ensures c.unwrap-number.ensures in
+    turn_left g.R.Rows setting k c.place.result i old loop.stores loop.state c.place.ensures.place next low
+    loop.invariant c.open_at.new.store c.index-stores-place.result c.in_err-open_at.ensures.fails.member
+
+pub returns-in_err-open_at-clause-refused : goal.returns-in_err-open_at-clause-refused
+returns-in_err-open_at-clause-refused g c =
+    let setting = c.args.setup.origin in
+    let old = c.args.stores.now in
+    let loop = c.loop-number in
+    let k = loop.number-index in
+    let low = c.loop-number-test.true in
+    let i = c.unwrap-number.result in
+    let next = turn_number k i c.new.result low c.new.ensures c.unwrap-number.ensures in
+    let place : suc k ≡ i = omega (arith, next) in
+    let x = get_or loop.stores c.place.result c.index-stores-place.result in
+    let y = c.open_at.new.store in
+    let why = c.in_err-open_at.field-0.0 in
+    let first = ring_first g.R.Rows setting k i old loop.stores loop.state next low loop.invariant in
+    let given = turn_given g.R.Rows setting k c.place.result i old loop.stores loop.state c.place.ensures.place next
+    low loop.invariant y c.index-stores-place.result in
+    if_refused c.from_residual-in_err-open_at.result why _ c.from_residual-in_err-open_at.ensures.1
+    (fails_to_open g.R.Rows setting.ring old k i x y why place given
+    (subst (λ ring. FailsWith g.R.Rows ring i x y why) first c.in_err-open_at.ensures.fails))
+
+pub returns-clause-opens : goal.returns-clause-opens
+returns-clause-opens g c =
+    let loop = c.loop-number in
+    opens g.R.Rows c.args.setup.origin loop.number-index c.args.stores.now loop.stores loop.state
+    c.loop-number-test.false loop.auto.number-index-end loop.invariant
+
+pub returns-clause-consistent : goal.returns-clause-consistent
+returns-clause-consistent g c =
+    let loop = c.loop-number in
+    consistent g.R.Rows c.args.setup.origin loop.number-index c.args.stores.now loop.stores loop.state
+    c.loop-number-test.false loop.auto.number-index-end loop.invariant
+
+pub returns-clause-backed : goal.returns-clause-backed
+returns-clause-backed g c =
+    let loop = c.loop-number in
+    backed g.R.Rows c.args.setup.origin loop.number-index c.args.stores.now loop.stores loop.state
+    c.loop-number-test.false loop.auto.number-index-end loop.invariant
+
+pub returns-clause-left : goal.returns-clause-left
+returns-clause-left g c = c.loop-number.invariant.left

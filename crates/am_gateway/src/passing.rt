@@ -1,0 +1,86 @@
+//! The messages of a world, in one process: none gets lost on its way.
+ghost use Rattle.std.specs.Prelude.{◌≡◌, Some};
+ghost use Rattle.am_gateway.specs.Passing.{AddsTo, deliveries_at, has_message, losses, message_at};
+ghost use Rattle.am_gateway.specs.Passing.{passes, passes_at};
+ghost use Rattle.am_world.specs.Runs.{Run};
+ghost use Rattle.am_world.specs.Simulation.{put_out};
+
+use am_messages::MessageName;
+use am_rows::Rows;
+use am_world::{Event, Output, World};
+use std::alloc::Global;
+
+/// Of how many outputs the messages are delivered, at most.
+const MOST_OUTPUTS: usize = 1_000_000;
+
+/// Delivers each message that the world has put out, in order, those too that this puts out, and has it lost then, so
+/// that the world holds none of them. Those behind a million outputs are only lost.
+pub fn pass_all<R: Rows>(world: &mut World<R>, alloc: Global, moment: u64)
+    ensures { Run world.old.state (passes moment (put_out world.new.state)) world.new.state }
+{
+    let mut place = 0;
+    while place < world.outputs().len() {
+        pass(world, alloc, place, moment);
+        place += 1;
+    }
+}
+
+/// Whether a message is among outputs.
+pub fn has_message(outputs: &[Output]) -> bool
+    ensures { result ≡ has_message outputs.now }
+{
+    outputs
+        .iter()
+        .any(|output| matches!(output, Output::Send(_)))
+}
+
+// Delivers the message at a place among the outputs, where it is one, and has it lost then.
+fn pass<R: Rows>(world: &mut World<R>, alloc: Global, place: usize, moment: u64)
+    ensures passed { Run world.old.state (passes_at place moment (message_at place (put_out world.old.state)))
+        world.new.state }
+    ensures stay { AddsTo (put_out world.old.state) (put_out world.new.state) }
+{
+    if let Some(name) = message_at(world.outputs(), place) {
+        deliver(world, alloc, &name, place, moment);
+        lose(world, alloc, &name);
+    }
+}
+
+// Delivers the message at a place, unless a million outputs come before it.
+fn deliver<R: Rows>(
+    world: &mut World<R>,
+    alloc: Global,
+    message: &MessageName,
+    place: usize,
+    moment: u64,
+)
+    ensures delivered { Run world.old.state (deliveries_at place moment (Some message.now)) world.new.state }
+    ensures stay { AddsTo (put_out world.old.state) (put_out world.new.state) }
+{
+    if place < MOST_OUTPUTS {
+        let event = Event::Deliver {
+            message: *message,
+            moment,
+        };
+        let _ = world.step(alloc, &event);
+    }
+}
+
+// The world loses a message.
+fn lose<R: Rows>(world: &mut World<R>, alloc: Global, message: &MessageName)
+    ensures lost { Run world.old.state (losses (Some message.now)) world.new.state }
+    ensures stay { AddsTo (put_out world.old.state) (put_out world.new.state) }
+{
+    let event = Event::Lose { message: *message };
+    let _ = world.step(alloc, &event);
+}
+
+// The name of the message at a place among outputs, where it is one.
+fn message_at(outputs: &[Output], place: usize) -> Option<MessageName>
+    ensures { result ≡ message_at place outputs.now }
+{
+    match outputs.get(place)? {
+        Output::Send(message) => Some(MessageName::of(message)),
+        Output::Reply { .. } | Output::Notice { .. } => None,
+    }
+}

@@ -1,0 +1,170 @@
+-- What waits, and what handing it over comes to.
+use Rattle.std.proofs.Common.{◌≡◌, ◌∙◌, ℕ, suc, ◌+◌, ◌<◌, ◌≤◌, Bool, true, false, not, List, [], ◌∷◌, ◌++◌, length, take, drop}
+use Rattle.std.proofs.Common.{All, filter, get_or, drop-cons, add-one, length-drop, map, refl, sym, ap, arith, append-nil, append_assoc, zero}
+use Rattle.std.proofs.Common.{if◌then◌else◌, ◌⊎◌, inl, is_none, IsSome, OnSome, Option, None, Some, IfOk, OnOk, Result, Ok, Err}
+use Rattle.std.proofs.lemmas.List.{map-append, nil_from_length, take_all}
+use Rattle.std.proofs.lemmas.List.Elements.{All-cons, All-nil, filter-append}
+use Rattle.std.specs.declared.alloc.AllocError.{AllocError}
+use Rattle.am_event.specs.declared.event.Event.TheVariants as event
+use Rattle.am_messages.specs.declared.name.MessageName.{MessageName}
+use Rattle.am_wire.specs.Messages.{Spells}
+use Rattle.am_wire.specs.declared.message.Message.{Message}
+use Rattle.am_world.specs.Refusal.{refusal}
+use Rattle.am_world.specs.Simulation.{message_named}
+use Rattle.am_play.specs.Link.{Carries}
+use Rattle.am_play.specs.Mail.{kept_of, without_first}
+use Rattle.am_play.specs.Playing.{Crosses, Hands, HandsOver, Happens, Pumps, is_piece}
+use Rattle.am_play.specs.Trace.{Happened, Reports}
+use Rattle.am_play.specs.declared.mail.Letter.{Letter}
+use Rattle.am_play.specs.declared.play.Player.{Player}
+use Rattle.am_play.specs.declared.report.Report.{Report}
+
+-- ---- bytes over a link
+
+pub crosses_nothing : (carries : Carries) → Crosses carries [] true
+crosses_nothing carries =
+    record { pieces = []; left = []; cut = refl; sizes = refl; carried = All-nil (λ piece. carries piece true); ends = refl }
+
+pub crosses_lost : (carries : Carries) (piece after : List ℕ) → is_piece piece ≡ true → carries piece false →
+    Crosses carries (piece ++ after) false
+crosses_lost carries piece after size lost = record {
+  pieces = [];
+  left = piece ++ after;
+  cut = refl;
+  sizes = refl;
+  carried = All-nil (λ piece. carries piece true);
+  ends = record { piece = piece; after = after; cut = refl; size = size; lost = lost };
+}
+
+pub crosses_more : (carries : Carries) (piece bytes : List ℕ) (came : Bool) → is_piece piece ≡ true →
+    carries piece true → Crosses carries bytes came → Crosses carries (piece ++ bytes) came
+crosses_more carries piece bytes came size carried crosses = record {
+  pieces = piece ∷ crosses.pieces;
+  left = crosses.left;
+  cut = ap (λ s. piece ++ s) crosses.cut ∙ sym (append_assoc piece _ crosses.left);
+  sizes = rw size crosses.sizes;
+  carried = All-cons (λ piece. carries piece true) piece crosses.pieces carried crosses.carried;
+  ends = crosses.ends;
+}
+
+-- ---- letters handed over
+
+module _ {R : Type 0} (carries : Carries) where
+  pub hands_more : (handed : List (Letter × Bool)) (p mid p' : Player R) (trace first : List Happened) (letter : Letter)
+      (is_done : Bool) (mail : List Letter) → Hands carries handed p mid trace → mid.mail ≡ letter ∷ mail →
+      HandsOver carries letter.name (record mid { mail = mail }) is_done p' first →
+      Hands carries (handed ++ (letter, is_done) ∷ []) p p' (trace ++ first)
+  hands_more [] p mid p' trace first letter is_done mail (same, nothing) waits over =
+      rw nothing
+      (mail, p', first, [], ap (λ (x : Player R). x.mail) (sym same) ∙ waits, rw same at over, sym (append-nil first), (refl, refl))
+  hands_more (one ∷ more) p mid p' trace first letter is_done mail (left, next, head, rest, one_waits, one_over, both, later)
+      waits over = (
+        left,
+        next,
+        head,
+        rest ++ first,
+        one_waits,
+        one_over,
+        ap (λ xs. xs ++ first) both ∙ append_assoc head rest first,
+        hands_more more next mid p' rest first letter is_done mail later waits over,
+      )
+
+  -- all were handed over, or as many as may be; those that aren't done with wait before the others
+  pub pumped : (handed : List (Letter × Bool)) (p mid stop : Player R) (trace : List Happened) (kept letters : List Letter) →
+      Hands carries handed p mid trace → length handed ≤ 1000000 →
+      (mid.mail ≡ []) ⊎ (length handed ≡ 1000000) → kept ≡ kept_of handed → stop ≡ mid →
+      letters ≡ kept ++ stop.mail → Pumps carries p (record stop { mail = letters }) trace
+  pumped handed p mid stop trace kept letters hands bound over is same put = record {
+    handed = handed;
+    until = mid;
+    hands = hands;
+    bound = bound;
+    over = over;
+    kept = ap (λ ls. record stop { mail = ls }) (put ∙ ap (λ ls. ls ++ stop.mail) is)
+        ∙ ap (λ (q : Player R). record q { mail = kept_of handed ++ q.mail }) same;
+  }
+
+  -- a message that is there went over the link, and was delivered or refused
+  pub reached : (message : Message) (name : MessageName) (p p' : Player R) (old new : Report)
+      (r : Result Bool AllocError) (bytes : List ℕ) → message_named name p.world.state ≡ Some message →
+      Spells bytes message → Crosses carries bytes true →
+      IfOk r (λ taken. taken ≡ is_none (refusal p.world.state (event.Deliver name p.moment))) →
+      OnOk r (Reports old new (Happens p (event.Deliver name p.moment) p')) →
+      IfOk r (λ is_done. Reports old new (HandsOver carries name p is_done p'))
+  reached message name p p' old new (Ok taken) bytes found spells crosses is (trace, grows, happens) = (
+    trace,
+    grows,
+    rw found (inl (record {
+      bytes = bytes;
+      spells = spells;
+      came = true;
+      crosses = crosses;
+      reaches = (happens, is);
+    })),
+  )
+  reached message name p p' old new (Err error) bytes found spells crosses is happens = tt
+
+kept-append : (xs ys : List (Letter × Bool)) → kept_of (xs ++ ys) ≡ kept_of xs ++ kept_of ys
+kept-append xs ys =
+    ap (map (λ (one : Letter × Bool). one.0)) (filter-append (λ (one : Letter × Bool). not one.1) xs ys)
+    ∙ map-append (λ (one : Letter × Bool). one.0) (filter (λ (one : Letter × Bool). not one.1) xs)
+    (filter (λ (one : Letter × Bool). not one.1) ys)
+
+-- one that is done with isn't kept
+pub kept_done : (handed : List (Letter × Bool)) (letter : Letter) →
+    kept_of (handed ++ (letter, true) ∷ []) ≡ kept_of handed
+kept_done handed letter = kept-append handed ((letter, true) ∷ []) ∙ append-nil (kept_of handed)
+
+pub kept_more : (handed : List (Letter × Bool)) (letter : Letter) →
+    kept_of (handed ++ (letter, false) ∷ []) ≡ kept_of handed ++ letter ∷ []
+kept_more handed letter = kept-append handed ((letter, false) ∷ [])
+
+-- ---- all but the first of which something is so
+
+-- what an option that is there gives
+pub on_some : {A : Type 0} {P : Type 0} (o : Option A) → IsSome o → OnSome o P → P
+on_some (Some x) is gives = gives
+on_some None is gives = let clash : false ≡ true = is in absurd (cc)
+
+take_next : {X : Type 0} (xs : List X) (k : ℕ) (x : X) → k < length xs → x ≡ get_or xs k x →
+    take (suc k) xs ≡ take k xs ++ x ∷ []
+take_next [] k x below at = let none : k < 0 = below in absurd (omega (arith, none))
+take_next (y ∷ ys) zero x below at = ap (λ z. z ∷ []) (sym at)
+take_next (y ∷ ys) (suc k) x below at =
+    let shorter : k < length ys = omega (arith, below) in
+    ap (λ zs. y ∷ zs) (take_next ys k x shorter at)
+
+module _ {X : Type 0} (is : X → Bool) where
+  -- up to a place it is so of none
+  abbrev pub NoneBefore : ℕ → List X → Type 0
+  NoneBefore k xs = without_first is xs ≡ take k xs ++ without_first is (drop k xs)
+
+  pub none_before : (xs : List X) → NoneBefore 0 xs
+  none_before xs = refl
+
+  cut : (k : ℕ) (xs : List X) (x : X) → k < length xs → x ≡ get_or xs k x → drop k xs ≡ x ∷ drop (k + 1) xs
+  cut k xs x below at = rw add-one (drop-cons xs k x below ∙ ap (λ z. z ∷ drop (suc k) xs) (sym at))
+
+  found : (k : ℕ) (xs : List X) (x : X) (b : Bool) → k < length xs → x ≡ get_or xs k x → is x ≡ b → NoneBefore k xs →
+      without_first is xs
+      ≡ take k xs ++ (if b then drop (k + 1) xs else x ∷ without_first is (drop (k + 1) xs))
+  found k xs x b below at so before =
+      before ∙ ap (λ ys. take k xs ++ without_first is ys) (cut k xs x below at)
+      ∙ ap (λ c. take k xs ++ (if c then drop (k + 1) xs else x ∷ without_first is (drop (k + 1) xs))) so
+
+  pub none_more : (k : ℕ) (xs : List X) (x : X) → k < length xs → x ≡ get_or xs k x → is x ≡ false → NoneBefore k xs →
+      NoneBefore (k + 1) xs
+  none_more k xs x below at isnt before =
+      let longer : take (k + 1) xs ≡ take k xs ++ x ∷ [] = rw add-one (take_next xs k x below at) in
+      found k xs x false below at isnt before
+      ∙ sym (append_assoc (take k xs) (x ∷ []) (without_first is (drop (k + 1) xs)))
+      ∙ ap (λ ys. ys ++ without_first is (drop (k + 1) xs)) (sym longer)
+
+  pub first_gone : (k : ℕ) (xs : List X) (x : X) → k < length xs → x ≡ get_or xs k x → is x ≡ true → NoneBefore k xs →
+      without_first is xs ≡ take k xs ++ drop (k + 1) xs
+  first_gone k xs x below at so before = found k xs x true below at so before
+
+  pub none_at_all : (k : ℕ) (xs : List X) → length xs ≤ k → NoneBefore k xs → without_first is xs ≡ xs
+  none_at_all k xs over before =
+      let none : drop k xs ≡ [] = nil_from_length _ (omega (arith, over, length-drop k xs)) in
+      before ∙ ap (λ ys. take k xs ++ without_first is ys) none ∙ append-nil (take k xs) ∙ take_all k xs over

@@ -1,6 +1,0 @@
-use Rattle.std.proofs.Common.{refl}
-use Rattle.am_ring_instance.proofs.Growing.{more_nothing}
-use Rattle.am_ring_instance.proofs.instance.Instance.open.Goals as goal
-
-pub returns-clause-stays : goal.returns-clause-stays
-returns-clause-stays c = record { up = refl; number = refl; incarnation = refl; known = refl; refused = more_nothing _ _ refl }
