@@ -6,22 +6,22 @@ use am_tenant::TenantName;
 use std::alloc::{AllocError, Global};
 use std::test::Fail;
 
-// A join or a leave, of which instance, and the code of its refusal or nothing; and the ring after it: its epoch, how
-// many instances it has, whether this one is among them, and the replicas of the tenant `a`.
-type Step = (&'static str, u8, &'static str, u64, usize, bool, [u8; 3]);
+// A join or a leave, of which instance, and the code of its refusal or nothing; and the ring after it: how many
+// instances it has, whether this one is among them, and the replicas of the tenant `a`.
+type Step = (&'static str, u8, &'static str, usize, bool, [u8; 3]);
 
 // The steps go from 1, 2 and 3 on.
 const STEPS: &[Step] = &[
-    ("leave", 1, "Ri2", 0, 3, true, [2, 1, 3]),
-    ("join", 9, "Ri3", 0, 3, false, [2, 1, 3]),
-    ("join", 4, "", 1, 4, true, [2, 4, 1]),
-    ("leave", 2, "", 2, 3, false, [4, 1, 3]),
-    ("join", 2, "", 3, 4, true, [2, 4, 1]),
-    ("join", 5, "", 4, 5, true, [2, 4, 1]),
-    ("join", 6, "", 5, 6, true, [6, 2, 4]),
-    ("join", 7, "", 6, 7, true, [6, 7, 2]),
-    ("join", 8, "", 7, 8, true, [8, 6, 7]),
-    ("join", 8, "Ri1", 7, 8, true, [8, 6, 7]),
+    ("leave", 1, "Ri2", 3, true, [2, 1, 3]),
+    ("join", 9, "Ri3", 3, false, [2, 1, 3]),
+    ("join", 4, "", 4, true, [2, 4, 1]),
+    ("leave", 2, "", 3, false, [4, 1, 3]),
+    ("join", 2, "", 4, true, [2, 4, 1]),
+    ("join", 5, "", 5, true, [2, 4, 1]),
+    ("join", 6, "", 6, true, [6, 2, 4]),
+    ("join", 7, "", 7, true, [6, 7, 2]),
+    ("join", 8, "", 8, true, [8, 6, 7]),
+    ("join", 8, "Ri1", 8, true, [8, 6, 7]),
 ];
 
 fn code(alloc: Global, ring: &mut Ring, kind: &str, number: u8) -> Result<String, AllocError> {
@@ -43,12 +43,12 @@ fn replicas(ring: &Ring) -> Option<[u8; 3]> {
 }
 
 fn step(alloc: Global, ring: &mut Ring, step: &Step) -> Result<(), Fail> {
-    let (kind, number, refusal, epoch, len, is_in, wanted) = step;
+    let (kind, number, refusal, len, is_in, wanted) = step;
     let code = code(alloc, ring, kind, *number)?;
-    let counts = (ring.epoch(), ring.len(), ring.contains(*number));
+    let counts = (ring.len(), ring.contains(*number));
     equal(
         (code.as_str(), counts, replicas(ring)),
-        (*refusal, (*epoch, *len, *is_in), Some(*wanted)),
+        (*refusal, (*len, *is_in), Some(*wanted)),
         *number,
     )
 }

@@ -1,5 +1,5 @@
 -- The numbers of instances, and rings of them.
-use Rattle.std.specs.Prelude.{◌≡◌, ℕ, ◌+◌, ◌-◌, ◌%◌, ◌^◌, ◌≤◌, Bool, true, false, ◌&&◌, not, nat_le, ◌==◌, List, [], ◌∷◌, length, filter, map, slice_index_or}
+use Rattle.std.specs.Prelude.{◌≡◌, ℕ, ◌-◌, ◌≤◌, Bool, true, false, ◌&&◌, not, nat_le, ◌==◌, List, [], ◌∷◌, length, filter, map, slice_index_or}
 use Rattle.std.specs.List.{list_all, list_any}
 
 -- all instances, in order of number
@@ -28,14 +28,9 @@ abbrev pub may_be_ring : List ℕ → Bool
 may_be_ring numbers =
     nat_le 3 (length numbers) && nat_le (length numbers) 8 && list_all is_instance numbers && all_differ numbers
 
--- a ring as clauses see it: how many joins and leaves made it, and its instances in order of number
+-- a ring as clauses see it: its instances, in order of number
 pub record Members : Type 0 where
-  pub epoch : ℕ
   pub instances : List ℕ
-
--- the epoch behind this one; after the greatest that 8 bytes hold it begins at 0 again
-abbrev pub next_epoch : ℕ → ℕ
-next_epoch epoch = (epoch + 1) % 2 ^ 64
 
 -- the instances at whose places a flag stands
 unfoldable pub flagged : List Bool → List ℕ

@@ -1,6 +1,6 @@
 ghost use Rattle.std.specs.Prelude.{◌≡◌, ℕ, List, MatchResult, OnErr, OnOk, None, Some, count_by, length, position, ◌==◌, if◌then◌else◌};
 ghost use Rattle.std.specs.List.{list_all};
-ghost use Rattle.am_ring.specs.Instances.{all_differ, flags_of, in_order, is_among, is_instance, may_be_ring, next_epoch};
+ghost use Rattle.am_ring.specs.Instances.{all_differ, flags_of, in_order, is_among, is_instance, may_be_ring};
 ghost use Rattle.am_ring.specs.Changes.{join_refusal, leave_refusal, with_instance, without};
 ghost use Rattle.am_ring.specs.Replicas.{ReplacesOne, position_of, replicas};
 
@@ -14,7 +14,6 @@ use std::marker::Model;
 /// The instances that serve: 3 to 8 of them.
 #[derive(Clone, Copy, PartialEq, Eq)]
 pub struct Ring {
-    epoch: u64,
     // whether instance 1, 2, .. is in the ring
     members: [bool; 8],
 }
@@ -24,34 +23,26 @@ impl Model for Ring {
 
     ghost Value = { Members };
 
-    ghost view = { λ ring. record { epoch = ring.epoch; instances = flagged ring.members } };
+    ghost view = { λ ring. record { instances = flagged ring.members } };
 
     ghost invariant = { λ ring. IsRing ring.members };
 
-    ghost inverse = { λ ring. record { epoch = ring.epoch; members = flags_of ring.instances } };
+    ghost inverse = { λ ring. record { members = flags_of ring.instances } };
 }
 
 impl Ring {
-    /// The ring of these instances, which may stand in any order, at epoch 0. None where they aren't 3 to 8
-    /// different numbers of 1 to 8.
+    /// The ring of these instances, which may stand in any order. None where they aren't 3 to 8 different numbers of 1
+    /// to 8.
     pub fn new(numbers: &[u8]) -> Option<Ring>
         ensures { result ≡ (if may_be_ring numbers.now
-            then Some (record { epoch = 0; instances = in_order numbers.now }) else None) }
+            then Some (record { instances = in_order numbers.now }) else None) }
     {
         if !may_be_ring(numbers) {
             return None;
         }
         Some(Ring {
-            epoch: 0,
             members: flags_of(numbers),
         })
-    }
-
-    /// How many joins and leaves made the ring.
-    pub fn epoch(&self) -> u64
-        ensures { result ≡ self.now.epoch }
-    {
-        self.epoch
     }
 
     /// Whether the instance of this number is in the ring.
@@ -68,37 +59,35 @@ impl Ring {
         count(&self.members)
     }
 
-    /// Puts an instance into the ring, and counts the epoch up; after the greatest `u64` it begins at 0 again.
+    /// Puts an instance into the ring.
     ///
     /// # Errors
     /// [`RingRefusal::Full`] where all eight are in it, else [`RingRefusal::WrongInstance`] where the number isn't one
     /// of 1 to 8 or the instance is in it. The ring stays as it was.
     pub fn join(&mut self, number: u8) -> Result<(), RingRefusal>
-        ensures ok { OnOk result (self.new ≡ record { epoch = next_epoch self.old.epoch; instances = with_instance number self.old.instances }) }
+        ensures ok { OnOk result (self.new ≡ record { instances = with_instance number self.old.instances }) }
         ensures err { OnErr result (self.new ≡ self.old) }
         ensures refusal { MatchResult result (λ _. join_refusal number self.old.instances ≡ None) (λ refusal. join_refusal number self.old.instances ≡ Some refusal) }
         ensures one { (tenant : List ℕ) → ReplacesOne tenant self.old.instances self.new.instances }
     {
         let instance = self.joining(number)?;
         self.members[instance.index()] = true;
-        self.epoch = self.epoch.wrapping_add(1);
         Ok(())
     }
 
-    /// Takes an instance out of the ring, and counts the epoch up; after the greatest `u64` it begins at 0 again.
+    /// Takes an instance out of the ring.
     ///
     /// # Errors
     /// [`RingRefusal::Small`] where only three are in it, else [`RingRefusal::WrongInstance`] where this one isn't in
     /// it. The ring stays as it was.
     pub fn leave(&mut self, number: u8) -> Result<(), RingRefusal>
-        ensures ok { OnOk result (self.new ≡ record { epoch = next_epoch self.old.epoch; instances = without number self.old.instances }) }
+        ensures ok { OnOk result (self.new ≡ record { instances = without number self.old.instances }) }
         ensures err { OnErr result (self.new ≡ self.old) }
         ensures refusal { MatchResult result (λ _. leave_refusal number self.old.instances ≡ None) (λ refusal. leave_refusal number self.old.instances ≡ Some refusal) }
         ensures one { (tenant : List ℕ) → ReplacesOne tenant self.old.instances self.new.instances }
     {
         let instance = self.leaving(number)?;
         self.members[instance.index()] = false;
-        self.epoch = self.epoch.wrapping_add(1);
         Ok(())
     }
 

@@ -62,12 +62,12 @@ order_again numbers = subst (λ ring. in_order ring ≡ ring) (flagged-flags_of 
 
 -- what `Ring::new` makes is a ring, in order
 pub made : (numbers : List ℕ) (ring : Members)
-    → Some ring ≡ (if may_be_ring numbers then Some (record { epoch = 0; instances = in_order numbers }) else None)
+    → Some ring ≡ (if may_be_ring numbers then Some (record { instances = in_order numbers }) else None)
     → (may_be_ring ring.instances ≡ true) × (in_order ring.instances ≡ ring.instances)
 made numbers ring e = at_test (may_be_ring numbers) refl e
   where
     at_test : (b : Bool) → may_be_ring numbers ≡ b
-        → Some ring ≡ (if b then Some (record { epoch = 0; instances = in_order numbers }) else None)
+        → Some ring ≡ (if b then Some (record { instances = in_order numbers }) else None)
         → (may_be_ring ring.instances ≡ true) × (in_order ring.instances ≡ ring.instances)
     at_test true may is =
         let same : ring.instances ≡ in_order numbers = cc in

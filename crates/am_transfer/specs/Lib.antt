@@ -10,5 +10,3 @@ pub mod Progress
 pub mod Tenants
 -- .. and when it is sent again
 pub mod Timers
--- who is settled since it stayed
-pub mod Stayed

@@ -10,7 +10,6 @@ mod refresh;
 mod sent_list;
 mod settling;
 mod spans;
-mod stayed;
 mod tenants;
 
 pub use again::Again;
@@ -20,4 +19,3 @@ pub use piece::Piece;
 pub use progress::{AGAIN_AFTER, Push};
 pub use settling::Settling;
 pub use spans::{Reach, Span};
-pub use stayed::has_stayed;
