@@ -14,9 +14,8 @@ use Rattle.am_tenant.proofs.Same.{eq_from_same}
 use Rattle.am_members.specs.declared.group.Group.{Group as Name}
 use Rattle.am_members.specs.Grouped.{Grouped, grouped_of, nothing, put_in}
 use Rattle.am_members.specs.Members.{gave}
-use Rattle.am_outlet.specs.Attempts.{no_attempts}
+use Rattle.am_outlet.specs.Attempts.{Desk, no_attempts}
 use Rattle.am_outlet.specs.Desks.{Desks, desk_of}
-use Rattle.am_timer.specs.declared.key.FlushKey.{FlushKey}
 use Rattle.am_timer.specs.declared.key.TimerKey.TheVariants.{Operation, Group, Retry, Push}
 use Rattle.am_timer.specs.Tied.{has_timer}
 use Rattle.am_timer.specs.Timer.{Key, Timer}
@@ -26,27 +25,33 @@ use Rattle.am_agenda.specs.Plan.{Plan, due_for, due_of, flush_due, no_plan, with
 use Rattle.am_agenda.specs.Planned.{IsKept, Plans, flush_due_of, is_for_one, plan_of}
 use Rattle.am_agenda.proofs.Timing.{IsDueElsewhere, timed_after}
 
+-- where nothing is grouped and no attempt is open, nothing is due
+pub none_due : (plan : Plan) → plan.grouped ≡ nothing → plan.desk.open_ones ≡ [] → (key : Key) → due_of plan key ≡ None
+unfolding flush_due
+none_due plan bare idle (Operation number) = refl
+none_due plan bare idle (Group key) =
+    ap (λ g. due_for key g (slice_get plan.paces key.route)) bare ∙ none_for (slice_get plan.paces key.route)
+  where
+    either : (b : Bool) (o r : Option ℕ) → o ≡ None → r ≡ None → cond b o r ≡ None
+    either true o r h k = h
+    either false o r h k = k
+
+    none_for : (pace : Option Pace) → due_for key nothing pace ≡ None
+    none_for None = refl
+    none_for (Some pace) = either (bytes_eq pace.receiver key.receiver) _ _ refl refl
+none_due plan bare idle (Retry number) = rw idle refl
+none_due plan bare idle (Push instance) = refl
+
 -- where nothing is planned there are no timers
 pub none_kept : (plans : Plans) → ((t : List ℕ) → grouped_of t plans.groups ≡ nothing) → ((t : List ℕ) → desk_of t plans.desks ≡ no_attempts) → IsKept plans []
-unfolding plan_of flush_due IsStrictlySortedBy
+unfolding plan_of IsStrictlySortedBy
 none_kept plans bare idle = record {
   rising = λ t. subst (λ (g : Grouped). IsStrictlySortedBy labels_cmp (keys_of g.alerts)) (sym (bare t)) tt;
-  timed = λ x. sym (ap (λ o. gave o x.due) (none_due x.name.tenant x.name.key));
+  timed = λ x.
+      let t = x.name.tenant in
+      let closed = ap (λ (d : Desk). d.open_ones) (idle t) in
+      sym (ap (λ o. gave o x.due) (none_due (plan_of t plans) (bare t) closed x.name.key));
 }
-  where
-    none_for : (key : FlushKey) (pace : Option Pace) → due_for key nothing pace ≡ None
-    none_for key None = refl
-    none_for key (Some pace) = either (bytes_eq pace.receiver key.receiver) _ _ refl refl
-      where
-        either : (b : Bool) (o r : Option ℕ) → o ≡ None → r ≡ None → cond b o r ≡ None
-        either true o r h k = h
-        either false o r h k = k
-
-    none_due : (t : List ℕ) (key : Key) → due_of (plan_of t plans) key ≡ None
-    none_due t (Operation number) = refl
-    none_due t (Group key) = ap (λ g. due_for key g (slice_get (paces_of t plans.paces) key.route)) (bare t) ∙ none_for key (slice_get (paces_of t plans.paces) key.route)
-    none_due t (Retry number) = rw (idle t) refl
-    none_due t (Push instance) = refl
 
 -- what is grouped is told by its two parts
 pub parts : {g h : Grouped} → g.alerts ≡ h.alerts → g.flushes ≡ h.flushes → g ≡ h

@@ -3,6 +3,7 @@ pub mod Timing
 pub mod Moving
 pub mod PaceLemmas
 pub mod Keeping
+pub mod Dropping
 pub mod Putting
 pub mod Retries
 pub mod Attempting

@@ -35,6 +35,19 @@ paces_set m n tenant paces written t =
     by_case true = refl
     by_case false = refl
 
+-- a tenant's went
+pub paces_gone : (m n : tree.BTreeMap (List ℕ) (List Pace)) (tenant : List ℕ)
+    → tree.Updates (slice_cmp nat_cmp) m n tenant None
+    → (t : List ℕ) → paces_of t n.entries ≡ cond (same t tenant) default_paces (paces_of t m.entries)
+unfolding paces_of
+paces_gone m n tenant gone t =
+    ap (λ o. unwrap_or o default_paces) (lookup-updates m n tenant None gone t) ∙ by_case (same t tenant)
+  where
+    by_case : (b : Bool) → unwrap_or (cond b None (lookup (λ s. same t s) m.entries)) default_paces
+        ≡ cond b default_paces (unwrap_or (lookup (λ s. same t s) m.entries) default_paces)
+    by_case true = refl
+    by_case false = refl
+
 -- none were set
 pub none_set : (t : List ℕ) (own : List (List ℕ × List Pace)) → own ≡ [] → paces_of t own ≡ default_paces
 unfolding paces_of

@@ -10,11 +10,12 @@ use Rattle.am_members.specs.declared.group.Group.{Group as Name}
 use Rattle.am_members.specs.Grouped.{Grouped, flush_of, flushed_at, kept_after, living, members, nothing, put_in}
 use Rattle.am_members.specs.Members.{least_of}
 use Rattle.am_members.specs.Names.{without as absent}
-use Rattle.am_outlet.specs.Attempts.{Desk, attempt_at, no_attempts}
+use Rattle.am_outlet.specs.Attempts.{Desk, attempt_at, cleared, no_attempts}
 use Rattle.am_timer.specs.declared.key.FlushKey.{FlushKey}
 use Rattle.am_timer.specs.declared.key.TimerKey.TheVariants.{Operation, Group, Retry, Push}
 use Rattle.am_timer.specs.Timer.{Key, Timer, timer_cmp}
 use Rattle.am_planning.specs.declared.pace.Pace.{Pace}
+use Rattle.am_planning.specs.Planning.{default_paces}
 
 -- how the groups of each route wait, by the number of the route; the alerts in their groups, with the groups' last flushes;
 -- and the open attempts
@@ -137,3 +138,8 @@ rebuilt paces alerts plan = record (with_alerts alerts plan) { paces = paces }
 -- with these attempts
 abbrev pub with_desk : Desk → Plan → Plan
 with_desk desk plan = record plan { desk = desk }
+
+-- nothing is planned any more, and the routes have the paces that hold without a configuration; but the numbers that
+-- attempts have used stay used
+abbrev pub dropped : Plan → Plan
+dropped plan = record (no_plan default_paces) { desk = cleared plan.desk }

@@ -15,7 +15,7 @@ ghost use Rattle.am_timer.specs.Timer.{Timer as Timed, timer_cmp};
 ghost use Rattle.am_labels.specs.Labels.{labels_cmp};
 ghost use Rattle.am_planning.specs.Planning.{default_paces};
 ghost use Rattle.am_agenda.specs.Paces.{paces_of};
-ghost use Rattle.am_agenda.specs.Plan.{all_groups, flush_due, no_plan, rebuilt, timers_in, with_alert, with_alerts, with_desk, with_flush, with_living, without_alert};
+ghost use Rattle.am_agenda.specs.Plan.{all_groups, dropped, flush_due, no_plan, rebuilt, timers_in, with_alert, with_alerts, with_desk, with_flush, with_living, without_alert};
 ghost use Rattle.am_agenda.specs.Planned.{flush_due_of, groups_known, is_for, is_for_one, plan_of};
 
 use crate::grouping::{flush_in, put_all, put_in, remove_from, take_out_of};
@@ -27,6 +27,7 @@ use am_labels::LabelSet;
 use am_members::{Group, Groups, Known, Members};
 use am_outlet::{Attempts, Notice, Outcome, Sending};
 use am_planning::Pace;
+use am_share::Shared;
 use am_tenant::TenantName;
 use am_text::{Listed, Moment, Text};
 use am_timer::{Timer, TimerQueue};
@@ -95,6 +96,20 @@ impl Agenda {
             &mut self.attempts,
             &mut self.timers,
         );
+    }
+
+    /// Forgets what is planned of a tenant, and the paces of its routes: its alerts with their groups and flushes, its
+    /// attempts, and the timers of both. The numbers that its attempts have used stay used, and all that is planned of
+    /// the other tenants stays. It takes no memory.
+    pub fn drop_tenant(&mut self, tenant: &TenantName)
+        ensures { (t : List ℕ)
+            → plan_of t self.new ≡ (if same t tenant.now then dropped (plan_of t self.old) else plan_of t self.old) }
+    {
+        self.paces.drop_tenant(tenant);
+        self.groups.clear(tenant);
+        self.attempts.clear(tenant);
+        // A queue, which lies in memory, refuses nothing.
+        let _dropped = self.timers.drop_tenant(tenant);
     }
 
     /// What is kept of a tenant's alert; `None` where none of these labels is planned.

@@ -64,6 +64,14 @@ impl Paces {
         Ok(())
     }
 
+    /// Forgets the paces that were set of a tenant's routes. It takes no memory.
+    pub fn drop_tenant(&mut self, tenant: &TenantName)
+        ensures { (t : List ℕ)
+            → paces_of t self.new ≡ (if same t tenant.now then default_paces else paces_of t self.old) }
+    {
+        self.own.remove(tenant);
+    }
+
     /// Forgets what was set. It takes no memory.
     pub fn clear(&mut self)
         ensures { (t : List ℕ) → paces_of t self.new ≡ default_paces }

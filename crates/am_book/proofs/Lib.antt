@@ -7,3 +7,4 @@ pub mod Lists
 pub mod Retiring
 pub mod Fewer
 pub mod Newcomers
+pub mod Leaving

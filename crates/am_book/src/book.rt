@@ -74,6 +74,16 @@ impl Book {
         self.rows.clear();
     }
 
+    /// Forgets all that is held of a tenant: it is again as one of which nothing was put. Other tenants' items stay. It
+    /// takes no memory.
+    pub fn drop_tenant(&mut self, tenant: &TenantName)
+        ensures { (t : List ℕ) → items_of t self.new
+            ≡ (if same t tenant.now then [] else items_of t self.old) }
+    {
+        self.tenants.remove(tenant);
+        forget_all(&mut self.rows, tenant);
+    }
+
     /// What is held of a tenant, in the order of keys.
     pub fn held(&self, tenant: &TenantName) -> &Held
         ensures items { result.now ≡ items_of tenant.now self.now }
@@ -231,6 +241,14 @@ fn forget(rows: &mut BTreeSet<Row>, tenant: &TenantName, standing: &Standing, ke
         };
         rows.remove(&row);
     }
+}
+
+// Removes all rows of a tenant.
+fn forget_all(rows: &mut BTreeSet<Row>, tenant: &TenantName)
+    ensures { (row : Row) → has_row rows.new row
+        ≡ (if same row.tenant tenant.now then false else has_row rows.old row) }
+{
+    rows.retain(|row| row.tenant != *tenant);
 }
 
 // The first row, where its item is retired at the moment.

@@ -1,5 +1,5 @@
 -- What was read stays what is in use.
-use Rattle.std.proofs.Common.{◌≡◌, ℕ, false, cond, List, Option, Some, None, IfSome, IfNone, Result, Ok, Err, OnOk, unwrap_or, sym, ap, ◌∙◌, subst}
+use Rattle.std.proofs.Common.{◌≡◌, ℕ, false, cond, List, [], Option, Some, None, IfSome, IfNone, Result, Ok, Err, OnOk, unwrap_or, sym, ap, ◌∙◌, subst}
 use Rattle.std.specs.BTreeMap.{BTreeMap}
 use Rattle.std.specs.List.{list_any}
 use Rattle.std.specs.Result.{is_err}
@@ -45,6 +45,18 @@ in_use_put m book now tenant held items are is up none joins t =
     ∙ subst (λ xs. configuration_in (all_joined xs items) ≡ configuration_in xs) here (configuration_stays held items up none))
     (λ e. ap configuration_in (joins t ∙ cond-false _ (all_joined was items) was e)) in
     subst (λ used. IfSome (read_for t m) (λ c. c ≡ used)) (sym same_used) (are t)
+
+-- once all that is held of a tenant is gone, and what was read for it
+pub in_use_left : (m n : BTreeMap (List ℕ) Configuration) (book now : List (List ℕ × Item)) (tenant : List ℕ) → AreInUse m book
+    → ((t : List ℕ) → read_for t n ≡ cond (same t tenant) None (read_for t m))
+    → ((t : List ℕ) → items_of t now ≡ cond (same t tenant) [] (items_of t book))
+    → AreInUse n now
+in_use_left m n book now tenant are read left t =
+    by_cases (same t tenant)
+    (λ e. subst (λ o. IfSome o (λ c. c ≡ configuration_in (items_of t now))) (sym (read t ∙ cond-true _ None (read_for t m) e)) tt)
+    (λ e.
+    subst (λ o. IfSome o (λ c. c ≡ configuration_in (items_of t now))) (sym (read t ∙ cond-false _ None (read_for t m) e))
+    (subst (λ xs. IfSome (read_for t m) (λ c. c ≡ configuration_in xs)) (sym (left t ∙ cond-false _ [] (items_of t book) e)) (are t)))
 
 -- the one that was read, or else the default one, is in use
 pub in_use_found : (found : Option Configuration) (otherwise : Configuration) (held : List Item)

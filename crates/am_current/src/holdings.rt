@@ -88,6 +88,17 @@ impl Holdings {
         self.parts.readings.clear();
     }
 
+    /// Forgets all that is held of a tenant, and the configuration that was read for it: the default one is in use
+    /// until another is put. Other tenants' items stay. It takes no memory.
+    pub fn drop_tenant(&mut self, tenant: &TenantName)
+        ensures { (t : List ℕ) → items_of t self.new
+            ≡ (if same t tenant.now then [] else items_of t self.old) }
+    {
+        let parts = &mut self.parts;
+        parts.book.drop_tenant(tenant);
+        parts.readings.forget(tenant);
+    }
+
     /// What is held of a tenant, in the order of keys.
     pub fn held(&self, tenant: &TenantName) -> &Held
         ensures items { result.now ≡ items_of tenant.now self.now }

@@ -31,6 +31,16 @@ allowance_changed m n tenant count written t = ap (λ o. unwrap_or o (fresh 0)) 
     by_case true = refl
     by_case false = refl
 
+-- a tenant's is gone
+pub allowance_gone : (m n : tree.BTreeMap (List ℕ) Count) (tenant : List ℕ) → tree.Updates (slice_cmp nat_cmp) m n tenant None →
+    (t : List ℕ) → allowance_of t n.entries ≡ cond (same t tenant) (fresh 0) (allowance_of t m.entries)
+unfolding allowance_of
+allowance_gone m n tenant removed t = ap (λ o. unwrap_or o (fresh 0)) (lookup-updates m n tenant None removed t) ∙ by_case (same t tenant)
+  where
+    by_case : (b : Bool) → unwrap_or (cond b None (lookup (λ s. same t s) m.entries)) (fresh 0) ≡ cond b (fresh 0) (unwrap_or (lookup (λ s. same t s) m.entries) (fresh 0))
+    by_case true = refl
+    by_case false = refl
+
 -- none is there
 pub none_used : (t : List ℕ) (own : List (List ℕ × Count)) → own ≡ [] → allowance_of t own ≡ fresh 0
 unfolding allowance_of

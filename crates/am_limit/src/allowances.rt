@@ -64,6 +64,15 @@ impl Allowances {
         Ok(is_given)
     }
 
+    /// Forgets what a tenant used: it is again as one that used nothing. What other tenants used stays. It takes no
+    /// memory.
+    pub fn drop_tenant(&mut self, tenant: &TenantName)
+        ensures { (t : List ℕ) → allowance_of t self.new
+            ≡ (if same t tenant.now then fresh 0 else allowance_of t self.old) }
+    {
+        self.own.remove(tenant);
+    }
+
     /// Forgets what every tenant used. It takes no memory.
     pub fn clear(&mut self)
         ensures { (t : List ℕ) → allowance_of t self.new ≡ fresh 0 }

@@ -31,8 +31,8 @@ use Rattle.am_members.specs.declared.known.Known.{Known}
 use Rattle.am_members.specs.Grouped.{flushed_at}
 use Rattle.am_muting.specs.Muting.{alert_sets}
 use Rattle.am_limit.specs.Allowances.{asked}
-use Rattle.am_limit.specs.Limits.{Count, has_room, with_limit}
-use Rattle.am_outlet.specs.Attempts.{Desk, added, after_outcome, after_tick, is_due, outcome_of}
+use Rattle.am_limit.specs.Limits.{Count, fresh, has_room, with_limit}
+use Rattle.am_outlet.specs.Attempts.{Desk, added, after_outcome, after_tick, cleared, is_due, outcome_of}
 use Rattle.am_outlet.specs.declared.attempt.Notice.{Notice}
 use Rattle.am_outlet.specs.declared.outcome.Outcome.{Outcome}
 use Rattle.am_outlet.specs.declared.outcome.Outcome.TheVariants.{NotOpen, Delivered, Again, GivenUp}
@@ -46,7 +46,7 @@ use Rattle.am_context.specs.declared.context.Context.{Context}
 use Rattle.am_node.specs.Delivery.{at_desk, entry_of, notified, outcome, recorded, retried, settled, started_if, told}
 use Rattle.am_node.specs.Flushing.{begun, flushed, members_but}
 use Rattle.am_notifier.specs.Flushing.{sent_among, without_keys}
-use Rattle.am_node.specs.Local.{Ledger, Local, Reaction, blank, each}
+use Rattle.am_node.specs.Local.{Ledger, Local, Reaction, blank, dropped, each}
 use Rattle.am_node.specs.Plans.{IsPlanned}
 use Rattle.am_notifier.specs.Following.{paces_at, sinces_in}
 use Rattle.am_node.specs.Retiring.{alerts_left, retired}
@@ -287,3 +287,7 @@ ticked_keeps tenant context l is =
 pub blank_planned : IsPlanned blank
 unfolding IsStrictlySortedBy default_paces planned_alerts configuration_in
 blank_planned = record { rising = tt; paces = refl; groups = refl; alerts = refl }
+
+-- or nothing but what was counted
+pub dropped_planned : (l : Local) → IsPlanned (dropped l)
+dropped_planned l = others_keep blank (cleared l.plan.desk) [] (fresh 0) l.ledger blank_planned

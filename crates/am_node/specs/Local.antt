@@ -4,7 +4,7 @@ use Rattle.am_item.specs.declared.item.Item.{Item}
 use Rattle.am_limit.specs.Limits.{Count, fresh}
 use Rattle.am_outlet.specs.declared.attempt.Sending.{Sending}
 use Rattle.am_planning.specs.Planning.{default_paces}
-use Rattle.am_agenda.specs.Plan.{Plan, no_plan}
+use Rattle.am_agenda.specs.Plan.{Plan, dropped as dropped_plan, no_plan}
 use Rattle.am_node.specs.declared.report.Report.{Report}
 use Rattle.am_node.specs.declared.report.Report.TheVariants.{Try, Record}
 
@@ -35,6 +35,10 @@ blank = record {
   position = Some 0;
   ledger = no_ledger;
 }
+
+-- all is dropped but what was counted, and the place of the next word
+abbrev pub dropped : Local → Local
+dropped local = record blank { plan = dropped_plan local.plan; ledger = local.ledger }
 
 -- one thing that it says about the tenant
 pub data Said : Type 0 where

@@ -23,7 +23,7 @@ ghost use Rattle.am_timer.specs.Timer.{timer_cmp};
 ghost use Rattle.am_node.specs.Accepting.{StopsCommitting, StopsPositioning, accepted, accepted_for, counted, positioned};
 ghost use Rattle.am_node.specs.Delivery.{is_awaited, outcome, records};
 ghost use Rattle.am_node.specs.Held.{Does, Makes, StopsFor, local_of};
-ghost use Rattle.am_node.specs.Local.{blank, said_in};
+ghost use Rattle.am_node.specs.Local.{blank, dropped, said_in};
 ghost use Rattle.am_node.specs.Plans.{HoldsNoAlert, IsPlanned};
 ghost use Rattle.am_node.specs.Ticking.{handled};
 ghost use Rattle.am_node.specs.Ticks.{StopsMuting, StopsTicking, TicksAll, context_for, has_flush};
@@ -93,6 +93,15 @@ impl Node {
         ensures { (t : List ℕ) → local_of t self.new ≡ blank }
     {
         self.parts.clear(alloc);
+    }
+
+    /// Forgets all that it has of a tenant, as an instance does that is no replica of the tenant any more, but what was
+    /// counted: the tenant's stamps, the numbers that its attempts have used, and the place of its next word. What it
+    /// has of the other tenants stays, and no row of a store is touched. It takes no memory.
+    pub fn drop_tenant(&mut self, tenant: &TenantName)
+        ensures { Makes tenant.now dropped self.old self.new }
+    {
+        self.parts.drop_tenant(tenant);
     }
 
     /// How many stamps of a tenant it has counted.

@@ -1,11 +1,12 @@
 //! The rooms of an instance that have things of all tenants.
 
 ghost use Rattle.std.specs.Prelude.{◌≡◌, ℕ, List, IfOk};
-ghost use Rattle.am_node.specs.Held.{local_of};
-ghost use Rattle.am_node.specs.Local.{blank};
+ghost use Rattle.am_node.specs.Held.{Makes, local_of};
+ghost use Rattle.am_node.specs.Local.{blank, dropped};
 
 use am_notifier::Notifier;
 use am_replica::Replica;
+use am_tenant::TenantName;
 use am_words::Places;
 use std::alloc::{AllocError, Global};
 
@@ -40,5 +41,14 @@ impl Parts {
         self.replica.clear(alloc);
         self.notifier.clear(alloc);
         self.places = Places::new(alloc);
+    }
+
+    /// Forgets all that it has of a tenant but what was counted: the stamps, the numbers of attempts, and the place of
+    /// the next word. It takes no memory.
+    pub(crate) fn drop_tenant(&mut self, tenant: &TenantName)
+        ensures { Makes tenant.now dropped self.old self.new }
+    {
+        self.replica.drop_tenant(tenant);
+        self.notifier.drop_tenant(tenant);
     }
 }

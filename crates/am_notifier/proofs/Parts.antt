@@ -10,3 +10,8 @@ with_parts plan noticed position = record { plan = plan; noticed = noticed; posi
 -- equal parts make it equal, at the same position
 pub both : {d : Option ℕ} (p q : Plan) (c e : Count) → p ≡ q → c ≡ e → with_parts p c d ≡ with_parts q e d
 both {d} p q c e plan noticed = rw (plan, noticed) refl
+
+-- equal parts make it equal
+pub parts_make : (p q : Plan) (c e : Count) (d f : Option ℕ) → p ≡ q → c ≡ e → d ≡ f
+    → with_parts p c d ≡ with_parts q e f
+parts_make p q c e d f plan noticed position = rw (plan, noticed, position) refl

@@ -35,6 +35,19 @@ position_set m n tenant position written t =
     by_case true = refl
     by_case false = refl
 
+-- a tenant's went
+pub position_gone : (m n : tree.BTreeMap (List ℕ) (Option Position)) (tenant : List ℕ)
+    → tree.Updates (slice_cmp nat_cmp) m n tenant None
+    → (t : List ℕ) → position_of t n.entries ≡ cond (same t tenant) (Some First) (position_of t m.entries)
+unfolding position_of
+position_gone m n tenant gone t =
+    ap (λ o. unwrap_or o (Some First)) (lookup-updates m n tenant None gone t) ∙ by_case (same t tenant)
+  where
+    by_case : (b : Bool) → unwrap_or (cond b None (lookup (λ s. same t s) m.entries)) (Some First)
+        ≡ cond b (Some First) (unwrap_or (lookup (λ s. same t s) m.entries) (Some First))
+    by_case true = refl
+    by_case false = refl
+
 -- none was set
 pub none_set : (t : List ℕ) (own : List (List ℕ × Option Position)) → own ≡ [] → position_of t own ≡ Some First
 unfolding position_of

@@ -1,6 +1,6 @@
 -- What an instance plans for each tenant, how many notices it gave, and at which position.
 use Rattle.std.specs.Prelude.{◌≡◌, ℕ, List, Option, Some, option_map, if◌then◌else◌}
-use Rattle.am_agenda.specs.Plan.{Plan, no_plan}
+use Rattle.am_agenda.specs.Plan.{Plan, dropped as dropped_plan, no_plan}
 use Rattle.am_agenda.specs.Planned.{plan_of}
 use Rattle.am_limit.specs.Allowances.{allowance_of}
 use Rattle.am_limit.specs.Limits.{Count, fresh}
@@ -30,6 +30,11 @@ notifies_of t notifier = record {
 -- with this plan
 abbrev pub with_plan : Plan → Notifies → Notifies
 with_plan plan notifies = record notifies { plan = plan }
+
+-- nothing is planned any more, no notice was given and the position is the first, as for a tenant of whom nothing is
+-- known; but the numbers that attempts have used stay used
+abbrev pub dropped : Notifies → Notifies
+dropped notifies = record nothing { plan = dropped_plan notifies.plan }
 
 -- one tenant has what this makes of it, and every other has what it had
 abbrev pub Makes : List ℕ → (Notifies → Notifies) → Notifier → Notifier → Type 0

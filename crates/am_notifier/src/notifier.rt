@@ -2,7 +2,7 @@
 
 ghost use Rattle.std.specs.List.Sorted.{IsStrictlySortedBy};
 ghost use Rattle.std.specs.Prelude.{◌≡◌, ℕ, List, IfOk, option_map};
-ghost use Rattle.am_notifier.specs.Notifies.{notifies_of, nothing};
+ghost use Rattle.am_notifier.specs.Notifies.{Makes, dropped, notifies_of, nothing};
 ghost use Rattle.am_notifier.specs.Positions.{is_same_position, number_of};
 ghost use Rattle.am_outlet.specs.Attempts.{attempt_at, awaits_outcome};
 ghost use Rattle.am_timer.specs.Queue.{due_at, timers_of};
@@ -64,6 +64,17 @@ impl Notifier {
         self.agenda.clear(alloc);
         self.allowances.clear();
         self.positions.clear();
+    }
+
+    /// Forgets what is planned of a tenant, how many notices it was given and at which position its groups wait. The
+    /// numbers that its attempts have used stay used, and all that it has of the other tenants stays. It takes no
+    /// memory.
+    pub fn drop_tenant(&mut self, tenant: &TenantName)
+        ensures { Makes tenant.now dropped self.old self.new }
+    {
+        self.agenda.drop_tenant(tenant);
+        self.allowances.drop_tenant(tenant);
+        self.positions.drop_tenant(tenant);
     }
 
     /// Whether the outcome of this try of a tenant's attempt is awaited.

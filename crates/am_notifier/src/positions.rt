@@ -55,6 +55,14 @@ impl Positions {
         Ok(())
     }
 
+    /// Forgets what was set for a tenant: the position is the first again. It takes no memory.
+    pub fn drop_tenant(&mut self, tenant: &TenantName)
+        ensures { (t : List ℕ)
+            → position_of t self.new ≡ (if same t tenant.now then Some First else position_of t self.old) }
+    {
+        self.own.remove(tenant);
+    }
+
     /// Forgets what was set. It takes no memory.
     pub fn clear(&mut self)
         ensures { (t : List ℕ) → position_of t self.new ≡ Some First }

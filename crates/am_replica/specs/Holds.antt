@@ -31,3 +31,7 @@ accepted items holds = record holds { held = all_joined holds.held items }
 -- so many more stamps are counted
 abbrev pub counted : ℕ → Holds → Holds
 counted more holds = record holds { stamps = holds.stamps + more }
+
+-- all is forgotten but how many stamps were counted
+abbrev pub dropped : Holds → Holds
+dropped holds = record holds { held = [] }

@@ -5,7 +5,7 @@ ghost use Rattle.std.specs.Borrow.{sem};
 ghost use Rattle.std.specs.Io.BufRead.{Rests};
 ghost use Rattle.am_current.specs.Current.{configuration_in};
 ghost use Rattle.am_item.specs.Best.{IsRising};
-ghost use Rattle.am_replica.specs.Holds.{holds_of, nothing};
+ghost use Rattle.am_replica.specs.Holds.{Makes, dropped, holds_of, nothing};
 
 use am_config::Config;
 use am_current::Holdings;
@@ -52,6 +52,15 @@ impl Replica {
     {
         self.holdings.clear();
         self.counts = Counts::new(alloc);
+    }
+
+    /// Forgets all that is held of a tenant, but how many of its stamps were counted, so that no stamp is given twice.
+    /// What is held of other tenants stays. It takes no memory.
+    #[tactic(auto, unfolding(crate::specs::Holds::holds_of))]
+    pub fn drop_tenant(&mut self, tenant: &TenantName)
+        ensures { Makes tenant.now dropped self.old self.new }
+    {
+        self.holdings.drop_tenant(tenant);
     }
 
     /// How many stamps of a tenant were counted.
