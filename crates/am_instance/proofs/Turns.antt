@@ -116,10 +116,10 @@ keys_none t = refl
 -- ---- what is said
 
 -- what is said of one tenant, with whose it is
-abbrev tagged : List ℕ → List Said → List (List ℕ × Said)
+abbrev pub tagged : List ℕ → List Said → List (List ℕ × Said)
 tagged tenant said = map (λ s. let pair : List ℕ × Said = (tenant, s) in pair) said
 
-said_append : (t : List ℕ) (xs ys : List (List ℕ × Said)) → said_of t (xs ++ ys) ≡ said_of t xs ++ said_of t ys
+pub said_append : (t : List ℕ) (xs ys : List (List ℕ × Said)) → said_of t (xs ++ ys) ≡ said_of t xs ++ said_of t ys
 unfolding said_of
 said_append t xs ys =
     rw (filter-append (λ (e : List ℕ × Said). same t e.0) xs ys)
@@ -129,7 +129,7 @@ pub said_none : (t : List ℕ) → said_of t [] ≡ []
 unfolding said_of
 said_none t = refl
 
-said_tagged : (t tenant : List ℕ) (said : List Said)
+pub said_tagged : (t tenant : List ℕ) (said : List Said)
     → said_of t (tagged tenant said) ≡ (if same t tenant then said else [])
 unfolding said_of
 said_tagged t tenant said = by (same t tenant) refl said
@@ -148,7 +148,7 @@ outputs_tagged x tenant [] = refl
 outputs_tagged x tenant (s ∷ said) =
     ap (λ rest. output_of tenant x.number x.incarnation s ∷ rest) (outputs_tagged x tenant said)
 
-outputs_more : (x : Instance) (all : List (List ℕ × Said)) (tenant : List ℕ) (said : List Said)
+pub outputs_more : (x : Instance) (all : List (List ℕ × Said)) (tenant : List ℕ) (said : List Said)
     → outputs_of_all x (all ++ tagged tenant said) ≡ outputs_of_all x all ++ outputs_at x tenant said
 outputs_more x all tenant said =
     map-append (λ (e : List ℕ × Said). output_of e.0 x.number x.incarnation e.1) all (tagged tenant said)

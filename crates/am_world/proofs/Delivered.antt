@@ -94,6 +94,14 @@ left_delivered Rejects w name moment n at there x m fault stop old new then foun
 pub writes_up : (w : State) (name : MessageName) (moment : ℕ) (i : ℕ) → writes w (Deliver name moment) i ≡ true → up_at i w.instances ≡ true
 writes_up w name moment i is = (and_parts (nat_eq i name.to) (up_at i w.instances) is).1
 
+pub writes_none : (w : State) (name : MessageName) (moment i : ℕ) → up_at i w.instances ≡ false
+    → writes w (Deliver name moment) i ≡ false
+writes_none w name moment i down = rw down (by_name (nat_eq i name.to))
+  where
+    by_name : (b : Bool) → (b && false) ≡ false
+    by_name true = refl
+    by_name false = refl
+
 -- one that is up is there
 pub exists_up : (i : ℕ) (xs : List Instance) → up_at i xs ≡ true → (x : Instance) × (instance_at i xs ≡ Some x)
 unfolding up_at

@@ -29,10 +29,11 @@ use Rattle.am_world.specs.Places.{incarnation_where, instance_at, known_at, know
 use Rattle.am_world.specs.Places.{refused_at, refused_where, up_at, up_where}
 use Rattle.am_world.specs.Simulation.{Follows, Stands, bytes_read, fault_count, limits_in, put_out}
 use Rattle.am_world.specs.Simulation.{refused_by, roster_of}
-use Rattle.am_world.specs.Steps.{Kept, Premises, clock_after, limits_after}
+use Rattle.am_world.specs.Steps.{clock_after, limits_after}
 use Rattle.am_world.specs.declared.common.Common.{Common}
 use Rattle.am_world.specs.declared.state.State.{State}
 use Rattle.am_tenant.specs.Names.{same}
+use Rattle.am_world.proofs.Beside.{Kept, Premises}
 use Rattle.am_world.proofs.Built.{builds_kept}
 use Rattle.am_world.proofs.RunLater.{asked_later, later_itself, later_watch}
 use Rattle.am_world.proofs.RunPlaces.{turned_here}
@@ -93,7 +94,7 @@ stands_same t w w' p e s = record {
 
 -- it has what it had of each tenant, is up or down as it was, and was refused no build
 abbrev pub Rests : Instance → Instance → Type 0
-Rests x x' = GoesOn x x' × (x'.site ≡ x.site) × (refused_in x' ≡ refused_in x)
+Rests x x' = GoesOn x x' × (x'.site ≡ x.site) × (refused_in x' ≡ refused_in x) × (x'.tenants ≡ x.tenants)
 
 -- what is seen of each instance is the same, where it is so of each that rests
 rest_by : {A : Type 0} (f : Option Instance → A) → ((x x' : Instance) → Rests x x' → f (Some x') ≡ f (Some x))

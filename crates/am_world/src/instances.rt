@@ -27,7 +27,7 @@ pub(crate) const NUMBERS: [u8; 8] = [1, 2, 3, 4, 5, 6, 7, 8];
 /// All instances, in order of number.
 #[derive(Drop)]
 pub struct Instances {
-    list: Vec<Instance>,
+    pub(crate) list: Vec<Instance>,
 }
 
 impl Model for Instances {
@@ -183,7 +183,7 @@ impl Instances {
 
     // The instance of a number.
     #[tactic(auto, unfolding(crate::specs::Places::instance_at))]
-    fn at(&self, number: u8) -> Option<&Instance>
+    pub(crate) fn at(&self, number: u8) -> Option<&Instance>
         ensures { option_copied result ≡ instance_at number self.now }
     {
         for instance in &self.list {
@@ -204,8 +204,8 @@ impl Instances {
         ensures reading { OnOk result ((c i : ℕ) → bytes_at c i self.new ≡
             (if i == number then (if c == connection then Some [] else bytes_at c i self.old)
             else bytes_at c i self.old)) }
-        ensures stays { Turns number (λ x x'. GoesOn x x' × (x'.site ≡ x.site) × (refused_in x' ≡ refused_in x))
-            self.old self.new }
+        ensures stays { Turns number (λ x x'. GoesOn x x' × (x'.site ≡ x.site) × (refused_in x' ≡ refused_in x)
+            × (x'.tenants ≡ x.tenants)) self.old self.new }
         ensures at { ChangesAt number self.old self.new }
     {
         self.list[place(number)].open(alloc, connection)
@@ -222,7 +222,7 @@ impl Instances {
         ensures reading { OnOk result (IsReadOnce connection self.old → (c i : ℕ) → bytes_at c i self.new ≡
             (if c == connection then (if i == number then Some [] else None) else bytes_at c i self.old)) }
         ensures beside { OnOk result ((i : ℕ) → Turns i (λ x x'. GoesOn x x' × (x'.site ≡ x.site)
-            × (refused_in x' ≡ refused_in x)) self.old self.new) }
+            × (refused_in x' ≡ refused_in x) × (x'.tenants ≡ x.tenants)) self.old self.new) }
         ensures numbered { AreNumbered self.new }
         ensures others { OnErr result (SameElsewhere number self.old self.new) }
         ensures same { Turns number GoesOn self.old self.new }
@@ -243,8 +243,8 @@ impl Instances {
     pub fn close(&mut self, number: Number, connection: ConnectionId)
         ensures reading { Turns number (λ x x'. (c : ℕ) →
             bytes_in c x' ≡ (if c == connection then None else bytes_in c x)) self.old self.new }
-        ensures stays { Turns number (λ x x'. GoesOn x x' × (x'.site ≡ x.site) × (refused_in x' ≡ refused_in x))
-            self.old self.new }
+        ensures stays { Turns number (λ x x'. GoesOn x x' × (x'.site ≡ x.site) × (refused_in x' ≡ refused_in x)
+            × (x'.tenants ≡ x.tenants)) self.old self.new }
         ensures at { ChangesAt number self.old self.new }
     {
         self.list[place(number)].close(connection);

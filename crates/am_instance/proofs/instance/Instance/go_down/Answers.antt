@@ -2,7 +2,7 @@ use Rattle.std.proofs.Common.{refl}
 use Rattle.am_instance.specs.Instance.{local_in}
 use Rattle.am_instance.proofs.Growing.{more_nothing}
 use Rattle.am_instance.proofs.Whole.{whole_blank}
-use Rattle.am_instance.proofs.instance.Instance.stop.Goals as goal
+use Rattle.am_instance.proofs.instance.Instance.go_down.Goals as goal
 
 pub returns-clause-down : goal.returns-clause-down
 unfolding local_in
