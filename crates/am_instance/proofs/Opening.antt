@@ -1,5 +1,5 @@
 -- What is so of an instance once its store was opened.
-use Rattle.std.proofs.Common.{◌≡◌, ℕ, ◌<◌, List, length, None, is_some, arith, ap, sym, subst, ◌∙◌}
+use Rattle.std.proofs.Common.{◌≡◌, ℕ, ◌<◌, List, [], length, None, is_some, arith, ap, sym, subst, ◌∙◌}
 use Rattle.std.proofs.lemmas.Bool.{false≢true}
 use Rattle.am_cluster.specs.Here.{Here}
 use Rattle.am_cluster.specs.Local.{Local, blank}
@@ -12,8 +12,9 @@ use Rattle.am_transfer.specs.Settling.{Settling}
 use Rattle.am_transfer.specs.Tenants.{settling_of}
 use Rattle.am_transfer.specs.Timers.{Room}
 use Rattle.am_site.specs.InOrder.{IsInOrder, IsSound}
+use Rattle.am_site.specs.Learning.{IsIdle}
 use Rattle.am_site.specs.Locals.{from_rooms, local_of}
-use Rattle.am_site.specs.Opening.{HoldsNoAlerts, KeepsRest}
+use Rattle.am_site.specs.Opening.{BeginsWith, KeepsRest}
 use Rattle.am_site.specs.declared.site.Site.{Site}
 use Rattle.am_site.proofs.Sound.{blank_sound}
 
@@ -52,11 +53,22 @@ module _ (here : Here) (old new : Site) (rest : KeepsRest old new) (nothing : lo
       ap (λ (room : Room). (settling_of here.tenant room.progress).asked_at) rest.settling
       ∙ ap (λ (l : Local). l.settling.asked_at) nothing
 
+  pushes_nothing : (local_of here.tenant new).settling.pushes ≡ []
+  unfolding local_of
+  pushes_nothing =
+      ap (λ (room : Room). (settling_of here.tenant room.progress).pushes) rest.settling
+      ∙ ap (λ (l : Local). l.settling.pushes) nothing
+
+  -- no alert is held, nothing is pushed, and nobody was asked
+  pub opened_elsewhere : (names : List (List ℕ)) → BeginsWith names new → IsIdle (local_of here.tenant new)
+  opened_elsewhere names begins =
+      record { sinces = begins.sinces here.tenant; pushes = pushes_nothing; asked = asks_nobody }
+
   -- all is in order where nothing was had, and no alert is held now
-  pub opened_in_order : HoldsNoAlerts new → IsInOrder here new
-  opened_in_order alerts = record {
+  pub opened_in_order : (names : List (List ℕ)) → BeginsWith names new → IsInOrder here new
+  opened_in_order names begins = record {
     position = λ some.
-        absurd (none (subst (λ (sinces : List (List Label × ℕ)). 0 < length sinces) (alerts.sinces here.tenant) some));
+        absurd (none (subst (λ (sinces : List (List Label × ℕ)). 0 < length sinces) (begins.sinces here.tenant) some));
     asked = λ some. absurd (false≢true (sym (ap is_some asks_nobody) ∙ some));
     sound = still_sound;
   }

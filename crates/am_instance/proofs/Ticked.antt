@@ -3,7 +3,7 @@ use Rattle.std.proofs.Common.{◌≡◌, ◌∙◌, ◌<◌, ℕ, length, Bool, 
 use Rattle.std.proofs.Common.{ap, subst}
 use Rattle.std.specs.List.{list_any}
 use Rattle.am_cluster.specs.Events.{Output}
-use Rattle.am_cluster.specs.Here.{Here}
+use Rattle.am_cluster.specs.Here.{Here, is_replica_here}
 use Rattle.am_cluster.specs.Local.{Local}
 use Rattle.am_cluster.specs.Reactions.{Reaction, each}
 use Rattle.am_cluster.specs.Retiring.{retired}
@@ -19,6 +19,7 @@ use Rattle.am_node.specs.Ticks.{StopsMuting, has_flush, is_flush, keys_for, mute
 use Rattle.am_replica.specs.Retiring.{StopsRetiring}
 use Rattle.am_site.specs.Due.{AreDue, IsTimely}
 use Rattle.am_site.specs.InOrder.{IsInOrder}
+use Rattle.am_site.specs.Learning.{IsIdle}
 use Rattle.am_site.specs.Locals.{local_of}
 use Rattle.am_site.specs.Reacting.{Retires}
 use Rattle.am_site.specs.declared.site.Site.{Site}
@@ -28,9 +29,12 @@ use Rattle.am_transfer.specs.Timers.{AreTimed}
 use Rattle.am_instance.specs.declared.instance.Instance.{Instance}
 use Rattle.am_instance.specs.Here.{Circumstances, here_on}
 use Rattle.am_instance.specs.Instance.{ReadsOn, local_in, refused_in}
+use Rattle.am_instance.specs.Tenants.{is_noted}
 use Rattle.am_instance.specs.Ticks.{HandlesAll, IsDone, StopsHandling, StopsTicking, Ticks, TicksAll, done_on}
 use Rattle.am_instance.specs.Ticks.{has_flush_due, said_of}
 use Rattle.am_instance.specs.Whole.{IsWhole}
+use Rattle.am_instance.proofs.Blank.{retired_blank}
+use Rattle.am_instance.proofs.Elsewhere.{retired_elsewhere}
 use Rattle.am_instance.proofs.Flushes.{flush_due}
 use Rattle.am_instance.proofs.Turns.{Muteds, flush_among, no_flush, same_here, same_outputs}
 
@@ -71,9 +75,10 @@ pub record IsRetired (around : Circumstances) (x mid : Instance) : Type 0 where
   pub plans : (t : List ℕ) → IsPlanned (local_in_node t mid.site.node)
 
 pub is_retired : (around : Circumstances) (x mid : Instance) (site : Site) → ReadsOn x mid → mid.site ≡ site
-    → Retires around.moment x.site site → ((here : Here) → IsInOrder here x.site → IsInOrder here site)
+    → mid.tenants ≡ x.tenants → Retires around.moment x.site site → ((here : Here) → IsInOrder here x.site → IsInOrder here site)
     → ((t : List ℕ) → IsPlanned (local_in_node t site.node)) → IsWhole around x → IsRetired around x mid
-is_retired around x mid site reads stays retires order planned whole = record {
+unfolding local_in
+is_retired around x mid site reads stays tenants retires order planned whole = record {
   reads = reads;
   left = λ t. ap (local_of t) stays ∙ retires.local t;
   whole = record {
@@ -85,6 +90,14 @@ is_retired around x mid site reads stays retires order planned whole = record {
     incarnation =
         ap (λ (s : Site). s.operations.incarnation) stays ∙ retires.keeps.incarnation ∙ whole.incarnation
         ∙ sym reads.goes.incarnation;
+    noted = λ t out.
+        ap (local_of t) stays ∙ retires.local t
+        ∙ ap (retired around.moment) (whole.noted t (subst (λ names. is_noted t names ≡ false) tenants out))
+        ∙ retired_blank around.moment;
+    idle = λ t none.
+        subst IsIdle (sym (ap (local_of t) stays ∙ retires.local t))
+        (retired_elsewhere around.moment (local_of t x.site)
+        (whole.idle t (subst (λ h. is_replica_here h ≡ false) (same_here around x mid reads t) none)));
   };
   plans = λ t. subst (λ (s : Site). IsPlanned (local_in_node t s.node)) (sym stays) (planned t);
 }

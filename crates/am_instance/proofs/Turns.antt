@@ -116,10 +116,10 @@ keys_none t = refl
 -- ---- what is said
 
 -- what is said of one tenant, with whose it is
-abbrev tagged : List ℕ → List Said → List (List ℕ × Said)
+abbrev pub tagged : List ℕ → List Said → List (List ℕ × Said)
 tagged tenant said = map (λ s. let pair : List ℕ × Said = (tenant, s) in pair) said
 
-said_append : (t : List ℕ) (xs ys : List (List ℕ × Said)) → said_of t (xs ++ ys) ≡ said_of t xs ++ said_of t ys
+pub said_append : (t : List ℕ) (xs ys : List (List ℕ × Said)) → said_of t (xs ++ ys) ≡ said_of t xs ++ said_of t ys
 unfolding said_of
 said_append t xs ys =
     rw (filter-append (λ (e : List ℕ × Said). same t e.0) xs ys)
@@ -129,7 +129,7 @@ pub said_none : (t : List ℕ) → said_of t [] ≡ []
 unfolding said_of
 said_none t = refl
 
-said_tagged : (t tenant : List ℕ) (said : List Said)
+pub said_tagged : (t tenant : List ℕ) (said : List Said)
     → said_of t (tagged tenant said) ≡ (if same t tenant then said else [])
 unfolding said_of
 said_tagged t tenant said = by (same t tenant) refl said
@@ -148,7 +148,7 @@ outputs_tagged x tenant [] = refl
 outputs_tagged x tenant (s ∷ said) =
     ap (λ rest. output_of tenant x.number x.incarnation s ∷ rest) (outputs_tagged x tenant said)
 
-outputs_more : (x : Instance) (all : List (List ℕ × Said)) (tenant : List ℕ) (said : List Said)
+pub outputs_more : (x : Instance) (all : List (List ℕ × Said)) (tenant : List ℕ) (said : List Said)
     → outputs_of_all x (all ++ tagged tenant said) ≡ outputs_of_all x all ++ outputs_at x tenant said
 outputs_more x all tenant said =
     map-append (λ (e : List ℕ × Said). output_of e.0 x.number x.incarnation e.1) all (tagged tenant said)
@@ -167,19 +167,20 @@ module _ (around : Circumstances) (x x' : Instance) (reads : ReadsOn x x') where
   same_outputs_at tenant said = rw (reads.goes.number, reads.goes.incarnation) refl
 
 -- it goes on, and more patterns may have been refused
-pub reads_with : (x x' : Instance) → x'.up ≡ x.up → x'.number ≡ x.number → x'.incarnation ≡ x.incarnation
-    → x'.known ≡ x.known → x'.front ≡ x.front → HasMore (refused_in x) (refused_in x') → ReadsOn x x'
-reads_with x x' up number incarnation known front more = record {
-  goes = record { up = up; number = number; incarnation = incarnation; known = known; refused = more };
+pub reads_with : (x x' : Instance) → x'.up ≡ x.up → x'.cause ≡ x.cause → x'.number ≡ x.number
+    → x'.incarnation ≡ x.incarnation → x'.known ≡ x.known → x'.front ≡ x.front
+    → HasMore (refused_in x) (refused_in x') → ReadsOn x x'
+reads_with x x' up cause number incarnation known front more = record {
+  goes = record { up = up; cause = cause; number = number; incarnation = incarnation; known = known; refused = more };
   front = front;
 }
 
 pub reads_same : (x : Instance) → ReadsOn x x
-reads_same x = reads_with x x refl refl refl refl refl (more_nothing (refused_in x) (refused_in x) refl)
+reads_same x = reads_with x x refl refl refl refl refl refl (more_nothing (refused_in x) (refused_in x) refl)
 
 pub reads_then : (x y z : Instance) → ReadsOn x y → ReadsOn y z → ReadsOn x z
 reads_then x y z one two =
-    reads_with x z (two.goes.up ∙ one.goes.up) (two.goes.number ∙ one.goes.number)
+    reads_with x z (two.goes.up ∙ one.goes.up) (two.goes.cause ∙ one.goes.cause) (two.goes.number ∙ one.goes.number)
     (two.goes.incarnation ∙ one.goes.incarnation) (two.goes.known ∙ one.goes.known) (two.front ∙ one.front)
     (more_then (refused_in x) (refused_in y) (refused_in z) one.goes.refused two.goes.refused)
 

@@ -53,9 +53,10 @@ pub record IsSameNode (x x' : Instance) : Type 0 where
   pub known : x'.known ≡ x.known
   pub refused : HasMore (refused_in x) (refused_in x')
 
--- .. which is up, or down, as it was
+-- .. which is up, or down and for which fault, as it was
 pub record GoesOn (x x' : Instance) : Type 0 where
   pub up : x'.up ≡ x.up
+  pub cause : x'.cause ≡ x.cause
   pub number : x'.number ≡ x.number
   pub incarnation : x'.incarnation ≡ x.incarnation
   pub known : x'.known ≡ x.known
@@ -66,7 +67,8 @@ pub record ReadsOn (x x' : Instance) : Type 0 where
   pub goes : GoesOn x x'
   pub front : ReadsAlike x x'
 
--- it is up now, and was refused the build of no pattern more
+-- it is up now, no fault stopped it since, and it was refused the build of no pattern more
 pub record Starts (x x' : Instance) : Type 0 where
   pub up : x'.up ≡ true
+  pub cause : x'.cause ≡ None
   pub refused : refused_in x' ≡ refused_in x

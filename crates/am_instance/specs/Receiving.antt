@@ -1,6 +1,6 @@
 -- What an instance does with a message that comes.
 use Rattle.std.specs.Prelude.{◌≡◌, ◌⊎◌, ℕ, List, Option}
-use Rattle.am_api.specs.Replied.{Decision}
+use Rattle.am_cluster.specs.Deciding.{Decision}
 use Rattle.am_cluster.specs.Arriving.{arrive}
 use Rattle.am_cluster.specs.Events.{Output}
 use Rattle.am_cluster.specs.Messages.{Message}

@@ -20,6 +20,7 @@ impl Instance {
         ensures front { (c : ℕ) →
             bytes_in c self.new ≡ (if c == connection then None else bytes_in c self.old) }
         ensures site { self.new.site ≡ self.old.site }
+        ensures tenants { self.new.tenants ≡ self.old.tenants }
         ensures stays { GoesOn self.old self.new }
         ensures refused { refused_in self.new ≡ refused_in self.old }
     {
@@ -33,6 +34,7 @@ impl Instance {
         ensures front { OnOk result ((c : ℕ) →
             bytes_in c self.new ≡ (if c == connection then Some [] else bytes_in c self.old)) }
         ensures site { self.new.site ≡ self.old.site }
+        ensures tenants { self.new.tenants ≡ self.old.tenants }
         ensures stays { GoesOn self.old self.new }
         ensures refused { refused_in self.new ≡ refused_in self.old }
     {

@@ -95,6 +95,7 @@ impl Instance {
         let tenant = request.tenant;
         let three = self.three(occasion, &tenant);
         let here = self.here(occasion, &tenant, &three);
+        self.tenants.note(tenant)?;
         let mut said = Vec::new(alloc);
         self.site
             .start(alloc, &here, connection, request, &mut said)?;

@@ -10,7 +10,7 @@ ghost use Rattle.am_instance.specs.Here.{IsGiven, circumstances, has_stayed_on, 
 use crate::given::Occasion;
 use crate::instance::Instance;
 use am_ring::{Instance as Number, Ring};
-use am_site::Here;
+use am_site::{Here, is_among};
 use am_tenant::TenantName;
 
 impl Instance {
@@ -42,21 +42,28 @@ impl Instance {
             limits: occasion.limits.of(tenant),
             epoch: self.known,
             three,
-            has_stayed: self.has_stayed(occasion, tenant),
+            has_stayed: self.has_stayed(occasion, tenant, three),
             incarnations: occasion.incarnations,
         }
     }
 
-    // Whether the instance was never joined or restarted, and was one of the three in every ring that it has known.
-    fn has_stayed(&self, occasion: &Occasion<'_>, tenant: &TenantName) -> bool
-        requires { self.now.known < length occasion.now.rings.now }
+    // Whether the instance was never joined or restarted, and was one of the three in every ring that it has known, of
+    // which the last one has these.
+    fn has_stayed(&self, occasion: &Occasion<'_>, tenant: &TenantName, three: &[Number]) -> bool
+        requires known { self.now.known < length occasion.now.rings.now }
+        requires three { three.now ≡ three_on (circumstances occasion.now) self.now tenant.now }
         ensures { result ≡ has_stayed_on (circumstances occasion.now) self.now tenant.now }
     {
         let number = self.number;
-        self.incarnation == occasion.first
-            && occasion.rings[..=self.known as usize]
-                .iter()
-                .all(|ring| is_replica(ring, tenant, number))
+        if self.incarnation != occasion.first {
+            return false;
+        }
+        if !is_among(number, three) {
+            return false;
+        }
+        occasion.rings[..self.known as usize]
+            .iter()
+            .all(|ring| is_replica(ring, tenant, number))
     }
 }
 
@@ -64,7 +71,5 @@ impl Instance {
 fn is_replica(ring: &Ring, tenant: &TenantName, instance: Number) -> bool
     ensures { result ≡ is_among instance (replicas tenant.now ring.now.instances) }
 {
-    ring.replicas(tenant)
-        .iter()
-        .any(|replica| instance == *replica)
+    is_among(instance, &ring.replicas(tenant))
 }

@@ -1,6 +1,6 @@
 //! One instance: whether it is up, and what it has.
 
-ghost use Rattle.std.specs.Prelude.{◌≡◌, ◌<◌, ℕ, List, [], true, IfOk, IfErr, OnOk, length};
+ghost use Rattle.std.specs.Prelude.{◌≡◌, ◌<◌, ℕ, List, [], true, None, IfOk, IfErr, OnOk, length};
 ghost use Rattle.am_cluster.specs.RingChanges.{opened};
 ghost use Rattle.am_rows.specs.Refusing.{IsJudged, MayRefuse};
 ghost use Rattle.am_rows.specs.Rows.{rows_of};
@@ -10,6 +10,7 @@ ghost use Rattle.am_instance.specs.Shelves.{IsBacked, shelf_of};
 ghost use Rattle.am_instance.specs.Whole.{IsWhole};
 
 use crate::given::Occasion;
+use crate::tenants::Tenants;
 use am_http::Front;
 use am_item::Fault;
 use am_pattern::PatternCache;
@@ -33,6 +34,8 @@ pub struct Instance {
     pub(crate) known: u64,
     pub(crate) front: Front,
     pub(crate) site: Site,
+    // of whom the site may have something
+    pub(crate) tenants: Tenants,
     pub(crate) cache: PatternCache,
 }
 
@@ -60,10 +63,12 @@ impl Drop for Instance {
             known: _known,
             front,
             site,
+            tenants,
             cache,
         } = self;
         drop(front);
         drop(site);
+        drop(tenants);
         drop(cache);
     }
 }
@@ -87,6 +92,7 @@ impl Instance {
             known: 0,
             front: Front::new(alloc)?,
             site: Site::new(alloc, begin.incarnation)?,
+            tenants: Tenants::new(alloc),
             cache: PatternCache::new(alloc, begin.capacity, begin.hash_key)?,
         })
     }
@@ -103,6 +109,13 @@ impl Instance {
         ensures { result ≡ self.now.incarnation }
     {
         self.incarnation
+    }
+
+    /// The epoch of the ring that it knows.
+    pub fn known(&self) -> u64
+        ensures { result ≡ self.now.known }
+    {
+        self.known
     }
 
     /// Whether the instance is up.
@@ -146,7 +159,8 @@ impl Instance {
         let ring = &occasion.rings[self.known as usize];
         let (number, moment) = (self.number, occasion.moment);
         let cache = &mut self.cache;
-        self.site.open(alloc, ring, number, moment, cache, store)?;
+        let names = self.site.open(alloc, ring, number, moment, cache, store)?;
+        self.tenants.note_all(&names)?;
         self.cause = None;
         self.up = true;
         Ok(())
@@ -161,9 +175,32 @@ impl Instance {
         ensures refused { refused_in self.new ≡ refused_in self.old }
         ensures whole { (around : Circumstances) → self.old.known < length around.rings → IsWhole around self.new }
     {
+        self.go_down(alloc, Some(fault));
+    }
+
+    /// Shuts the instance down, as a crash without a fault does: it has lost all but its patterns. It takes no memory.
+    pub fn shut(&mut self, alloc: Global)
+        ensures down { IsDown self.new }
+        ensures cause { self.new.cause ≡ None }
+        ensures stays { IsSameNode self.old self.new }
+        ensures refused { refused_in self.new ≡ refused_in self.old }
+        ensures whole { (around : Circumstances) → self.old.known < length around.rings → IsWhole around self.new }
+    {
+        self.go_down(alloc, None);
+    }
+
+    // It is down for this fault, or for none, and has lost all but its patterns.
+    fn go_down(&mut self, alloc: Global, cause: Option<Fault>)
+        ensures down { IsDown self.new }
+        ensures cause { self.new.cause ≡ cause }
+        ensures stays { IsSameNode self.old self.new }
+        ensures refused { refused_in self.new ≡ refused_in self.old }
+        ensures whole { (around : Circumstances) → self.old.known < length around.rings → IsWhole around self.new }
+    {
         self.up = false;
-        self.cause = Some(fault);
+        self.cause = cause;
         self.front.close_all();
+        self.tenants.clear();
         self.site.clear(alloc, self.incarnation);
     }
 }

@@ -4,12 +4,17 @@
 
 mod connections;
 mod feeding;
+mod forcing;
 mod given;
 mod here;
 mod instance;
+mod learning;
+mod leaving;
 mod notices;
 mod outputs;
 mod receiving;
+mod restarting;
+mod tenants;
 mod ticking;
 
 pub use given::{Occasion, Piece};

@@ -55,6 +55,7 @@ impl Instance {
         let tenant = message.tenant;
         let three = self.three(occasion, &tenant);
         let here = self.here(occasion, &tenant, &three);
+        self.tenants.note(tenant)?;
         let mut said = Vec::new(alloc);
         let cache = &mut self.cache;
         self.site

@@ -39,6 +39,19 @@ bad amring --cache 1 run
 serve amring serve --port 65535
 serve amring serve --port=1 --count=1
 serve amring serve --port=1 --start 7 --store a/b
+serve amring serve --port=1 --address 0.0.0.0
+serve amring serve --address=255.255.255.255 --port=1
+bad amring serve --port=1 --address 0.0.0.256
+bad amring serve --port=1 --address 0.0.0
+bad amring serve --port=1 --address 127.0.0.01
+bad amring serve --port=1 --address ::1
+bad amring serve --port=1 --address localhost
+bad amring serve --port=1 --address 127.0.0.1:80
+bad amring serve --port=1 --address=
+bad amring serve --port=1 --address
+bad amring serve --port=1 --address 0.0.0.0 --address 0.0.0.0
+bad amring serve --address 0.0.0.0
+bad amring run --address 127.0.0.1
 bad amring serve --port=1 --start 0
 bad amring serve --port=1 --store
 bad amring serve
@@ -55,7 +68,7 @@ help amring run -h
 help amring -V";
 
 // Command lines, and the text that is told of them.
-const TEXTS: [(&str, &str); 6] = [
+const TEXTS: [(&str, &str); 7] = [
     ("amring --version", "amring 0.1.0\n"),
     (
         "amring run --cache 0",
@@ -65,6 +78,10 @@ const TEXTS: [(&str, &str); 6] = [
     (
         "amring serve --port 1 --start 0",
         "--start takes a number from 1 to 4294967295",
+    ),
+    (
+        "amring serve --port 1 --address ::1",
+        "--address takes an IPv4 address, as 127.0.0.1",
     ),
     (
         "amring serve",
@@ -102,6 +119,16 @@ const STARTS: [(&str, u32, bool, &str); 4] = [
         "data",
     ),
     ("amring serve --port 1 --store a/b", 1, false, "a/b"),
+];
+
+// Command lines of `serve`, and the address to listen on.
+const ADDRESSES: [(&str, [u8; 4]); 3] = [
+    ("amring serve --port 1", [127, 0, 0, 1]),
+    ("amring serve --port 1 --address 0.0.0.0", [0, 0, 0, 0]),
+    (
+        "amring serve --address=10.200.3.255 --port 1",
+        [10, 200, 3, 255],
+    ),
 ];
 
 /// What the words of a line ask for.
@@ -187,6 +214,21 @@ fn has_start(
 fn starts(rt: HostRuntime) -> Result<(), Fail> {
     for (line, start, is_given, folder) in STARTS {
         has_start(rt.alloc(), line, start, is_given, folder)?;
+    }
+    Ok(())
+}
+
+fn has_address(alloc: Global, line: &str, wanted: [u8; 4]) -> Result<(), Fail> {
+    let CommandLine::Serve(serving) = asked(alloc, line)? else {
+        return Err(Fail::new(line));
+    };
+    holds(serving.address.octets() == wanted, line)
+}
+
+#[test]
+fn addresses(rt: HostRuntime) -> Result<(), Fail> {
+    for (line, wanted) in ADDRESSES {
+        has_address(rt.alloc(), line, wanted)?;
     }
     Ok(())
 }

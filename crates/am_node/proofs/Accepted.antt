@@ -18,7 +18,7 @@ use Rattle.am_labels.specs.Labels.{labels_cmp}
 use Rattle.am_match.specs.Matchers.{patterns_of}
 use Rattle.am_muting.specs.Failing.{HasUnanswered}
 use Rattle.am_muting.specs.Muting.{alert_sets}
-use Rattle.am_planning.specs.Planning.{planned_alerts}
+use Rattle.am_notifier.specs.Planned.{planned_alerts}
 use Rattle.am_members.specs.declared.known.Known.{Known}
 use Rattle.am_route.specs.Asked.{route_matchers}
 use Rattle.am_notifier.specs.Following.{IsPlannedBy, all_came, follows, is_known, paces_at, positioned as positioned_there, sinces_in}

@@ -26,7 +26,7 @@ use Rattle.am_current.specs.Current.{configuration_in}
 use Rattle.am_muting.specs.Muting.{alert_sets}
 use Rattle.am_notifier.specs.Following.{all_came, sinces_in}
 use Rattle.am_notifier.proofs.ByRoutes.{sinces_planned}
-use Rattle.am_planning.specs.Planning.{default_paces, planned_alerts}
+use Rattle.am_notifier.specs.Planned.{default_paces, planned_alerts}
 use Rattle.am_node.specs.Accepting.{StopsAccepting, accepted}
 use Rattle.am_node.specs.Held.{Makes, local_of}
 use Rattle.am_node.specs.Local.{Local, blank}

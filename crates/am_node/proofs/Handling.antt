@@ -1,7 +1,7 @@
 -- What is done for one timer.
 use Rattle.std.proofs.Common.{◌≡◌, ◌∙◌, ℕ, Bool, true, false, List, Option, Some, None, refl, sym, inl, inr}
 use Rattle.std.proofs.Common.{if◌then◌else◌}
-use Rattle.am_agenda.specs.Plan.{flush_due, group_in}
+use Rattle.am_notifier.specs.Planned.{flush_due, group_in}
 use Rattle.am_labels.specs.declared.Label.{Label}
 use Rattle.am_outlet.specs.Attempts.{is_due}
 use Rattle.am_tenant.specs.Names.{same}

@@ -1,7 +1,7 @@
 -- A flush is what the notifier makes of it, and then what comes next of it is done: the order of the two doesn't matter,
 -- since recording touches what is held and counted alone, and notifying what is planned and noticed alone.
 use Rattle.std.proofs.Common.{◌≡◌, ℕ, Bool, true, false, ◌&&◌, List, [], ◌∷◌, ◌++◌, refl, sym, ap, ◌∙◌}
-use Rattle.am_agenda.specs.Plan.{flush_due, group_in}
+use Rattle.am_notifier.specs.Planned.{Keep, Notify, Telling, flush_due, group_in, tellings}
 use Rattle.am_context.proofs.Changes.{other, own}
 use Rattle.am_context.specs.Stopping.{StopsPast}
 use Rattle.am_context.specs.declared.context.Context.{Context}
@@ -22,9 +22,6 @@ use Rattle.am_notifier.specs.declared.next.Next.{Next}
 use Rattle.am_notifier.specs.declared.next.Next.TheVariants.{Record}
 use Rattle.am_outlet.specs.Attempts.{is_due}
 use Rattle.am_outlet.specs.declared.attempt.Notice.{Notice}
-use Rattle.am_telling.specs.Tellings.{tellings}
-use Rattle.am_telling.specs.declared.telling.Telling.{Telling}
-use Rattle.am_telling.specs.declared.telling.Telling.TheVariants.{Notify, Keep}
 use Rattle.am_tenant.specs.Names.{same}
 use Rattle.am_timer.specs.declared.key.FlushKey.{FlushKey}
 use Rattle.am_timer.specs.declared.key.TimerKey.TheVariants.{Group}

@@ -21,7 +21,8 @@ use Rattle.am_item.proofs.Joined.{at-joined, rising-joined, with_item}
 use Rattle.am_item.proofs.Keys.{key_same}
 use Rattle.am_item.proofs.Removed.{lacks_key}
 use Rattle.am_item.proofs.Rising.{rising_same}
-use Rattle.am_agenda.specs.Plan.{flush_due, group_in}
+use Rattle.am_notifier.specs.Planned.{Keep, Notify, Telling, default_paces, flush_due, group_in, planned}
+use Rattle.am_notifier.specs.Planned.{planned_alerts, tellings, webhook_keys}
 use Rattle.am_book.specs.Retired.{is_key_retired}
 use Rattle.am_book.proofs.Dropping.{at-lacking, rising-filter}
 use Rattle.am_config.specs.Configuration.{Configuration as Configured}
@@ -36,10 +37,6 @@ use Rattle.am_outlet.specs.Attempts.{Desk, added, after_outcome, after_tick, cle
 use Rattle.am_outlet.specs.declared.attempt.Notice.{Notice}
 use Rattle.am_outlet.specs.declared.outcome.Outcome.{Outcome}
 use Rattle.am_outlet.specs.declared.outcome.Outcome.TheVariants.{NotOpen, Delivered, Again, GivenUp}
-use Rattle.am_planning.specs.Planning.{default_paces, planned, planned_alerts}
-use Rattle.am_telling.specs.Tellings.{tellings, webhook_keys}
-use Rattle.am_telling.specs.declared.telling.Telling.{Telling}
-use Rattle.am_telling.specs.declared.telling.Telling.TheVariants.{Notify, Keep}
 use Rattle.am_timer.specs.Timer.{Key}
 use Rattle.am_timer.specs.declared.key.TimerKey.TheVariants.{Operation, Group, Retry, Push}
 use Rattle.am_context.specs.declared.context.Context.{Context}

@@ -1,7 +1,7 @@
 -- What is retired goes from all rooms.
 use Rattle.std.proofs.Common.{◌≡◌, ℕ, not, List, ap}
 use Rattle.std.proofs.lemmas.List.Elements.{filter_agree}
-use Rattle.am_agenda.specs.Plan.{with_alerts, with_living}
+use Rattle.am_notifier.specs.Planned.{with_alerts, with_living}
 use Rattle.am_book.specs.Retired.{is_key_retired}
 use Rattle.am_context.specs.Gone.{is_gone}
 use Rattle.am_item.specs.Key.{AlertKey, Key}

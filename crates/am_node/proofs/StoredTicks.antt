@@ -6,7 +6,7 @@ use Rattle.am_item.specs.declared.entry.EntryKey.{EntryKey}
 use Rattle.am_item.specs.declared.item.Item.{Item}
 use Rattle.am_item.specs.Best.{IsRising}
 use Rattle.am_item.proofs.Joined.{rising-joined}
-use Rattle.am_agenda.specs.Plan.{flush_due, group_in}
+use Rattle.am_notifier.specs.Planned.{Keep, Notify, Telling, flush_due, group_in, tellings}
 use Rattle.am_current.specs.Current.{configuration_in}
 use Rattle.am_limit.specs.Allowances.{asked}
 use Rattle.am_limit.specs.Limits.{has_room, with_limit}
@@ -15,9 +15,6 @@ use Rattle.am_outlet.specs.Attempts.{is_due, outcome_of, after_outcome}
 use Rattle.am_outlet.specs.declared.attempt.Notice.{Notice}
 use Rattle.am_outlet.specs.declared.outcome.Outcome.{Outcome}
 use Rattle.am_outlet.specs.declared.outcome.Outcome.TheVariants.{NotOpen, Delivered, Again, GivenUp}
-use Rattle.am_telling.specs.Tellings.{tellings}
-use Rattle.am_telling.specs.declared.telling.Telling.{Telling}
-use Rattle.am_telling.specs.declared.telling.Telling.TheVariants.{Notify, Keep}
 use Rattle.am_timer.specs.Timer.{Key}
 use Rattle.am_timer.specs.declared.key.TimerKey.TheVariants.{Operation, Group, Retry, Push}
 use Rattle.am_rows.specs.Rows.{stored_in}

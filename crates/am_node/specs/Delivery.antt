@@ -14,9 +14,7 @@ use Rattle.am_outlet.specs.declared.attempt.Notice.{Notice}
 use Rattle.am_outlet.specs.declared.attempt.Sending.{Sending}
 use Rattle.am_outlet.specs.declared.outcome.Outcome.{Outcome}
 use Rattle.am_outlet.specs.declared.outcome.Outcome.TheVariants.{NotOpen, Delivered, Again, GivenUp}
-use Rattle.am_agenda.specs.Plan.{with_desk}
-use Rattle.am_telling.specs.declared.telling.Telling.{Telling}
-use Rattle.am_telling.specs.declared.telling.Telling.TheVariants.{Notify, Keep}
+use Rattle.am_notifier.specs.Planned.{Keep, Notify, Telling, with_desk}
 use Rattle.am_context.specs.declared.context.Context.{Context}
 use Rattle.am_context.specs.declared.receipt.Receipt.{Receipt}
 use Rattle.am_notifier.specs.declared.next.Next.{Next}

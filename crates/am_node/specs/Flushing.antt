@@ -1,13 +1,12 @@
 -- The flush of a group: what its members that nothing mutes give to tell each webhook of its receiver.
 use Rattle.std.specs.Prelude.{List}
-use Rattle.am_agenda.specs.Plan.{with_desk, with_flush}
+use Rattle.am_notifier.specs.Planned.{tellings, webhook_keys, with_desk, with_flush}
 use Rattle.am_current.specs.Current.{configuration_in}
 use Rattle.am_item.specs.declared.item.Alert.{Alert}
 use Rattle.am_item.specs.declared.stamp.Stamped.{Stamped}
 use Rattle.am_labels.specs.declared.Label.{Label}
 use Rattle.am_members.specs.declared.group.Group.{Group as Name}
 use Rattle.am_members.specs.Grouped.{members}
-use Rattle.am_telling.specs.Tellings.{tellings, webhook_keys}
 use Rattle.am_context.specs.declared.context.Context.{Context}
 use Rattle.am_node.specs.Delivery.{told}
 use Rattle.am_node.specs.Local.{Local, Reaction, each}

@@ -16,5 +16,9 @@ pub mod Ticking
 pub mod Ticks
 -- what it has of all tenants
 pub mod Held
+-- what it begins with
+pub mod Holding
 -- what a store keeps
 pub mod Storing
+-- the notifier of a node
+pub mod Notices

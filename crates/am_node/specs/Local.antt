@@ -3,8 +3,7 @@ use Rattle.std.specs.Prelude.{ℕ, Bool, true, ◌&&◌, List, [], ◌∷◌, �
 use Rattle.am_item.specs.declared.item.Item.{Item}
 use Rattle.am_limit.specs.Limits.{Count, fresh}
 use Rattle.am_outlet.specs.declared.attempt.Sending.{Sending}
-use Rattle.am_planning.specs.Planning.{default_paces}
-use Rattle.am_agenda.specs.Plan.{Plan, dropped as dropped_plan, no_plan}
+use Rattle.am_notifier.specs.Planned.{Plan, default_paces, dropped as dropped_plan, no_plan}
 use Rattle.am_node.specs.declared.report.Report.{Report}
 use Rattle.am_node.specs.declared.report.Report.TheVariants.{Try, Record}
 

@@ -4,7 +4,7 @@ use Rattle.std.specs.Map.{keys_of}
 use Rattle.am_current.specs.Current.{configuration_in}
 use Rattle.am_item.specs.Best.{IsRising}
 use Rattle.am_muting.specs.Muting.{alert_sets}
-use Rattle.am_planning.specs.Planning.{planned_alerts}
+use Rattle.am_notifier.specs.Planned.{planned_alerts}
 use Rattle.am_node.specs.Local.{Local}
 use Rattle.am_notifier.specs.Following.{paces_at, sinces_in}
 

@@ -1,13 +1,13 @@
 -- What an instance has of a tenant once what is retired at a moment is gone.
 use Rattle.std.specs.Prelude.{ℕ, List, filter, not}
-use Rattle.am_agenda.specs.Plan.{with_alerts, with_living}
+use Rattle.am_notifier.specs.Planned.{with_alerts, with_living}
 use Rattle.am_book.specs.Retired.{is_key_retired}
 use Rattle.am_item.specs.Key.{AlertKey}
 use Rattle.am_item.specs.declared.item.Item.{Item}
 use Rattle.am_labels.specs.declared.Label.{Label}
 use Rattle.am_members.specs.declared.known.Known.{Known}
 use Rattle.am_node.specs.Local.{Local}
-use Rattle.am_replica.specs.Retiring.{items_left}
+pub use Rattle.am_replica.specs.Retiring.{items_left}
 
 -- of these alerts those that aren't retired
 abbrev pub alerts_left : ℕ → List Item → List (List Label × Known) → List (List Label × Known)

@@ -1,6 +1,6 @@
 -- What an instance does at a tick.
 use Rattle.std.specs.Prelude.{ℕ, Bool, true, false, List, map}
-use Rattle.am_agenda.specs.Plan.{Plan, flush_due, group_in, timers_in}
+use Rattle.am_notifier.specs.Planned.{Plan, flush_due, group_in, timers_in}
 use Rattle.am_current.specs.Current.{configuration_in}
 use Rattle.am_labels.specs.declared.Label.{Label}
 use Rattle.am_muting.specs.Muting.{muted_sets}

@@ -2,7 +2,7 @@
 use Rattle.std.specs.Prelude.{◌≡◌, ℕ, Bool, true, false, ◌&&◌, List, [], filter, map, IfSome, is_some, unwrap_or}
 use Rattle.std.specs.List.{list_any}
 use Rattle.std.specs.Map.{lookup}
-use Rattle.am_agenda.specs.Plan.{Plan}
+use Rattle.am_notifier.specs.Planned.{Plan}
 use Rattle.am_book.specs.Retired.{is_key_retired}
 use Rattle.am_current.specs.Current.{configuration_in}
 use Rattle.am_item.specs.declared.fault.Fault.{Fault}

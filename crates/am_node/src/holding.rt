@@ -1,6 +1,6 @@
 //! What an instance begins with: the rows that its store kept.
 
-ghost use Rattle.std.specs.Prelude.{◌≡◌, ℕ, List, IfErr, OnOk, true, if◌then◌else◌};
+ghost use Rattle.std.specs.Prelude.{◌≡◌, ℕ, List, IfErr, IfOk, OnOk, true, if◌then◌else◌};
 ghost use Rattle.std.specs.Cmp.Lexicographic.{slice_cmp};
 ghost use Rattle.std.specs.List.{list_any};
 ghost use Rattle.std.specs.List.Sorted.{IsStrictlySortedBy};
@@ -11,8 +11,8 @@ ghost use Rattle.am_rows.specs.Rows.{Keeps, rows_of, stored_in};
 ghost use Rattle.am_tenant.specs.Names.{same};
 ghost use Rattle.am_node.specs.Accepting.{accepted};
 ghost use Rattle.am_node.specs.Held.{Makes, local_of};
+ghost use Rattle.am_node.specs.Holding.{BeginsWith};
 ghost use Rattle.am_node.specs.Local.{blank};
-ghost use Rattle.am_node.specs.Plans.{HoldsNoAlert, IsPlanned};
 
 use crate::parts::Parts;
 use am_item::{Fault, SharedItem};
@@ -23,7 +23,8 @@ use am_text::{Failure, Moment};
 use std::alloc::Global;
 
 impl Parts {
-    /// Accepts at a moment what a store that is open has of all tenants, where nothing is had of any.
+    /// Accepts at a moment what a store that is open has of all tenants, where nothing is had of any. Gives the tenants
+    /// of whom it has something then.
     ///
     /// # Errors
     /// `F2` of the store, or out of memory.
@@ -33,13 +34,12 @@ impl Parts {
         moment: Moment,
         cache: &mut PatternCache,
         store: &mut R,
-    ) -> Result<(), Failure<StoreRefusal>>
+    ) -> Result<Vec<TenantName>, Failure<StoreRefusal>>
         requires blank { (t : List ℕ) → local_of t self.old ≡ blank }
         requires open { R.is_open store.old ≡ true }
         ensures clean { R.is_clean store.new ≡ true → R.is_clean store.old ≡ true }
         ensures open { OnOk result (R.is_open store.new ≡ true) }
-        ensures planned { OnOk result ((t : List ℕ) → IsPlanned (local_of t self.new)
-            × HoldsNoAlert (local_of t self.new)) }
+        ensures planned { IfOk result (λ names. BeginsWith names.items self.new) }
         ensures asked { Asked result cache.old cache.new }
         ensures keeps { R.is_clean store.new ≡ true → OnOk result (Keeps (R.pairs store.old) (R.pairs store.new)) }
         ensures held { R.is_clean store.new ≡ true → OnOk result ((t : List ℕ) →
@@ -49,7 +49,8 @@ impl Parts {
         ensures wears { R.is_clean store.new ≡ true → Wears (R.medium store.old) (R.medium store.new) }
     {
         let names = store.tenants(alloc)?;
-        self.hold_each(alloc, &names, moment, cache, store)
+        self.hold_each(alloc, &names, moment, cache, store)?;
+        Ok(names)
     }
 
     // Accepts what a store has of these tenants.
@@ -66,8 +67,7 @@ impl Parts {
         requires order { IsStrictlySortedBy (slice_cmp nat_cmp) names.now }
         ensures clean { R.is_clean store.new ≡ true → R.is_clean store.old ≡ true }
         ensures open { OnOk result (R.is_open store.new ≡ true) }
-        ensures planned { OnOk result ((t : List ℕ) → IsPlanned (local_of t self.new)
-            × HoldsNoAlert (local_of t self.new)) }
+        ensures planned { OnOk result (BeginsWith names.now self.new) }
         ensures asked { Asked result cache.old cache.new }
         ensures keeps { R.is_clean store.new ≡ true → OnOk result (Keeps (R.pairs store.old) (R.pairs store.new)) }
         ensures held { R.is_clean store.new ≡ true → OnOk result ((t : List ℕ) → local_of t self.new ≡

@@ -5,7 +5,7 @@ ghost use Rattle.std.specs.Prelude.{option_map, if◌then◌else◌};
 ghost use Rattle.std.specs.Borrow.{sem};
 ghost use Rattle.std.specs.Io.BufRead.{Rests};
 ghost use Rattle.std.specs.List.Sorted.{IsStrictlySortedBy};
-ghost use Rattle.am_agenda.specs.Plan.{timers_in};
+ghost use Rattle.am_notifier.specs.Planned.{timers_in};
 ghost use Rattle.am_alert.specs.Made.{greatest_count};
 ghost use Rattle.am_current.specs.Current.{configuration_in};
 ghost use Rattle.am_item.specs.Best.{IsRising};
@@ -23,8 +23,9 @@ ghost use Rattle.am_timer.specs.Timer.{timer_cmp};
 ghost use Rattle.am_node.specs.Accepting.{StopsCommitting, StopsPositioning, accepted, accepted_for, counted, positioned};
 ghost use Rattle.am_node.specs.Delivery.{is_awaited, outcome, records};
 ghost use Rattle.am_node.specs.Held.{Does, Makes, StopsFor, local_of};
+ghost use Rattle.am_node.specs.Holding.{BeginsWith};
 ghost use Rattle.am_node.specs.Local.{blank, dropped, said_in};
-ghost use Rattle.am_node.specs.Plans.{HoldsNoAlert, IsPlanned};
+ghost use Rattle.am_node.specs.Plans.{IsPlanned};
 ghost use Rattle.am_node.specs.Ticking.{handled};
 ghost use Rattle.am_node.specs.Ticks.{StopsMuting, StopsTicking, TicksAll, context_for, has_flush};
 ghost use Rattle.am_node.specs.Ticks.{muted_at, muted_for, some_flush};
@@ -170,11 +171,12 @@ impl Node {
             → IfErr result (IsJudged (R.is_foreign store.old) (MayRefuse (R.medium store.old) (R.medium store.new))) }
     {
         store.open(alloc)?;
-        self.hold_open(alloc, moment, cache, store)
+        self.hold_open(alloc, moment, cache, store)?;
+        Ok(())
     }
 
     /// Accepts at a moment what a store that is open has of all tenants, where nothing is had of any. No alert is held
-    /// then, whatever the disk returned: none is a row.
+    /// then, whatever the disk returned: none is a row. Gives the tenants of whom it has something then.
     ///
     /// # Errors
     /// `F2` where a call of the database was refused, or out of memory. No row is lost, and nothing is had of any
@@ -185,7 +187,7 @@ impl Node {
         moment: Moment,
         cache: &mut PatternCache,
         store: &mut R,
-    ) -> Result<(), Failure<StoreRefusal>>
+    ) -> Result<Vec<TenantName>, Failure<StoreRefusal>>
         requires blank { (t : List ℕ) → local_of t self.old ≡ blank }
         requires open { R.is_open store.old ≡ true }
         ensures asked { Asked result cache.old cache.new }
@@ -193,7 +195,7 @@ impl Node {
         ensures open { OnOk result (R.is_open store.new ≡ true) }
         ensures held { R.is_clean store.new ≡ true → OnOk result ((t : List ℕ) →
             local_of t self.new ≡ accepted moment (rows_of t (R.pairs store.old)) blank) }
-        ensures alerts { OnOk result ((t : List ℕ) → HoldsNoAlert (local_of t self.new)) }
+        ensures begins { IfOk result (λ names. BeginsWith names.items self.new) }
         ensures stores { R.is_clean store.new ≡ true
             → OnOk result (AreStillStored self.new (R.pairs store.old) (R.pairs store.new)) }
         ensures fails { R.is_clean store.new ≡ true
@@ -202,7 +204,7 @@ impl Node {
     {
         let parts = &mut self.parts;
         match parts.hold_open(alloc, moment, cache, store) {
-            Ok(()) => Ok(()),
+            Ok(names) => Ok(names),
             Err(failure) => {
                 self.parts.clear(alloc);
                 Err(failure)

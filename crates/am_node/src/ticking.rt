@@ -3,7 +3,7 @@
 ghost use Rattle.std.specs.Prelude.{◌≡◌, ◌++◌, ℕ, List, [], false, true, IfErr, IfOk, OnErr, OnOk, map, if◌then◌else◌};
 ghost use Rattle.std.specs.List.Sorted.{IsStrictlySortedBy};
 ghost use Rattle.am_tenant.specs.Names.{same};
-ghost use Rattle.am_agenda.specs.Plan.{flush_due, timers_in};
+ghost use Rattle.am_notifier.specs.Planned.{flush_due, timers_in};
 ghost use Rattle.am_outlet.specs.Attempts.{is_due};
 ghost use Rattle.am_pattern.specs.Asking.{Asked};
 ghost use Rattle.am_timer.specs.Queue.{due_at, timers_of};

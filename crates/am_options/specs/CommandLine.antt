@@ -3,6 +3,9 @@ use Rattle.std.specs.Prelude.{◌≡◌, ◌≢◌, ◌⊎◌, ℕ, Bool, ◌&&�
 use Rattle.std.specs.Str.{bytes_eq}
 use Rattle.std.specs.List.{slice_split}
 use Rattle.std.specs.Result.{result_ok}
+use Rattle.std.specs.Net.Grammar.{IsIpv4Text}
+use Rattle.std.specs.Net.Reader.{read_ipv4, whole_value}
+use Rattle.std.specs.declared.net.ipv4_addr.Ipv4Addr.{Ipv4Addr}
 use Rattle.am_setup.specs.Setup.{Settings}
 use Rattle.clap.specs.Words.{App, Row, Rule, Text, IsAmong, fault_of, first_of, new_app, new_rule, subcommand_of, with_rule, with_subcommand}
 use Rattle.clap.specs.Kinds.{Kinds}
@@ -42,7 +45,9 @@ app_named name =
     (option_or (codes "ring") (codes "1,2,3"))) (option (codes "start"))) (option (codes "store"))
 
 abbrev pub serve : App
-serve = with_rule (with_rule (app_named (codes "serve")) (option (codes "port"))) (option (codes "count"))
+serve =
+    with_rule (with_rule (with_rule (app_named (codes "serve")) (option_or (codes "address") (codes "127.0.0.1")))
+    (option (codes "port"))) (option (codes "count"))
 
 -- `amring run` and `amring serve`
 abbrev pub command_line : App
@@ -132,17 +137,35 @@ running_in rows = do
 abbrev pub has_start : List Row → Bool
 has_start rows = is_some (first_of (codes "start") rows)
 
--- how the options say to serve: by these settings, whose first incarnation is given or not, over these stores, on a port,
--- so many connections
+-- the text spells this IPv4 address, or none where there is none: four decimal numbers below 256, none with a zero in
+-- front, and dots between them
+abbrev pub Spells : Text → Option Ipv4Addr → Type 0
+Spells text (Some address) = IsIpv4Text text address
+Spells text None = (address : Ipv4Addr) → ¬ (IsIpv4Text text address)
+
+-- the address that a text spells, as the standard library reads it
+abbrev pub address_of : Text → Option Ipv4Addr
+address_of text = option_map (λ octets. record { octets = octets }) (whole_value (read_ipv4 text))
+
+-- .. that the options say to listen on
+abbrev pub address_in : List Row → Option Ipv4Addr
+address_in rows = do
+  text ← first_of (codes "address") rows
+  address_of text
+
+-- how the options say to serve: by these settings, whose first incarnation is given or not, over these stores, at an
+-- address and a port, so many connections
 abbrev pub serving_in : List Row → Option Serving
 serving_in rows = do
   setup ← settings_in rows
+  address ← address_in rows
   port ← number_in (codes "port") 1 65535 rows
   count ← given_in (codes "count") (2 ^ 64 - 1) rows
   Some (record {
     setup = setup;
     has_start = has_start rows;
     store = store_in rows;
+    address = address;
     port = port;
     count = count;
   })

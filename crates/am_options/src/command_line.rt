@@ -3,7 +3,7 @@ ghost use Rattle.std.specs.Prelude.{◌≡◌, IfOk, MatchResult, None, Some, co
 ghost use Rattle.clap.specs.Words.{app_of, found_of, has_subcommand, kind_of, rows_of, rule_of};
 ghost use Rattle.clap.specs.Simple.{subcommand_rows_of};
 ghost use Rattle.clap.specs.declared.builder.command.Command.TheViews.{out-Command as fields_of};
-ghost use Rattle.am_options.specs.CommandLine.{Asks, Tells, app_named, asked_by, asked_of, command_line, given_in, has_start, instances_in, instances_of, key_in, number_in, number_within, option, option_or, running_in, serve, serving_in, settings_in, store_in};
+ghost use Rattle.am_options.specs.CommandLine.{Asks, Spells, Tells, address_in, address_of, app_named, asked_by, asked_of, command_line, given_in, has_start, instances_in, instances_of, key_in, number_in, number_within, option, option_or, running_in, serve, serving_in, settings_in, store_in};
 
 use am_scenario::number;
 use am_setup::Setup;
@@ -14,6 +14,7 @@ use hex::FromHex;
 use std::alloc::{AllocError, Global};
 use std::convert::AsStr;
 use std::fmt;
+use std::net::Ipv4Addr;
 
 /// What `--version` prints.
 const VERSION: &str = "0.1.0";
@@ -27,6 +28,8 @@ const RING_HELP: &str = "The instances of the ring, 3 to 8 different numbers of 
 const START_HELP: &str = "The first incarnation, 1 to 4294967295, greater than any before";
 
 const STORE_HELP: &str = "The folder of the stores 1.db to 8.db; in memory without it";
+
+const ADDRESS_HELP: &str = "The IPv4 address to listen on";
 
 const PORT_HELP: &str = "The port to listen on, 1 to 65535";
 
@@ -64,6 +67,8 @@ pub struct Serving {
     pub has_start: bool,
     /// The folder of the instances' stores; they are in memory where none is given.
     pub store: Option<Text>,
+    /// The address that it listens on.
+    pub address: Ipv4Addr,
     /// The port that it listens on, at least 1.
     pub port: u16,
     /// How many connections are answered, at least 1; any number where none is given.
@@ -90,6 +95,7 @@ enum BadOption {
     Key,
     Ring,
     Start,
+    Address,
     Port,
     Count,
 }
@@ -104,6 +110,7 @@ impl fmt::Display for BadOption {
                 "--ring takes 3 to 8 different numbers of 1 to 8, with commas between"
             ),
             BadOption::Start => write!(f, "--start takes a number from 1 to {MOST_START}"),
+            BadOption::Address => write!(f, "--address takes an IPv4 address, as 127.0.0.1"),
             BadOption::Port => write!(f, "serve needs --port, a number from 1 to 65535"),
             BadOption::Count => write!(f, "--count takes a number from 1 on"),
         }
@@ -143,6 +150,7 @@ fn serve_form<'a>(alloc: Global) -> Result<Command<'a>, AllocError>
     ensures local { IfOk result (λ form. (fields_of form).has_globals ≡ false) }
 {
     form_of(alloc, "serve", "Serves connections over HTTP")?
+        .arg(option_or(alloc, "address", "A", "127.0.0.1", ADDRESS_HELP))?
         .arg(option(alloc, "port", "P", PORT_HELP))?
         .arg(option(alloc, "count", "N", COUNT_HELP))
 }
@@ -272,12 +280,14 @@ fn serving_in(
         (λ _. serving_in (rows_of (found_of serve.now)) ≡ None) }
 {
     let setup = settings_in(serve, instances)?;
+    let address = address_in(serve).ok_or(BadOption::Address)?;
     let port = number_in(serve, "port", 1, MOST_PORT).ok_or(BadOption::Port)?;
     let count = given_in(serve, "count", u64::MAX).ok_or(BadOption::Count)?;
     Ok(Serving {
         setup,
         has_start: has_start(serve),
         store,
+        address,
         port: port as u16,
         count,
     })
@@ -291,6 +301,21 @@ fn has_start(serve: &ArgMatches<'_>) -> bool
         Some(_) => true,
         None => false,
     }
+}
+
+/// The address that the options say to listen on.
+fn address_in(serve: &ArgMatches<'_>) -> Option<Ipv4Addr>
+    ensures { result ≡ address_in (rows_of (found_of serve.now)) }
+{
+    address_of(serve.get_str("address")?)
+}
+
+/// The IPv4 address that a text spells.
+fn address_of(text: &str) -> Option<Ipv4Addr>
+    ensures value { result ≡ address_of text.now }
+    ensures spelled { Spells text.now result }
+{
+    text.parse().ok()
 }
 
 /// The settings that the options of a subcommand say, with these instances named for the ring.

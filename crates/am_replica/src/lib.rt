@@ -8,4 +8,4 @@ mod retiring;
 mod storing;
 
 pub use replica::Replica;
-pub use storing::commit;
+pub use storing::{commit, fault_of};

@@ -95,8 +95,8 @@ pub(crate) fn drop_rows<R: Rows>(
     }
 }
 
-// What a refused call of the store stops the instance for.
-fn fault_of(failure: Failure<StoreRefusal>) -> Fault
+/// What a failed call of the store stops the instance for.
+pub fn fault_of(failure: Failure<StoreRefusal>) -> Fault
     ensures { result ≡ fault_for failure }
 {
     match failure {

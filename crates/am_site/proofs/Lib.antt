@@ -8,11 +8,17 @@ pub mod Brought
 pub mod Came
 pub mod CarriedOut
 pub mod Carrying
+pub mod Changed
 pub mod Decided
 pub mod Delivered
 pub mod DueTimers
+pub mod Entered
+pub mod Forced
 pub mod Handled
+pub mod Holding
 pub mod InOrder
+pub mod Learned
+pub mod Leaving
 pub mod Lengths
 pub mod Listed
 pub mod Merged
@@ -25,6 +31,7 @@ pub mod Positions
 pub mod Put
 pub mod Quiet
 pub mod Reacting
+pub mod Restarted
 pub mod Retired
 pub mod SentAgain
 pub mod Settled

@@ -14,8 +14,8 @@ use Rattle.am_labels.specs.Hashes.{place}
 use Rattle.am_muting.specs.Muting.{alert_sets}
 use Rattle.am_node.specs.Accepting.{accepted as accepted_in_node}
 use Rattle.am_node.specs.Held.{local_of as local_in_node}
+use Rattle.am_node.specs.Holding.{BeginsWith as BeginsWithInNode}
 use Rattle.am_node.specs.Local.{blank as blank_in_node}
-use Rattle.am_node.specs.Plans.{HoldsNoAlert}
 use Rattle.am_node.specs.declared.parts.Parts.{Parts}
 use Rattle.am_notifier.specs.Following.{all_came, sinces_in}
 use Rattle.am_notifier.proofs.ByRoutes.{sinces_planned}
@@ -29,7 +29,7 @@ use Rattle.am_tenant.proofs.Same.{eq_from_same}
 use Rattle.am_transfer.specs.Settling.{Settling}
 use Rattle.am_transfer.specs.Tenants.{settling_of}
 use Rattle.am_site.specs.Locals.{from_rooms, local_of}
-use Rattle.am_site.specs.Opening.{AreOpened, HoldsNoAlerts, KeepsOwn, KeepsOwnAmong, own_rows}
+use Rattle.am_site.specs.Opening.{AreOpened, BeginsWith, KeepsOwn, KeepsOwnAmong, own_rows}
 use Rattle.am_site.specs.declared.site.Site.{Site}
 use Rattle.am_site.proofs.Carrying.{with_node}
 
@@ -203,7 +203,14 @@ module _ (ring : List ℕ) (i moment : ℕ) (old : Site) (node : Parts) (none : 
       ∙ ap (λ b. if b then accepted moment rows blank else blank) (sym (ap₂ (λ j others. is_among j others) instance_is three_is ∙ among_replicas t ring i))
       ∙ ap (λ m. if is_among here.instance here.three then accepted m rows blank else blank) (sym moment_is)
 
--- its node holds no alert
-pub none_held : (old : Site) (node : Parts) → ((t : List ℕ) → HoldsNoAlert (local_in_node t node)) → HoldsNoAlerts (with_node old node)
+-- its node holds no alert, and nothing of any tenant but these
+pub begins : (old : Site) (names : List (List ℕ)) (node : Parts) → ((t : List ℕ) → local_of t old ≡ blank) → BeginsWithInNode names node
+    → BeginsWith names (with_node old node)
 unfolding local_of
-none_held old node none = record { sinces = λ t. (none t).sinces; positions = λ t. (none t).position }
+begins old names node none held = record {
+  sinces = λ t. (held.alertless t).sinces;
+  positions = λ t. (held.alertless t).position;
+  others = λ t apart.
+      ap (λ here. from_rooms here (docket_of t old.operations) (count_of t old.sent) (settling_of t old.settling.progress)) (held.others t apart)
+      ∙ nothing_beside t old (none t);
+}

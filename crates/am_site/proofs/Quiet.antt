@@ -1,18 +1,20 @@
 -- What leaves the moments since which alerts are held, who is settled, and whether it asked; what was in order stays so then.
-use Rattle.std.proofs.Common.{◌≡◌, ℕ, ◌+◌, ◌<◌, ◌==◌, ◌||◌, Bool, true, false, List, [], ◌∷◌, length, Option, Some, None, is_some, option_map, unwrap_or, ap, refl, sym, subst, ◌∙◌, if◌then◌else◌}
+use Rattle.std.proofs.Common.{◌≡◌, ℕ, ◌+◌, ◌<◌, ◌==◌, ◌&&◌, ◌||◌, Bool, true, false, List, [], ◌∷◌, length, Option, Some, None, is_some, option_map, unwrap_or, ap, refl, sym, subst, ◌∙◌, if◌then◌else◌}
+use Rattle.std.specs.Prelude.{codes}
 use Rattle.am_api.specs.Replied.{Decision}
 use Rattle.am_cluster.specs.Arriving.{answer_get}
 use Rattle.am_cluster.specs.Delivery.{concluded, entry_of, outcome, recorded, told}
 use Rattle.am_cluster.specs.Flushing.{begun, flushed}
-use Rattle.am_cluster.specs.Here.{Here, others, position_here}
-use Rattle.am_cluster.specs.Local.{Local, is_settled}
+use Rattle.am_cluster.specs.Here.{Here, is_replica_here, others, peer_now, position_here}
+use Rattle.am_cluster.specs.Local.{Local, holds_any, is_settled}
 use Rattle.am_cluster.specs.Messages.{Answer, Body, Get, Put}
-use Rattle.am_cluster.specs.Operating.{Decide, ack_by, acked, answer_by, answered, begin, carry_out, finish, first_ack, first_answer, list_for, operation_for, reply_for, stamp, start, timed_out, wait_with}
+use Rattle.am_cluster.specs.Operating.{Decide, ack_by, acked, answer_by, answered, begin, carry_out, finish, first_ack, first_answer, list_for, operation_for, replicas_changed, reply_for, stamp, start, timed_out, unavailable, wait_with}
 use Rattle.am_cluster.specs.Operations.{Answered, Decided, Operation, Stage, Undecided, operation_at, operation_of}
 use Rattle.am_cluster.specs.Plans.{by_replica, replica_local}
 use Rattle.am_cluster.specs.Reactions.{Reaction, each, stays, where_some, ◌>>◌}
+use Rattle.am_cluster.specs.RingChanges.{end_push, other_restarted, push_if_settled}
 use Rattle.am_cluster.specs.Sending.{send, send_all, send_in}
-use Rattle.am_cluster.specs.Transfers.{answer_ask, push, send_piece, send_state, take_got}
+use Rattle.am_cluster.specs.Transfers.{answer_ask, begin_push, push, send_piece, send_state, take_got}
 use Rattle.am_context.proofs.Changes.{own}
 use Rattle.am_current.specs.Current.{configuration_in}
 use Rattle.am_http.specs.Replies.{reply}
@@ -30,6 +32,7 @@ use Rattle.am_outlet.specs.declared.outcome.Outcome.TheVariants.{NotOpen, Delive
 use Rattle.am_telling.specs.Tellings.{tellings}
 use Rattle.am_telling.specs.declared.telling.Telling.{Telling}
 use Rattle.am_telling.specs.declared.telling.Telling.TheVariants.{Notify, Keep}
+use Rattle.am_ring.specs.Instances.{is_among}
 use Rattle.am_transfer.specs.Peers.{Peer, at_peer}
 use Rattle.am_transfer.specs.Pieces.{Piece, SentList, named_at, pieces_to_send}
 use Rattle.am_transfer.specs.Settling.{ended_by, list_for as sent_list_for, with_list, with_push, without_push}
@@ -51,7 +54,7 @@ IsQuiet react = (l : Local) → IsLike l (react l).local
 like_both : (a b c : Local) → IsLike a b → IsLike b c → IsLike a c
 like_both a b c one two = (two.0 ∙ one.0, (two.1.0 ∙ one.1.0, two.1.1 ∙ one.1.1))
 
-like_itself : (l : Local) → IsLike l l
+pub like_itself : (l : Local) → IsLike l l
 like_itself l = (refl, (refl, refl))
 
 -- ---- in order
@@ -81,14 +84,14 @@ quiet_in_order here react old new x y quiet keeps = quiet_in_order_where here re
 
 -- ---- parts
 
-seq_quiet : (f g : Local → Reaction) → IsQuiet f → IsQuiet g → IsQuiet (f >> g)
+pub seq_quiet : (f g : Local → Reaction) → IsQuiet f → IsQuiet g → IsQuiet (f >> g)
 seq_quiet f g one two l = like_both l (f l).local (g (f l).local).local (one l) (two (f l).local)
 
-each_quiet : {A : Type 0} (f : A → Local → Reaction) → ((x : A) → IsQuiet (f x)) → (xs : List A) → IsQuiet (each f xs)
+pub each_quiet : {A : Type 0} (f : A → Local → Reaction) → ((x : A) → IsQuiet (f x)) → (xs : List A) → IsQuiet (each f xs)
 each_quiet f one [] l = like_itself l
 each_quiet f one (x ∷ xs) l = like_both l (f x l).local (each f xs (f x l).local).local (one x l) (each_quiet f one xs (f x l).local)
 
-if_quiet : (b : Bool) (f g : Local → Reaction) → IsQuiet f → IsQuiet g → (l : Local) → IsLike l (if b then f l else g l).local
+pub if_quiet : (b : Bool) (f g : Local → Reaction) → IsQuiet f → IsQuiet g → (l : Local) → IsLike l (if b then f l else g l).local
 if_quiet true f g one two l = one l
 if_quiet false f g one two l = two l
 
@@ -107,7 +110,7 @@ sends_quiet epoch here to body l = (refl, (refl, refl))
 pub all_quiet : (epoch : ℕ) (here : Here) (to : List ℕ) (body : Body) → IsQuiet (send_all epoch here to body)
 all_quiet epoch here to body l = each_quiet (λ i. send_in epoch here i body) (λ i. sends_quiet epoch here i body) to l
 
-finish_quiet : (bytes : List ℕ) (o : Operation) → IsQuiet (finish bytes o)
+pub finish_quiet : (bytes : List ℕ) (o : Operation) → IsQuiet (finish bytes o)
 unfolding finish
 finish_quiet bytes o l = (refl, (refl, refl))
 
@@ -189,6 +192,13 @@ module _ (here : Here) where
   unfolding answer_ask
   answer_ask_quiet asker l = if_quiet (is_settled here l) (send_state here true asker) stays (state_quiet true asker) like_itself l
 
+  pub begins_quiet : (to : ℕ) → IsQuiet (begin_push here to)
+  begins_quiet to = push_quiet (peer_now here to)
+
+  push_if_quiet : (to : ℕ) → IsQuiet (push_if_settled here to)
+  push_if_quiet to l =
+      if_quiet (is_replica_here here && (is_settled here l && holds_any l)) (begin_push here to) stays (begins_quiet to) like_itself l
+
   ended_like : (b : Bool) (receiver : Peer) (list : SentList) (l : Local)
       → IsLike l (record l { settling = if b then without_push receiver.instance (with_list receiver list l.settling) else with_list receiver list l.settling })
   ended_like true receiver list l = (refl, (refl, refl))
@@ -202,6 +212,19 @@ module _ (here : Here) where
   pub take_got_quiet : (receiver : Peer) (place : ℕ) → IsQuiet (take_got here receiver place)
   unfolding take_got
   take_got_quiet receiver place l = named_like receiver place l (at_peer receiver l.settling.lists)
+
+  -- ---- restarts
+
+  changed_quiet : IsQuiet replicas_changed
+  unfolding replicas_changed
+  changed_quiet l = each_quiet (finish (unavailable (codes "Q2"))) (finish_quiet (unavailable (codes "Q2"))) l.operations l
+
+  pub restarted_quiet : (r : ℕ) → IsQuiet (other_restarted here r)
+  unfolding other_restarted
+  restarted_quiet r l =
+      if_quiet (is_among r here.three) (replicas_changed >> (end_push r >> push_if_settled here r)) stays
+      (seq_quiet replicas_changed (end_push r >> push_if_settled here r) changed_quiet
+      (seq_quiet (end_push r) (push_if_settled here r) (λ m. (refl, (refl, refl))) (push_if_quiet r))) like_itself l
 
   -- ---- notices
 

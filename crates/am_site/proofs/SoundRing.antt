@@ -67,11 +67,11 @@ module _ (here : Here) where
 
 -- an instance goes by another ring: it went by the first, and goes by the second
 module _ (was here : Here) where
-  new_epoch_sound : (l : Local) → IsSound was l → IsSound here (with_settling (in_new_epoch l.settling) l)
+  pub new_epoch_sound : (l : Local) → IsSound was l → IsSound here (with_settling (in_new_epoch l.settling) l)
   unfolding IsStrictlySortedBy
   new_epoch_sound l sound = record { numbered = sound.numbered; used = sound.used; pushes = tt; apart = λ unsettled. refl; quiet = λ settled. refl }
 
-  dropped_sound : (l : Local) → IsSound here (dropped l)
+  pub dropped_sound : (l : Local) → IsSound here (dropped l)
   unfolding dropped IsStrictlySortedBy
   dropped_sound l = record { numbered = tt; used = All-nil (λ n. n ≤ l.ledger.operations); pushes = tt; apart = λ unsettled. refl; quiet = λ settled. refl }
 

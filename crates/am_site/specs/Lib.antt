@@ -18,3 +18,5 @@ pub mod InOrder
 pub mod Arriving
 -- what the opening of its store makes of it
 pub mod Opening
+-- what it does by force, and where the ring changes
+pub mod Learning

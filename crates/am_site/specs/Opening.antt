@@ -1,7 +1,8 @@
 -- What the opening of a store makes of an instance of several, and of the store.
-use Rattle.std.specs.Prelude.{◌≡◌, ℕ, List, [], Some, if◌then◌else◌}
+use Rattle.std.specs.Prelude.{◌≡◌, ℕ, false, List, [], Some, if◌then◌else◌}
 use Rattle.std.specs.List.{list_any}
 use Rattle.am_cluster.specs.Here.{Here}
+use Rattle.am_cluster.specs.Local.{blank}
 use Rattle.am_cluster.specs.RingChanges.{opened}
 use Rattle.am_item.specs.declared.item.Item.{Item}
 use Rattle.am_ring.specs.Replicas.{is_replica, replicas}
@@ -17,10 +18,12 @@ AreOpened ring instance moment pairs site =
     (here : Here) → here.instance ≡ instance → here.moment ≡ moment → here.three ≡ replicas here.tenant ring
     → local_of here.tenant site ≡ opened here (rows_of here.tenant pairs)
 
--- no alert is held of any tenant, and the groups of one would wait by the first position
-pub record HoldsNoAlerts (site : Site) : Type 0 where
+-- no alert is held of any tenant, and the groups of one would wait by the first position; and nothing is had of any but
+-- these
+pub record BeginsWith (names : List (List ℕ)) (site : Site) : Type 0 where
   pub sinces : (t : List ℕ) → (local_of t site).sinces ≡ []
   pub positions : (t : List ℕ) → position_in t site ≡ Some 0
+  pub others : (t : List ℕ) → list_any (same t) names ≡ false → local_of t site ≡ blank
 
 -- all but what it holds and has planned is as it was
 pub record KeepsRest (old new : Site) : Type 0 where

@@ -70,7 +70,11 @@ pub record Moves (tenant : List ℕ) (react : Local → Reaction) (old new : Sit
   pub fits : (react (local_of tenant old)).fits ≡ true
   pub keeps : KeepsOthers tenant old new
 
--- .. where nothing is said
+-- .. where nothing is said, whatever had been said
+abbrev pub MovesInSilence : List ℕ → (Local → Reaction) → Site → Site → Type 0
+MovesInSilence tenant react old new = (outbox : List Spoken) → Moves tenant react old new outbox outbox
+
+-- .. where nothing is said, and no group moves and nobody is asked
 pub record Does (tenant : List ℕ) (react : Local → Reaction) (old new : Site) : Type 0 where
   pub local : Makes tenant (λ l. (react l).local) old new
   pub said : (react (local_of tenant old)).said ≡ []

@@ -1,21 +1,24 @@
-//! Operations that are open too long.
+//! Operations that are given up: those that are open too long, and those whose tenant's replicas changed.
 
-ghost use Rattle.std.specs.Prelude.{OnOk};
-ghost use Rattle.am_cluster.specs.Operating.{timed_out};
-ghost use Rattle.am_cluster.specs.Reactions.{where_some};
+ghost use Rattle.std.specs.Prelude.{◌≡◌, ◌++◌, OnOk, map};
+ghost use Rattle.am_cluster.specs.Operating.{replicas_changed, timed_out};
+ghost use Rattle.am_cluster.specs.Reactions.{Replies, where_some};
 ghost use Rattle.am_quorum.specs.Operations.{operation_at};
 ghost use Rattle.am_site.specs.Here.{here_of};
 ghost use Rattle.am_site.specs.InOrder.{IsInOrder};
-ghost use Rattle.am_site.specs.Reacting.{Reacts};
+ghost use Rattle.am_site.specs.Reacting.{Reacts, said_in};
 
 use crate::here::Here;
 use crate::said::Said;
 use crate::site::Site;
-use am_http::{refusal_body, reply_bytes};
+use am_http::{ConnectionId, refusal_body, reply_bytes};
+use am_text::Octets;
 use std::alloc::{AllocError, Global};
 
-// The code that tells why.
+// The codes that tell why.
 const TIMED_OUT: &str = "Q1";
+
+const REPLICAS_CHANGED: &str = "Q2";
 // The status of a reply to a request that can't be carried out now (RFC 9110, section 15.6.4).
 const UNAVAILABLE: u16 = 503;
 
@@ -39,4 +42,42 @@ impl Site {
         let reply = reply_bytes(alloc, UNAVAILABLE, body.as_slice())?;
         self.finish(here, number, reply, outbox)
     }
+
+    // The replicas of the tenant changed: all open operations are over, and their replies say so, in order of number.
+    pub(crate) fn replicas_changed(
+        &mut self,
+        alloc: Global,
+        here: &Here,
+        outbox: &mut Vec<Said>,
+    ) -> Result<(), AllocError>
+        ensures reacts { OnOk result (Reacts here.now.tenant.now replicas_changed
+            self.old self.new outbox.old.items outbox.new.items) }
+        ensures node { self.new.node ≡ self.old.node }
+        ensures settling { self.new.settling ≡ self.old.settling }
+    {
+        let connections = self.operations.changed(alloc, here.tenant)?;
+        let body = refusal_body(alloc, REPLICAS_CHANGED)?;
+        let reply = reply_bytes(alloc, UNAVAILABLE, body.as_slice())?;
+        push_replies(alloc, outbox, connections.as_slice(), &reply)
+    }
+}
+
+// Puts out the same reply on several connections, in their order.
+fn push_replies(
+    alloc: Global,
+    outbox: &mut Vec<Said>,
+    connections: &[ConnectionId],
+    reply: &Octets,
+) -> Result<(), AllocError>
+    ensures { OnOk result (map said_in outbox.new.items
+        ≡ map said_in outbox.old.items ++ map (λ connection. Replies connection reply.now) connections.now) }
+{
+    for connection in connections {
+        let bytes = reply.copy(alloc)?;
+        outbox.push(Said::Reply {
+            connection: *connection,
+            bytes,
+        })?;
+    }
+    Ok(())
 }

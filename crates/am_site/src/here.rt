@@ -57,7 +57,7 @@ impl<'a> Here<'a> {
     }
 
     // Whether the instance is one of the tenant's three replicas.
-    pub(crate) fn is_replica(&self) -> bool
+    pub fn is_replica(&self) -> bool
         ensures { result ≡ is_replica_here (here_of self.now) }
     {
         self.three.iter().any(|replica| self.instance == *replica)

@@ -1,13 +1,13 @@
 //! What an instance begins with: the rows that its store kept of the tenants of which it is a replica.
 
-ghost use Rattle.std.specs.Prelude.{◌≡◌, ℕ, List, IfErr, OnOk, true};
+ghost use Rattle.std.specs.Prelude.{◌≡◌, ℕ, List, IfErr, IfOk, OnOk, true};
 ghost use Rattle.am_cluster.specs.Local.{blank};
 ghost use Rattle.am_node.specs.Storing.{AreStored};
 ghost use Rattle.am_pattern.specs.Asking.{Asked};
 ghost use Rattle.am_rows.specs.Refusing.{IsCaused, IsJudged, MayRefuse, Wears};
 ghost use Rattle.am_rows.specs.Rows.{Makes as MakesRows};
 ghost use Rattle.am_site.specs.Locals.{local_of};
-ghost use Rattle.am_site.specs.Opening.{AreOpened, HoldsNoAlerts, KeepsOwn, KeepsOwnAmong, KeepsRest, own_rows};
+ghost use Rattle.am_site.specs.Opening.{AreOpened, BeginsWith, KeepsOwn, KeepsOwnAmong, KeepsRest, own_rows};
 
 use crate::site::Site;
 use am_pattern::PatternCache;
@@ -20,7 +20,7 @@ use std::alloc::Global;
 impl Site {
     /// Opens a store, and accepts at a moment what it has of the tenants of which the instance is a replica in a ring,
     /// where nothing is had of any. What it has of other tenants is dropped from it. No alert is held then, whatever
-    /// the disk returned.
+    /// the disk returned. Gives the tenants of whom it has something then.
     ///
     /// # Errors
     /// `F2` where a call of the database was refused, `F3` where it is no store, or out of memory. What it has of other
@@ -33,11 +33,11 @@ impl Site {
         moment: Moment,
         cache: &mut PatternCache,
         store: &mut R,
-    ) -> Result<(), Failure<StoreRefusal>>
+    ) -> Result<Vec<TenantName>, Failure<StoreRefusal>>
         requires { (t : List ℕ) → local_of t self.old ≡ blank }
         ensures opened { R.is_clean store.new ≡ true → OnOk result
             (AreOpened ring.now.instances instance moment (R.pairs store.old) self.new) }
-        ensures alerts { OnOk result (HoldsNoAlerts self.new) }
+        ensures begins { IfOk result (λ names. BeginsWith names.items self.new) }
         ensures rest { KeepsRest self.old self.new }
         ensures asked { Asked result cache.old cache.new }
         ensures clean { R.is_clean store.new ≡ true → R.is_clean store.old ≡ true }

@@ -14,7 +14,7 @@ use am_server::{Server, listen};
 use am_setup::Setup;
 use am_world::World;
 use mio::net::TcpListener;
-use std::net::{Ipv4Addr, Net, SocketAddr};
+use std::net::{Net, SocketAddr};
 use std::process::ExitCode;
 use std::time::Clock;
 use std::{io, mem};
@@ -40,10 +40,11 @@ pub fn serve<E: Sink>(rt: &HostRuntime, serving: Serving, errors: &mut E) -> io:
         setup,
         has_start,
         store,
+        address,
         port,
         count,
     } = serving;
-    let address = SocketAddr::from((Ipv4Addr::LOCALHOST, port));
+    let address = SocketAddr::from((address, port));
     let listener = match listen(rt, address) {
         Ok(listener) => listener,
         Err(error) if error.kind() == io::ErrorKind::OutOfMemory => return Err(error),

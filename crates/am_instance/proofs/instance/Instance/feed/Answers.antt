@@ -37,13 +37,13 @@ returns-in-Request-clause-cause c = IfErr-weaker c.ask.result _ _ (λ fault caus
     rw (← c.in_ok-feed.ensures.verdict before here, c.in-Request.is) cause) c.ask.ensures.cause
 
 pub ask-requires : goal.ask-requires
-ask-requires c = record { whole = whole_alike (circumstances c.args.occasion.now) c.args.self.now _ refl refl refl refl c.requires.whole }
+ask-requires c = record { whole = whole_alike (circumstances c.args.occasion.now) c.args.self.now _ refl refl refl refl refl c.requires.whole }
 
 pub returns-in-Waits-clause-whole : goal.returns-in-Waits-clause-whole
-returns-in-Waits-clause-whole c = whole_alike (circumstances c.args.occasion.now) c.args.self.now _ refl refl refl refl c.requires.whole
+returns-in-Waits-clause-whole c = whole_alike (circumstances c.args.occasion.now) c.args.self.now _ refl refl refl refl refl c.requires.whole
 
 pub returns-in_ok-push-in-Refused-clause-whole : goal.returns-in_ok-push-in-Refused-clause-whole
-returns-in_ok-push-in-Refused-clause-whole c = whole_alike (circumstances c.args.occasion.now) c.args.self.now _ refl refl refl refl c.requires.whole
+returns-in_ok-push-in-Refused-clause-whole c = whole_alike (circumstances c.args.occasion.now) c.args.self.now _ refl refl refl refl refl c.requires.whole
 
 pub returns-in_ok-push-in-Ready-clause-whole : goal.returns-in_ok-push-in-Ready-clause-whole
-returns-in_ok-push-in-Ready-clause-whole c = whole_alike (circumstances c.args.occasion.now) c.args.self.now _ refl refl refl refl c.requires.whole
+returns-in_ok-push-in-Ready-clause-whole c = whole_alike (circumstances c.args.occasion.now) c.args.self.now _ refl refl refl refl refl c.requires.whole

@@ -7,7 +7,9 @@ use Rattle.am_site.specs.Locals.{local_of}
 use Rattle.am_site.specs.Reacting.{Reacts as SiteReacts, StopsReacting}
 use Rattle.am_instance.specs.Instance.{local_in}
 use Rattle.am_instance.proofs.Reacting.{reacts_here, stops_here, whose}
-use Rattle.am_instance.proofs.Whole.{order_given, whole_reacted}
+use Rattle.am_instance.proofs.Blank.{handled_blank}
+use Rattle.am_instance.proofs.Elsewhere.{handled_elsewhere}
+use Rattle.am_instance.proofs.Whole.{order_given, still_given, whole_reacted}
 use Rattle.am_instance.proofs.instance.Instance.handle.Goals as goal
 use Rattle.am_instance.specs.Here.{circumstances}
 
@@ -48,10 +50,17 @@ returns-clause-reacts c =
 
 pub returns-clause-whole : goal.returns-clause-whole
 returns-clause-whole c =
+    let around = circumstances c.args.occasion.now in
+    let x = c.args.self.now in
+    let t = c.args.timer.now.name.tenant in
+    let key = c.args.timer.now.name.key in
     let given = c.here-here.result in
-    whole_reacted (circumstances c.args.occasion.now) c.args.self.now _ refl refl refl c.args.timer.now.name.tenant given
-    c.here-here.ensures
-    (handled (here_of given) (muted_for given.tenant.now c.args.muted.now) c.args.timer.now.name.key) _ _
+    let muted = muted_for given.tenant.now c.args.muted.now in
+    let react = handled (here_of given) muted key in
+    whole_reacted around x _ refl refl refl t given c.here-here.ensures react _ _
+    (still_given around x _ t given c.here-here.ensures (λ l. (react l).local) c.in_ok-handle.ensures.reacts.local refl
+    (handled_blank (here_of given) muted key) c.requires.noted)
+    (λ _. handled_elsewhere (here_of given) muted key)
     c.in_ok-handle.ensures.reacts c.in_ok-handle.ensures.order c.requires
 
 pub returns-clause-stored : goal.returns-clause-stored

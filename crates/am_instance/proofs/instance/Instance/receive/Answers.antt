@@ -1,4 +1,4 @@
-use Rattle.std.proofs.Common.{ℕ, ◌≤◌, ◌∙◌, List, length, inl, None, refl, rules, sym, subst}
+use Rattle.std.proofs.Common.{ℕ, ◌≤◌, ◌∙◌, List, length, inl, inr, None, refl, rules, sym, subst}
 use Rattle.std.proofs.lemmas.Result.{err_from_is_err_and}
 use Rattle.am_cluster.specs.Arriving.{arrive}
 use Rattle.am_site.specs.Arriving.{IsMade, decided_by}
@@ -7,10 +7,11 @@ use Rattle.am_site.specs.Locals.{local_of}
 use Rattle.am_instance.specs.Instance.{local_in, node_local_in}
 use Rattle.am_muting.specs.Failing.{AddsAmong}
 use Rattle.am_site.specs.Deciding.{asked_by}
-use Rattle.am_instance.proofs.Growing.{asks_among, asks_more}
+use Rattle.am_instance.proofs.Growing.{asks_among, asks_more, more_nothing}
 use Rattle.am_instance.proofs.Leaves.{brought_there, left_ending, left_here, memory_unrefused}
 use Rattle.am_instance.proofs.Reacting.{moves_here, when, which, who, whose}
-use Rattle.am_instance.proofs.Whole.{order_given, whole_moved}
+use Rattle.am_instance.proofs.Elsewhere.{arrive_elsewhere}
+use Rattle.am_instance.proofs.Whole.{noted_given, order_given, whole_moved}
 use Rattle.am_instance.proofs.instance.Instance.receive.Goals as goal
 use Rattle.am_instance.specs.Here.{circumstances}
 
@@ -52,32 +53,59 @@ returns-clause-receives g c =
 
 pub returns-in_err-arrive-clause-cause : goal.returns-in_err-arrive-clause-cause
 returns-in_err-arrive-clause-cause g c =
-    let p = err_from_is_err_and c.from_residual.result c.from_residual.ensures.1 in
+    let p = err_from_is_err_and c.from_residual-in_err-arrive.result c.from_residual-in_err-arrive.ensures.1 in
     rw (p.1, p.2) (inl (record { given = c.here-here.result; is_given = c.here-here.ensures; stops = c.in_err-arrive.ensures.fault }))
 
 pub returns-clause-stays : goal.returns-clause-stays
 returns-clause-stays g c = record {
-  goes = record { up = refl; number = refl; incarnation = refl; known = refl; refused = asks_more c.here-here.result c.args.message (local_of c.here-here.result.tenant.now c.args.self.now.site) c.arrive.result c.args.self.now.cache c.arrive.new.cache c.arrive.ensures.asks };
+  goes = record { up = refl; cause = refl; number = refl; incarnation = refl; known = refl; refused = asks_more c.here-here.result c.args.message (local_of c.here-here.result.tenant.now c.args.self.now.site) c.arrive.result c.args.self.now.cache c.arrive.new.cache c.arrive.ensures.asks };
   front = refl;
 }
 
+pub returns-in_err-note-clause-cause : goal.returns-in_err-note-clause-cause
+returns-in_err-note-clause-cause g c =
+    let p = err_from_is_err_and c.from_residual.result c.from_residual.ensures.1 in
+    rw (p.1, p.2) (inr refl)
+
+pub returns-in_err-note-clause-stays : goal.returns-in_err-note-clause-stays
+returns-in_err-note-clause-stays g c = record {
+  goes = record { up = refl; cause = refl; number = refl; incarnation = refl; known = refl; refused = more_nothing _ _ refl };
+  front = refl;
+}
+
+pub returns-in_err-note-clause-left : goal.returns-in_err-note-clause-left
+unfolding local_in local_of node_local_in
+returns-in_err-note-clause-left g c clean =
+    let p = err_from_is_err_and c.from_residual.result c.from_residual.ensures.1 in
+    rw (p.1, p.2) (record {
+      rows = λ shut. inl (c.requires.backed.stores c.requires.up clean);
+      cause = λ is. absurd (memory_unrefused is);
+    })
+
 pub returns-in_err-arrive-clause-stays : goal.returns-in_err-arrive-clause-stays
 returns-in_err-arrive-clause-stays g c = record {
-  goes = record { up = refl; number = refl; incarnation = refl; known = refl; refused = asks_more c.here-here.result c.args.message (local_of c.here-here.result.tenant.now c.args.self.now.site) c.arrive.result c.args.self.now.cache c.arrive.new.cache c.arrive.ensures.asks };
+  goes = record { up = refl; cause = refl; number = refl; incarnation = refl; known = refl; refused = asks_more c.here-here.result c.args.message (local_of c.here-here.result.tenant.now c.args.self.now.site) c.arrive.result c.args.self.now.cache c.arrive.new.cache c.arrive.ensures.asks };
   front = refl;
 }
 
 pub returns-in_err-put_out-clause-stays : goal.returns-in_err-put_out-clause-stays
 returns-in_err-put_out-clause-stays g c = record {
-  goes = record { up = refl; number = refl; incarnation = refl; known = refl; refused = asks_more c.here-here.result c.args.message (local_of c.here-here.result.tenant.now c.args.self.now.site) c.arrive.result c.args.self.now.cache c.arrive.new.cache c.arrive.ensures.asks };
+  goes = record { up = refl; cause = refl; number = refl; incarnation = refl; known = refl; refused = asks_more c.here-here.result c.args.message (local_of c.here-here.result.tenant.now c.args.self.now.site) c.arrive.result c.args.self.now.cache c.arrive.new.cache c.arrive.ensures.asks };
   front = refl;
 }
 
 pub returns-clause-whole : goal.returns-clause-whole
 returns-clause-whole g c =
+    let around = circumstances c.args.occasion.now in
+    let x = c.args.self.now in
+    let given = c.here-here.result in
     let a = c.in_ok-arrive.ensures.arrives in
-    whole_moved (circumstances c.args.occasion.now) c.args.self.now _ refl refl refl c.args.message.tenant c.here-here.result c.here-here.ensures
-    (arrive (λ _ _ _ _. a.decision) (here_of c.here-here.result) c.args.message) _ c.arrive.new.outbox.items a.moves c.in_ok-arrive.ensures.order c.requires.whole
+    let react = arrive (λ _ _ _ _. a.decision) (here_of given) c.args.message in
+    whole_moved around x _ refl refl refl c.args.message.tenant given c.here-here.ensures react _ c.arrive.new.outbox.items
+    (noted_given around x _ c.args.message.tenant given c.here-here.ensures (λ l. (react l).local) a.moves.local
+    c.in_ok-note.ensures c.requires.whole.noted)
+    (λ none. arrive_elsewhere (here_of given) none (λ _ _ _ _. a.decision) c.args.message)
+    a.moves c.in_ok-arrive.ensures.order c.requires.whole
 
 pub returns-clause-backed : goal.returns-clause-backed
 unfolding local_in local_of
@@ -98,7 +126,7 @@ returns-clause-left g c clean =
 pub returns-in_err-arrive-clause-left : goal.returns-in_err-arrive-clause-left
 unfolding local_in local_of node_local_in
 returns-in_err-arrive-clause-left g c clean =
-    let p = err_from_is_err_and c.from_residual.result c.from_residual.ensures.1 in
+    let p = err_from_is_err_and c.from_residual-in_err-arrive.result c.from_residual-in_err-arrive.ensures.1 in
     rw (p.1, p.2) (left_here g.R.Rows.rejects _ _ _ _ _ _ _ _ _ _ _
     (whose (circumstances c.args.occasion.now) c.args.self.now c.args.message.tenant c.here-here.result c.here-here.ensures)
     (when (circumstances c.args.occasion.now) c.args.self.now c.args.message.tenant c.here-here.result c.here-here.ensures)

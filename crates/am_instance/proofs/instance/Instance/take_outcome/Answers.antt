@@ -6,7 +6,9 @@ use Rattle.am_site.specs.Locals.{local_of}
 use Rattle.am_instance.specs.Instance.{local_in}
 use Rattle.am_instance.proofs.Growing.{more_nothing}
 use Rattle.am_instance.proofs.Reacting.{reacts_here, stops_here}
-use Rattle.am_instance.proofs.Whole.{order_given, whole_reacted}
+use Rattle.am_instance.proofs.Blank.{outcome_blank}
+use Rattle.am_instance.proofs.Elsewhere.{outcome_elsewhere}
+use Rattle.am_instance.proofs.Whole.{order_given, still_given, whole_reacted}
 use Rattle.am_instance.proofs.instance.Instance.take_outcome.Goals as goal
 use Rattle.am_instance.specs.Here.{circumstances}
 
@@ -28,29 +30,37 @@ returns-in_err-outcome-clause-cause c =
 
 pub returns-clause-stays : goal.returns-clause-stays
 returns-clause-stays c = record {
-  goes = record { up = refl; number = refl; incarnation = refl; known = refl; refused = more_nothing _ _ refl };
+  goes = record { up = refl; cause = refl; number = refl; incarnation = refl; known = refl; refused = more_nothing _ _ refl };
   front = refl;
 }
 
 pub returns-in_err-outcome-clause-stays : goal.returns-in_err-outcome-clause-stays
 returns-in_err-outcome-clause-stays c = record {
-  goes = record { up = refl; number = refl; incarnation = refl; known = refl; refused = more_nothing _ _ refl };
+  goes = record { up = refl; cause = refl; number = refl; incarnation = refl; known = refl; refused = more_nothing _ _ refl };
   front = refl;
 }
 
 pub returns-in_err-put_out-clause-stays : goal.returns-in_err-put_out-clause-stays
 returns-in_err-put_out-clause-stays c = record {
-  goes = record { up = refl; number = refl; incarnation = refl; known = refl; refused = more_nothing _ _ refl };
+  goes = record { up = refl; cause = refl; number = refl; incarnation = refl; known = refl; refused = more_nothing _ _ refl };
   front = refl;
 }
 
 pub returns-clause-whole : goal.returns-clause-whole
 returns-clause-whole c =
+    let around = circumstances c.args.occasion.now in
+    let x = c.args.self.now in
     let attempt = c.args.attempt.now in
     let ended = c.args.ended in
-    whole_reacted (circumstances c.args.occasion.now) c.args.self.now _ refl refl refl attempt.tenant c.here-here.result c.here-here.ensures
-    (outcome (here_of c.here-here.result) attempt.number ended.tries ended.status) _ c.outcome.new.outbox.items c.in_ok-outcome.ensures.reacts
-    (c.in_ok-outcome.ensures.order (order_given (circumstances c.args.occasion.now) c.args.self.now attempt.tenant c.here-here.result c.here-here.ensures c.requires)) c.requires
+    let given = c.here-here.result in
+    let react = outcome (here_of given) attempt.number ended.tries ended.status in
+    whole_reacted around x _ refl refl refl attempt.tenant given c.here-here.ensures react _ c.outcome.new.outbox.items
+    (still_given around x _ attempt.tenant given c.here-here.ensures (λ l. (react l).local)
+    c.in_ok-outcome.ensures.reacts.local refl (outcome_blank (here_of given) attempt.number ended.tries ended.status)
+    c.requires.noted)
+    (λ _. outcome_elsewhere (here_of given) attempt.number ended.tries ended.status)
+    c.in_ok-outcome.ensures.reacts
+    (c.in_ok-outcome.ensures.order (order_given around x attempt.tenant given c.here-here.ensures c.requires)) c.requires
 
 pub returns-clause-stored : goal.returns-clause-stored
 unfolding local_in local_of

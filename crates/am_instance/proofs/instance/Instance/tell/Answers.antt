@@ -26,8 +26,8 @@ handle_all-requires g c =
     let x = c.args.self.now in
     let mid : Instance = record x { site = c.due.new.self; cache = c.due.new.cache } in
     let more = more_nothing _ _ c.in_ok-due.ensures.asked.refused in
-    (is_retired (circumstances c.args.occasion.now) x mid c.retire.new.self (reads_with x mid refl refl refl refl refl more)
-    c.due.ensures.stays c.in_ok-retire.ensures.retires c.in_ok-retire.ensures.order c.in_ok-retire.ensures.planned
+    (is_retired (circumstances c.args.occasion.now) x mid c.retire.new.self (reads_with x mid refl refl refl refl refl refl more)
+    c.due.ensures.stays refl c.in_ok-retire.ensures.retires c.in_ok-retire.ensures.order c.in_ok-retire.ensures.planned
     c.requires.whole).whole
 
 -- ---- why it stops
@@ -45,8 +45,8 @@ returns-in_err-due-clause-cause g c =
     let mid : Instance = record x { site = c.retire.new.self } in
     let more = more_nothing (refused_in x) (refused_in mid) refl in
     let is =
-    is_retired (circumstances c.args.occasion.now) x mid c.retire.new.self (reads_with x mid refl refl refl refl refl more) refl
-    c.in_ok-retire.ensures.retires c.in_ok-retire.ensures.order c.in_ok-retire.ensures.planned c.requires.whole in
+    is_retired (circumstances c.args.occasion.now) x mid c.retire.new.self (reads_with x mid refl refl refl refl refl refl more) refl
+    refl c.in_ok-retire.ensures.retires c.in_ok-retire.ensures.order c.in_ok-retire.ensures.planned c.requires.whole in
     let p = err_from_is_err_and c.from_residual-in_err-due.result c.from_residual-in_err-due.ensures.1 in
     rw (p.1, p.2)
     (stops_muting (circumstances c.args.occasion.now) x mid is c.due.new.cache.refused c.in_err-due.field-0.0
@@ -58,8 +58,8 @@ returns-in_err-told-clause-cause g c =
     let mid : Instance = record x { site = c.due.new.self; cache = c.due.new.cache } in
     let more = more_nothing _ _ c.in_ok-due.ensures.asked.refused in
     let is =
-    is_retired (circumstances c.args.occasion.now) x mid c.retire.new.self (reads_with x mid refl refl refl refl refl more)
-    c.due.ensures.stays c.in_ok-retire.ensures.retires c.in_ok-retire.ensures.order
+    is_retired (circumstances c.args.occasion.now) x mid c.retire.new.self (reads_with x mid refl refl refl refl refl refl more)
+    c.due.ensures.stays refl c.in_ok-retire.ensures.retires c.in_ok-retire.ensures.order
     c.in_ok-retire.ensures.planned c.requires.whole in
     let p = err_from_is_err_and c.from_residual-in_err-told.result c.from_residual-in_err-told.ensures.1 in
     rw (p.1, p.2)
@@ -77,8 +77,8 @@ returns-clause-told g c =
     let mid : Instance = record x { site = c.due.new.self; cache = c.due.new.cache } in
     let more = more_nothing _ _ c.in_ok-due.ensures.asked.refused in
     let is =
-    is_retired (circumstances c.args.occasion.now) x mid c.retire.new.self (reads_with x mid refl refl refl refl refl more)
-    c.due.ensures.stays c.in_ok-retire.ensures.retires c.in_ok-retire.ensures.order
+    is_retired (circumstances c.args.occasion.now) x mid c.retire.new.self (reads_with x mid refl refl refl refl refl refl more)
+    c.due.ensures.stays refl c.in_ok-retire.ensures.retires c.in_ok-retire.ensures.order
     c.in_ok-retire.ensures.planned c.requires.whole in
     ticks_all (circumstances c.args.occasion.now) x mid is c.in_ok-due.muted c.deref.result.now c.retire.new.self
     c.due.ensures.stays

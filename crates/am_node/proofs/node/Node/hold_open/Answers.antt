@@ -4,13 +4,10 @@ use Rattle.am_node.proofs.StoredRows.{stores_held}
 use Rattle.am_node.proofs.node.Node.hold_open.Goals as goal
 
 pub invariant_of-self : goal.invariant_of-self
-invariant_of-self g c = λ t. (c.in-Ok.ensures.planned t).0
+invariant_of-self g c = c.in-Ok.ensures.planned.planned
 
 pub invariant_of-self-in-Err : goal.invariant_of-self-in-Err
 invariant_of-self-in-Err g c = all_blank c.clear.new.self blank_planned c.clear.ensures
-
-pub returns-in-Ok-clause-alerts : goal.returns-in-Ok-clause-alerts
-returns-in-Ok-clause-alerts g c = λ t. (c.in-Ok.ensures.planned t).1
 
 pub returns-in-Ok-clause-stores : goal.returns-in-Ok-clause-stores
 returns-in-Ok-clause-stores g c = λ clean. record {

@@ -55,7 +55,11 @@ loop-tenant-preserved g c =
     })
 
 pub returns-clause-planned : goal.returns-clause-planned
-returns-clause-planned g c = λ t. (c.loop-tenant.invariant.planned t, c.loop-tenant.invariant.alertless t)
+returns-clause-planned g c = record {
+  planned = c.loop-tenant.invariant.planned;
+  alertless = c.loop-tenant.invariant.alertless;
+  others = rw (take_all c.loop-tenant.tenant-index c.args.names.now c.loop-tenant-test.false) at c.loop-tenant.invariant.ahead;
+}
 
 pub returns-clause-held : goal.returns-clause-held
 returns-clause-held g c = λ clean. rw (take_all c.loop-tenant.tenant-index c.args.names.now c.loop-tenant-test.false) at (c.loop-tenant.invariant.held clean)

@@ -1,7 +1,7 @@
 use Rattle.std.proofs.Common.{◌≡◌, refl, true}
-use Rattle.std.proofs.lemmas.Result.{IfErr-weaker, err_from_is_err_and, on_ok_weaker}
+use Rattle.std.proofs.lemmas.Result.{IfErr-weaker, IfOk-weaker, err_from_is_err_and, on_ok_weaker}
 use Rattle.am_rows.proofs.Wearing.{judged_later, wears_then}
-use Rattle.am_site.proofs.Opened.{none_held, opens, own_behind}
+use Rattle.am_site.proofs.Opened.{begins, opens, own_behind}
 use Rattle.am_site.proofs.site.Site.open.Goals as goal
 
 pub returns-clause-opened : goal.returns-clause-opened
@@ -16,8 +16,10 @@ returns-clause-opened g c = λ clean.
     held)
     (c.hold_open.ensures.held clean)
 
-pub returns-clause-alerts : goal.returns-clause-alerts
-returns-clause-alerts g c = on_ok_weaker c.hold_open.result (none_held c.args.self.now c.hold_open.new.self) c.hold_open.ensures.alerts
+pub returns-clause-begins : goal.returns-clause-begins
+returns-clause-begins g c =
+    IfOk-weaker c.hold_open.result _ _
+    (λ names. begins c.args.self.now names.items c.hold_open.new.self c.requires) c.hold_open.ensures.begins
 
 pub returns-clause-rest : goal.returns-clause-rest
 returns-clause-rest g c = record { operations = refl; settling = refl }
