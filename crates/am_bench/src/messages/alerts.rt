@@ -1,6 +1,6 @@
 //! Alerts, and what is held of them.
 
-use crate::exchange::moment;
+use crate::messages::exchange::moment;
 use am_item::{Alert, Held, Item, SharedItem, Stamp, Thing};
 use am_labels::{Annotations, Label, LabelSet};
 use am_text::{Moment, Text};

@@ -1,9 +1,8 @@
-//! Puts silences into a store, so many as its arguments say, for `bench/store`, which times it.
+//! What a store's puts cost, for `bench/store`.
 //!
 //! `put COUNT` puts them into a store in memory, `put COUNT FILE` into one in a file; `read COUNT`, or `read COUNT
 //! FILE`, then reads all rows as well, as an opening does. Each is one commit.
-#![tactic(auto)]
-
+use crate::number;
 use am_item::{Item, Matchers, SharedItem, Silence, SilenceId, Stamp, Thing};
 use am_match::{Matcher, Operator};
 use am_rows::Rows;
@@ -12,7 +11,6 @@ use am_tenant::TenantName;
 use am_text::{Moment, Text};
 use anyhow::{Context, Result, bail};
 use std::alloc::Global;
-use std::env;
 
 /// What a silence has as its comment, so that a row has some 200 bytes.
 const COMMENT: &str =
@@ -21,23 +19,21 @@ const COMMENT: &str =
 /// When all silences start.
 const START: u64 = 1_750_000_000_000;
 
-fn main(rt: HostRuntime) -> Result<()> {
+/// Does what the words say.
+pub fn run(rt: &HostRuntime, words: &[String]) -> Result<usize> {
     let alloc = rt.alloc();
-    let words: Vec<String> = env::args(&rt)?.skip(1).collect(alloc)?;
-    let (Some(task), Some(count)) = (words.first(), words.get(1)) else {
+    let Some(task) = words.first() else {
         bail!("put COUNT [FILE], or read COUNT [FILE]");
     };
-    let count = count.as_str().parse::<u32>()?;
+    let count = number(words, 1)?;
     let is_read = task.as_str() == "read";
-    let rows = match words.get(2) {
-        None => work(alloc, Shelf::in_memory(alloc)?, count, is_read)?,
-        Some(path) => match Shelf::in_file(&rt, path.as_str()) {
-            Ok(shelf) => work(alloc, shelf, count, is_read)?,
+    match words.get(2) {
+        None => work(alloc, Shelf::in_memory(alloc)?, count, is_read),
+        Some(path) => match Shelf::in_file(rt, path.as_str()) {
+            Ok(shelf) => work(alloc, shelf, count, is_read),
             Err(_) => bail!("the file is no store"),
         },
-    };
-    println!(rt; "{rows}")?;
-    Ok(())
+    }
 }
 
 /// Puts so many silences, and reads all rows where that is asked for. Gives how many were read, or put.

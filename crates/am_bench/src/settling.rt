@@ -1,11 +1,10 @@
-//! Does what settling costs, so often as its arguments say, for `bench/settling`, which times it.
+//! What settling costs, for `bench/settling`.
 //!
 //! `prepare TENANTS ITEMS` makes what is held of so many tenants, so many items of each. `change TENANTS ITEMS` does
 //! that, and a ring is learned under which another instance is the tenants' replica: their States begin to be pushed to
 //! it. `state ITEMS` hands a State over, piece by piece, and `ticks TENANTS TICKS` asks so often what is sent again, of
 //! so many tenants whose push runs, where nothing is due.
-#![tactic(auto)]
-
+use crate::number;
 use am_item::{Item, SharedItem, Stamp, Thing};
 use am_ring::Instance;
 use am_tenant::TenantName;
@@ -13,7 +12,6 @@ use am_text::{Moment, Text};
 use am_transfer::{Peer, Settling, Span};
 use anyhow::{Context, Result, bail};
 use std::alloc::Global;
-use std::env;
 
 /// The instance whose States are sent, the one that is new among a tenant's three, and the third.
 const SENDER: u8 = 2;
@@ -38,28 +36,19 @@ struct Holding {
     held: Vec<SharedItem>,
 }
 
-fn main(rt: HostRuntime) -> Result<()> {
-    let alloc = rt.alloc();
-    let words: Vec<String> = env::args(&rt)?.skip(1).collect(alloc)?;
+/// Does what the words say.
+pub fn run(alloc: Global, words: &[String]) -> Result<usize> {
     let Some(task) = words.first() else {
         bail!("prepare, change, state or ticks");
     };
-    let first = number(&words, 1)?;
-    let done = match task.as_str() {
-        "prepare" => holdings(alloc, first, number(&words, 2)?)?.len(),
-        "change" => change(alloc, first, number(&words, 2)?)?,
-        "state" => hand_over(alloc, first)?,
-        "ticks" => tick(alloc, first, number(&words, 2)?)?,
+    let first = number(words, 1)?;
+    match task.as_str() {
+        "prepare" => Ok(holdings(alloc, first, number(words, 2)?)?.len()),
+        "change" => change(alloc, first, number(words, 2)?),
+        "state" => hand_over(alloc, first),
+        "ticks" => tick(alloc, first, number(words, 2)?),
         _ => bail!("prepare, change, state or ticks"),
-    };
-    println!(rt; "{done}")?;
-    Ok(())
-}
-
-/// A number among the words.
-fn number(words: &[String], place: usize) -> Result<u32> {
-    let word = words.get(place).context("a number is lacking")?;
-    Ok(word.as_str().parse::<u32>()?)
+    }
 }
 
 fn moment(milliseconds: u64) -> Result<Moment> {

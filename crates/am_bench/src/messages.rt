@@ -1,48 +1,37 @@
-//! Does what messages and operations cost, so often as its arguments say, for `bench/messages`, which times it.
+//! What messages and operations cost, for `bench/messages`.
 //!
 //! `hold ITEMS` makes so many alerts, and what two replicas hold of them: all of them shared but one. `decide ITEMS
 //! TIMES` does that, and decides so many operations on the Answers of the two; so does `apart ITEMS TIMES`, where the
 //! replicas share no alert. `fly ITEMS MESSAGES` keeps so many Answers that were sent, each of another list. `encode
 //! ITEMS TIMES` writes an Answer so often, and `measure ITEMS TIMES` tells its length.
-#![tactic(auto)]
-
 mod alerts;
 mod exchange;
 
-use crate::alerts::{holding, renewed};
-use crate::exchange::{Office, answer, moment};
+use crate::messages::alerts::{holding, renewed};
+use crate::messages::exchange::{Office, answer, moment};
+use crate::number;
 use am_item::Held;
 use am_messages::{MessageName, Messages};
 use am_tenant::TenantName;
 use am_wire::{Message, encode, spelled_len};
 use anyhow::{Context, Result, bail};
 use std::alloc::Global;
-use std::env;
 
-fn main(rt: HostRuntime) -> Result<()> {
-    let alloc = rt.alloc();
-    let words: Vec<String> = env::args(&rt)?.skip(1).collect(alloc)?;
+/// Does what the words say.
+pub fn run(alloc: Global, words: &[String]) -> Result<usize> {
     let Some(task) = words.first() else {
         bail!("hold, decide, apart, fly, encode or measure");
     };
-    let items = number(&words, 1)?;
-    let done = match task.as_str() {
-        "hold" => hold(alloc, items)?,
-        "decide" => decide(alloc, items, number(&words, 2)?)?,
-        "apart" => apart(alloc, items, number(&words, 2)?)?,
-        "fly" => fly(alloc, items, number(&words, 2)?)?,
-        "encode" => write(alloc, items, number(&words, 2)?)?,
-        "measure" => measure(alloc, items, number(&words, 2)?)?,
+    let items = number(words, 1)?;
+    match task.as_str() {
+        "hold" => hold(alloc, items),
+        "decide" => decide(alloc, items, number(words, 2)?),
+        "apart" => apart(alloc, items, number(words, 2)?),
+        "fly" => fly(alloc, items, number(words, 2)?),
+        "encode" => write(alloc, items, number(words, 2)?),
+        "measure" => measure(alloc, items, number(words, 2)?),
         _ => bail!("hold, decide, apart, fly, encode or measure"),
-    };
-    println!(rt; "{done}")?;
-    Ok(())
-}
-
-/// A number among the words.
-fn number(words: &[String], place: usize) -> Result<u32> {
-    let word = words.get(place).context("a number is lacking")?;
-    Ok(word.as_str().parse::<u32>()?)
+    }
 }
 
 fn tenant() -> Result<TenantName> {
