@@ -10,8 +10,7 @@ use Rattle.am_members.specs.declared.group.Group.{Group}
 use Rattle.am_current.specs.Current.{configuration_in}
 use Rattle.am_outlet.specs.Attempts.{after_outcome, outcome_of}
 use Rattle.am_node.specs.Flushing.{members_but}
-use Rattle.am_notifier.specs.Flushing.{sent_among}
-use Rattle.am_telling.specs.Tellings.{tellings}
+use Rattle.am_node.specs.Notices.{Keep, Notify, Telling, group_in, sent_among, tellings}
 use Rattle.std.specs.Prelude.{codes, ◌==◌, option_map, unwrap_or}
 use Rattle.std.specs.List.{list_all}
 use Rattle.std.proofs.Common.{inl, inr}
@@ -23,11 +22,8 @@ use Rattle.am_node.specs.Delivery as replica
 use Rattle.am_node.specs.Local.{Local as ReplicaLocal, Reaction as ReplicaReaction}
 use Rattle.am_context.specs.declared.context.Context.{Context as NodeContext}
 use Rattle.am_ring.specs.Instances.{is_among}
-use Rattle.am_telling.specs.declared.telling.Telling.{Telling}
-use Rattle.am_telling.specs.declared.telling.Telling.TheVariants.{Notify, Keep}
 use Rattle.am_timer.specs.Timer.{Key}
 use Rattle.am_timer.specs.declared.key.TimerKey.TheVariants.{Operation as OperationKey, Group as GroupKey, Retry as RetryKey, Push as PushKey}
-use Rattle.am_agenda.specs.Plan.{group_in}
 use Rattle.am_cluster.specs.Accepting.{accepted}
 use Rattle.am_cluster.specs.Arriving.{Arrival, Counted as IsCountedOnly, Dropped, Taken, answer_get, arrival, arrive, arrive_as, does, take_put}
 use Rattle.am_cluster.specs.Courses.{at_restart}

@@ -3,9 +3,8 @@ use Rattle.std.proofs.Common.{◌≡◌, ℕ, Bool, true, false, ◌&&◌, not, 
 use Rattle.std.specs.Prelude.{IsTrue, ◌==◌}
 use Rattle.std.specs.List.{flat_map}
 use Rattle.std.proofs.lemmas.Bool.{false≢true}
-use Rattle.am_agenda.specs.Plan.{timers_in}
+use Rattle.am_node.specs.Notices.{planned_alerts, timers_in}
 use Rattle.am_item.specs.declared.item.Item.{Item}
-use Rattle.am_planning.specs.Planning.{planned_alerts}
 use Rattle.am_ring.specs.Instances.{is_among}
 use Rattle.am_ring.specs.Replicas.{replicas}
 use Rattle.am_rows.specs.Rows.{stored_in}

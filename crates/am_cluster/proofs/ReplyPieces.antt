@@ -18,15 +18,12 @@ use Rattle.am_members.specs.declared.group.Group.{Group}
 use Rattle.am_node.specs.Delivery.{notified as replica_notified, recorded as replica_recorded, retried as replica_retried, started_if, tells}
 use Rattle.am_node.specs.Flushing.{members_but}
 use Rattle.am_node.specs.Local.{Local as ReplicaLocal, Reaction as ReplicaReaction}
-use Rattle.am_notifier.specs.Flushing.{sent_among}
+use Rattle.am_node.specs.Notices.{Keep, Notify, Telling, sent_among, tellings}
 use Rattle.am_outlet.specs.Attempts.{after_outcome, next_of, outcome_of, sending_of}
 use Rattle.am_outlet.specs.declared.attempt.Notice.{Notice}
 use Rattle.am_outlet.specs.declared.attempt.Sending.{Sending}
 use Rattle.am_outlet.specs.declared.outcome.Outcome.{Outcome}
 use Rattle.am_outlet.specs.declared.outcome.Outcome.TheVariants.{NotOpen, Delivered, Again, GivenUp}
-use Rattle.am_telling.specs.Tellings.{tellings}
-use Rattle.am_telling.specs.declared.telling.Telling.{Telling}
-use Rattle.am_telling.specs.declared.telling.Telling.TheVariants.{Notify, Keep}
 use Rattle.am_cluster.specs.Delivery.{concluded, entry_of, outcome, recorded, retried, told}
 use Rattle.am_cluster.specs.Flushing.{begun, flushed}
 use Rattle.am_cluster.specs.Here.{Here, others, replica_here}

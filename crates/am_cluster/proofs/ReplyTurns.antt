@@ -2,7 +2,7 @@
 use Rattle.std.proofs.Common.{ℕ, Bool, true, false, ◌&&◌, not, List, length, Option, Some, None, is_none, if◌then◌else◌}
 use Rattle.std.specs.Prelude.{nat_le, ◌==◌}
 use Rattle.std.proofs.lemmas.List.Elements.{All-nil}
-use Rattle.am_agenda.specs.Plan.{group_in}
+use Rattle.am_node.specs.Notices.{group_in}
 use Rattle.am_http.specs.declared.request.Request.{Request}
 use Rattle.am_item.specs.declared.item.Item.{Item}
 use Rattle.am_labels.specs.declared.Label.{Label}

@@ -1,6 +1,6 @@
 -- While nothing has changed since the opening: who is settled, and what nobody does.
 use Rattle.std.proofs.Common.{◌≡◌, Bool, true, false, ◌&&◌, ◌||◌, not, [], ◌++◌, refl, ap, ◌∙◌, is_none}
-use Rattle.am_agenda.specs.Plan.{in_order, timers_in}
+use Rattle.am_node.specs.Notices.{in_order, timers_in}
 use Rattle.am_cluster.specs.Here.{Here, is_replica_here, others}
 use Rattle.am_cluster.specs.Local.{Local, is_settled, with_settling}
 use Rattle.am_cluster.specs.Plans.{plan_of}

@@ -3,7 +3,7 @@ use Rattle.std.proofs.Common.{◌≡◌, ℕ, ◌+◌, Bool, true, false, ◌&&�
 use Rattle.std.specs.List.{list_any}
 use Rattle.std.specs.Prelude.{codes, ◌==◌}
 use Rattle.std.proofs.lemmas.Bool.{or_from, or_parts, true≢false}
-use Rattle.am_agenda.specs.Plan.{group_in}
+use Rattle.am_node.specs.Notices.{Keep, Notify, Telling, group_in, sent_among, tellings}
 use Rattle.am_api.specs.Replied.{Decision}
 use Rattle.am_current.specs.Current.{configuration_in}
 use Rattle.am_http.specs.Replies.{reply}
@@ -17,13 +17,9 @@ use Rattle.am_outlet.specs.declared.outcome.Outcome.{Outcome}
 use Rattle.am_outlet.specs.declared.outcome.Outcome.TheVariants.{NotOpen, Delivered, Again, GivenUp}
 use Rattle.am_node.specs.Delivery as replica
 use Rattle.am_node.specs.Flushing.{members_but}
-use Rattle.am_notifier.specs.Flushing.{sent_among}
 use Rattle.am_node.specs.Local.{Local as ReplicaLocal, Reaction as ReplicaReaction}
 use Rattle.am_context.specs.declared.context.Context.{Context as NodeContext}
 use Rattle.am_ring.specs.Instances.{is_among}
-use Rattle.am_telling.specs.Tellings.{tellings}
-use Rattle.am_telling.specs.declared.telling.Telling.{Telling}
-use Rattle.am_telling.specs.declared.telling.Telling.TheVariants.{Notify, Keep}
 use Rattle.am_timer.specs.Timer.{Key}
 use Rattle.am_timer.specs.declared.key.TimerKey.TheVariants.{Operation as OperationKey, Group as GroupKey, Retry as RetryKey, Push as PushKey}
 use Rattle.am_cluster.specs.Accepting.{accepted}

@@ -3,7 +3,7 @@ use Rattle.std.specs.Prelude.{ℕ, ◌+◌, List, length, Option, unwrap_or}
 use Rattle.am_item.specs.Best.{all_joined}
 use Rattle.am_item.specs.declared.item.Item.{Item}
 use Rattle.am_muting.specs.Muting.{alert_sets}
-use Rattle.am_notifier.specs.Following.{all_came}
+use Rattle.am_node.specs.Notices.{all_came}
 use Rattle.am_cluster.specs.Local.{Local}
 
 -- items are accepted at a moment: the best are held, and each alert since the least moment at which an item of it came

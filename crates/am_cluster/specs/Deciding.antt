@@ -1,7 +1,7 @@
 -- At which happenings a request is decided, and a write acknowledged.
 use Rattle.std.specs.Prelude.{ℕ, ◌&&◌, ◌==◌, List, [], Option, Some, None, option_map, option_and_then, if◌then◌else◌}
 use Rattle.std.specs.List.{flat_map}
-use Rattle.am_api.specs.Replied.{Decision}
+pub use Rattle.am_api.specs.Replied.{Decision}
 use Rattle.am_item.specs.declared.item.Item.{Item}
 use Rattle.am_cluster.specs.Arriving.{Arrival, Counted, Dropped, Taken, arrival}
 use Rattle.am_cluster.specs.Courses.{posted_in}

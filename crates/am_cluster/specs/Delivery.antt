@@ -8,8 +8,7 @@ use Rattle.am_outlet.specs.Attempts.{after_outcome, attempt_at, awaits_outcome, 
 use Rattle.am_outlet.specs.declared.outcome.Outcome.{Outcome}
 use Rattle.am_outlet.specs.declared.outcome.Outcome.TheVariants.{NotOpen, Delivered, Again, GivenUp}
 use Rattle.am_node.specs.Delivery as replica
-use Rattle.am_telling.specs.declared.telling.Telling.{Telling}
-use Rattle.am_telling.specs.declared.telling.Telling.TheVariants.{Notify, Keep}
+use Rattle.am_node.specs.Notices.{Keep, Notify, Telling}
 use Rattle.am_cluster.specs.Here.{Here, others, replica_here}
 use Rattle.am_cluster.specs.Local.{Local}
 use Rattle.am_cluster.specs.Messages.{Put}

@@ -4,8 +4,7 @@ use Rattle.am_current.specs.Current.{configuration_in}
 use Rattle.am_labels.specs.declared.Label.{Label}
 use Rattle.am_members.specs.declared.group.Group.{Group}
 use Rattle.am_node.specs.Flushing.{begun as replica_begun, members_but}
-use Rattle.am_notifier.specs.Flushing.{sent_among}
-use Rattle.am_telling.specs.Tellings.{tellings}
+use Rattle.am_node.specs.Notices.{sent_among, tellings}
 use Rattle.am_cluster.specs.Delivery.{told}
 use Rattle.am_cluster.specs.Here.{Here, replica_here}
 use Rattle.am_cluster.specs.Local.{Local}

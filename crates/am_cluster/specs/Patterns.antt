@@ -2,8 +2,9 @@
 -- built.
 use Rattle.std.specs.Prelude.{ℕ, IfSome, List, [], ◌∷◌, ◌++◌}
 use Rattle.std.specs.List.{flat_map}
-use Rattle.am_api.specs.Choice.{BuildsAccepted}
-use Rattle.am_api.specs.Patterns.{patterns_of_items, patterns_of_request}
+pub use Rattle.am_api.specs.Choice.{BuildsAccepted, IsRefusedBuild}
+use Rattle.am_api.specs.Patterns.{patterns_of_items}
+unfoldable pub use Rattle.am_api.specs.Patterns.{patterns_of_request}
 use Rattle.am_item.specs.declared.item.Item.{Item}
 use Rattle.am_ring.specs.Instances.{all_instances}
 use Rattle.am_cluster.specs.Courses.{after}

@@ -2,11 +2,9 @@
 -- configuration that is in use and by the position of the instance, whenever something is asked of it.
 use Rattle.std.specs.Prelude.{ℕ, Option, Some, None, if◌then◌else◌}
 use Rattle.std.specs.List.{filter_map}
-use Rattle.am_agenda.specs.Plan.{Plan}
+use Rattle.am_node.specs.Notices.{Plan, paces_at, planned_alerts}
 use Rattle.am_current.specs.Current.{configuration_in}
 use Rattle.am_members.specs.Grouped.{Grouped}
-use Rattle.am_planning.specs.Planning.{planned_alerts}
-use Rattle.am_notifier.specs.Following.{paces_at}
 use Rattle.am_node.specs.Local.{Local as ReplicaLocal, Reaction as ReplicaReaction, Said as ReplicaSaid, Records as ReplicaRecords, Replies as ReplicaReplies, Tells as ReplicaTells}
 use Rattle.am_context.specs.declared.context.Context.{Context as NodeContext}
 use Rattle.am_cluster.specs.Here.{Here, position_here, replica_here}

@@ -5,7 +5,7 @@ use Rattle.am_item.specs.Key.{AlertKey}
 use Rattle.am_item.specs.declared.item.Item.{Item}
 use Rattle.am_labels.specs.declared.Label.{Label}
 use Rattle.am_members.specs.Grouped.{living}
-use Rattle.am_replica.specs.Retiring.{items_left}
+use Rattle.am_node.specs.Retiring.{items_left}
 use Rattle.am_cluster.specs.Local.{Local}
 use Rattle.am_cluster.specs.Plans.{grouped_of}
 

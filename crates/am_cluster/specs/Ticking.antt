@@ -1,7 +1,7 @@
 -- What an instance does at a tick: it drops what is retired, and then does what is due, by timers that it computes
 -- anew.
 use Rattle.std.specs.Prelude.{ℕ, Bool, List, ◌++◌, map, Option, Some, None, unwrap_or}
-use Rattle.am_agenda.specs.Plan.{Plan, flush_due, group_in, in_order, timers_in}
+use Rattle.am_node.specs.Notices.{Plan, flush_due, group_in, in_order, timers_in}
 use Rattle.am_current.specs.Current.{configuration_in}
 use Rattle.am_item.specs.Retirement.{moment_after}
 use Rattle.am_labels.specs.declared.Label.{Label}

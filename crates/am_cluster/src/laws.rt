@@ -26,7 +26,7 @@ ghost use Rattle.am_transfer.specs.Settling.{untouched};
 ghost use Rattle.am_cluster.specs.Steady.{IsSteady, any_moves};
 ghost use Rattle.am_cluster.specs.Ticking.{deadlines, timers_of};
 ghost use Rattle.am_wire.specs.Messages.{spelling};
-ghost use Rattle.am_agenda.specs.Plan.{in_order as timers_in_order, timers_in};
+ghost use Rattle.am_node.specs.Notices.{in_order as timers_in_order, timers_in};
 ghost use Rattle.am_cluster.specs.Transfers.{asks_first};
 ghost use Rattle.am_cluster.specs.Unnamed.{IsUnnamed, name_nobody};
 

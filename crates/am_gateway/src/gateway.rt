@@ -2,9 +2,9 @@
 ghost use Rattle.std.specs.Prelude.{◌≡◌, ◌↔◌, ◌∷◌, ℕ, List, [], None, Some, false, true, min, IfOk, IfSome, IfNone, IsOk, IsTrue, OnErr, OnOk, if◌then◌else◌};
 ghost use Rattle.am_http.specs.Replies.{ready_reply as the_ready_reply};
 ghost use Rattle.am_serve.specs.Lanes.{is_ready, under_way_of, waiting_of};
-ghost use Rattle.am_cluster.specs.Moments.{last_moment};
 ghost use Rattle.am_event.specs.declared.event.Event.TheVariants as event;
 ghost use Rattle.am_serve.specs.declared.host.Verdict.TheVariants as Verdict;
+ghost use Rattle.am_world.specs.Consistent.{last_moment};
 ghost use Rattle.am_world.specs.Places.{cause_at};
 ghost use Rattle.am_world.specs.Runs.{Forgets};
 ghost use Rattle.am_world.specs.Simulation.{put_out};

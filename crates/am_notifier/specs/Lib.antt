@@ -12,3 +12,5 @@ pub mod Forgetting
 pub mod Delivery
 -- the flush of a group
 pub mod Flushing
+-- what a notifier is said in
+pub mod Planned

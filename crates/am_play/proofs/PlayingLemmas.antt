@@ -11,8 +11,7 @@ use Rattle.am_world.specs.Places.{up_at}
 use Rattle.am_world.specs.Refusal.{refusal}
 use Rattle.am_world.specs.Runs.{Forgets}
 use Rattle.am_world.specs.Simulation.{put_out}
-use Rattle.am_world.specs.Stopping.{Step}
-use Rattle.am_instance.specs.Ticks.{Either}
+use Rattle.am_world.specs.Stopping.{Either, Step}
 use Rattle.am_play.specs.declared.play.Player.{Player}
 use Rattle.am_play.specs.declared.report.Report.{Report}
 use Rattle.am_play.specs.declared.report.Try.{Try}

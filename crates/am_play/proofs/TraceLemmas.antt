@@ -6,13 +6,10 @@ use Rattle.am_event.specs.declared.output.Output.{Output}
 use Rattle.am_item.specs.declared.item.Item.{Item}
 use Rattle.am_world.specs.declared.state.State.{State}
 use Rattle.am_world.specs.Refusal.{refusal}
-use Rattle.am_world.specs.Runs.{Alone, Forgets}
-use Rattle.am_cluster.specs.Origins.{Origin}
+use Rattle.am_world.specs.Runs.{Alone, Forgets, Origin, first_watch, names_once}
 use Rattle.am_world.specs.Opening.{Opens}
 use Rattle.am_world.specs.Simulation.{fault_count, message_named, put_out, refused_by}
-use Rattle.am_world.specs.Stopping.{Step}
-use Rattle.am_instance.specs.Ticks.{Either}
-use Rattle.am_cluster.specs.View.{first_watch, names_once}
+use Rattle.am_world.specs.Stopping.{Either, Step}
 use Rattle.am_world.proofs.RunTaken.{Steps, alone}
 use Rattle.am_scenario.specs.Line.{command_of}
 use Rattle.am_play.specs.Link.{Answers, Carries}

@@ -8,8 +8,7 @@ use Rattle.am_world.specs.declared.state.State.{State}
 use Rattle.am_world.specs.Runs.{Forgets}
 use Rattle.am_world.specs.Refusal.{refusal}
 use Rattle.am_world.specs.Simulation.{fault_count, message_named, put_out, refused_by}
-use Rattle.am_world.specs.Stopping.{Step}
-use Rattle.am_instance.specs.Ticks.{Either}
+use Rattle.am_world.specs.Stopping.{Either, Step}
 use Rattle.am_messages.specs.declared.name.MessageName.{MessageName}
 use Rattle.am_scenario.specs.declared.command.Command.{Command}
 use Rattle.am_scenario.specs.declared.command.Command.TheVariants.{Skip, At, Tick, Open, Bytes, Call}

@@ -1,13 +1,11 @@
 -- A whole scenario: its lines, and what playing them comes to.
 use Rattle.std.specs.Prelude.{◌≡◌, ◌⊎◌, ℕ, List, [], ◌++◌, Option, IfSome}
 use Rattle.am_item.specs.declared.item.Item.{Item}
-use Rattle.am_world.specs.Runs.{Alone}
-use Rattle.am_instance.specs.Shelves.{Shelf}
+use Rattle.am_world.specs.Runs.{Alone, Origin, first_watch, names_once}
+use Rattle.am_world.specs.Shelves.{Shelf}
 use Rattle.am_world.specs.Opening.{Opens}
 use Rattle.am_world.specs.declared.state.State.{State}
-use Rattle.am_cluster.specs.Origins.{Origin}
 use Rattle.am_world.specs.Simulation.{fault_count}
-use Rattle.am_cluster.specs.View.{first_watch, names_once}
 use Rattle.am_play.specs.declared.play.Played.{Played}
 use Rattle.am_play.specs.declared.play.Player.{Player}
 use Rattle.am_play.specs.Link.{Answers, Carries}

@@ -13,3 +13,5 @@ mod report;
 pub mod stops;
 pub mod streams;
 pub mod writing;
+
+pub use am_world::{OpenRefusal, World};

@@ -12,8 +12,7 @@ use Rattle.am_cluster.specs.Operations.{Answered, Operation, operation_of}
 use Rattle.am_cluster.specs.Reactions.{Reaction, in_turn, where_some}
 use Rattle.am_cluster.specs.Transfers.{asks_first}
 use Rattle.am_item.specs.declared.item.Item.{Item}
-use Rattle.am_site.specs.Arriving.{decides}
-use Rattle.am_site.specs.Deciding.{decides_on}
+use Rattle.am_instance.specs.Site.{decides, decides_on}
 
 -- the operation that a message decides, and the list on which it does, where the instance is meant
 abbrev pub decided_in : Here → Message → Local → Option (Operation × List Item)

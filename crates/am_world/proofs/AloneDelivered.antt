@@ -2,10 +2,10 @@
 use Rattle.std.proofs.Common.{◌≡◌, ◌∙◌, inl, ℕ, Bool, true, false}
 use Rattle.std.proofs.Common.{Option, None, Some, IfSome, find, option_map, refl, sym, ap, subst}
 use Rattle.std.proofs.Common.{if◌then◌else◌}
-use Rattle.am_api.specs.Choice.{BuildsAccepted}
+use Rattle.am_cluster.specs.Patterns.{BuildsAccepted}
 use Rattle.am_cluster.specs.Arriving.{arrive}
 use Rattle.am_cluster.specs.Courses.{course, course_by, handled_by, posted_in, refusal_of}
-use Rattle.am_cluster.specs.Deciding.{Deciding, decision_of, deciding_at}
+use Rattle.am_cluster.specs.Deciding.{Deciding, deciding_at, decision_of}
 use Rattle.am_cluster.specs.Events.{Deliver}
 use Rattle.am_cluster.specs.Happening.{Delivered, Happening}
 use Rattle.am_cluster.specs.Messages.{Message}

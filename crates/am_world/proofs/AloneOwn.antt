@@ -4,8 +4,10 @@ use Rattle.std.proofs.Common.{is_none, if◌then◌else◌, refl}
 use Rattle.std.specs.Prelude.{codes, ◌==◌}
 use Rattle.std.specs.List.{filter_map}
 use Rattle.std.proofs.lemmas.List.Elements.{All-append, All-cons, All-nil}
-use Rattle.am_agenda.specs.Plan.{group_in}
-use Rattle.am_api.specs.Replied.{Decision}
+use Rattle.am_instance.specs.Node.{Keep, Local as ReplicaLocal, Notify, Reaction as ReplicaReaction}
+use Rattle.am_instance.specs.Node.{Records as ReplicaRecords, Replies as ReplicaReplies, Said as ReplicaSaid, Telling}
+use Rattle.am_instance.specs.Node.{Tells as ReplicaTells, group_in, members_but, sent_among, tellings}
+use Rattle.am_cluster.specs.Deciding.{Decision}
 use Rattle.am_context.specs.declared.context.Context.{Context as NodeContext}
 use Rattle.am_current.specs.Current.{configuration_in}
 use Rattle.am_http.specs.Replies.{reply}
@@ -14,18 +16,12 @@ use Rattle.am_item.specs.declared.entry.EntryKey.{EntryKey}
 use Rattle.am_item.specs.declared.item.Item.{Item}
 use Rattle.am_labels.specs.declared.Label.{Label}
 use Rattle.am_members.specs.declared.group.Group.{Group}
-use Rattle.am_node.specs.Delivery as replica
-use Rattle.am_node.specs.Flushing.{members_but}
-use Rattle.am_node.specs.Local.{Local as ReplicaLocal, Reaction as ReplicaReaction, Said as ReplicaSaid}
-use Rattle.am_node.specs.Local.{Records as ReplicaRecords, Replies as ReplicaReplies, Tells as ReplicaTells}
-use Rattle.am_notifier.specs.Flushing.{sent_among}
+use Rattle.am_instance.specs.Node.{notified as notified_by_node, recorded as recorded_by_node}
+use Rattle.am_instance.specs.Node.{retried as retried_by_node}
 use Rattle.am_outlet.specs.Attempts.{after_outcome, outcome_of}
 use Rattle.am_outlet.specs.declared.outcome.Outcome.{Outcome}
 use Rattle.am_outlet.specs.declared.outcome.Outcome.TheVariants.{NotOpen, Delivered, Again, GivenUp}
 use Rattle.am_ring.specs.Instances.{is_among}
-use Rattle.am_telling.specs.Tellings.{tellings}
-use Rattle.am_telling.specs.declared.telling.Telling.{Telling}
-use Rattle.am_telling.specs.declared.telling.Telling.TheVariants.{Notify, Keep}
 use Rattle.am_timer.specs.Timer.{Key}
 use Rattle.am_timer.specs.declared.key.TimerKey.TheVariants.{Operation as OperationKey, Group as GroupKey}
 use Rattle.am_timer.specs.declared.key.TimerKey.TheVariants.{Retry as RetryKey, Push as PushKey}
@@ -123,13 +119,13 @@ recorded_own : (here : Here) (key : EntryKey) (firing resolved : List (List Labe
     → SaysOwn here (recorded here key firing resolved span)
 unfolding recorded
 recorded_own here key firing resolved span l =
-    seq here (by_replica (λ h. replica.recorded h key firing resolved span) here)
+    seq here (by_replica (λ h. recorded_by_node h key firing resolved span) here)
     (send_all here.epoch here (others here) (Put 0 (entry_of here key firing resolved span l ∷ [])))
-    (by_replica_own (λ h. replica.recorded h key firing resolved span) here)
+    (by_replica_own (λ h. recorded_by_node h key firing resolved span) here)
     (send_all_own here.epoch here (others here) (Put 0 (entry_of here key firing resolved span l ∷ []))) l
 
 told_own : (here : Here) (telling : Telling) → SaysOwn here (told here telling)
-told_own here (Notify notice) = by_replica_own (λ h. replica.notified h notice) here
+told_own here (Notify notice) = by_replica_own (λ h. notified_by_node h notice) here
 told_own here (Keep key span) = recorded_own here key [] [] span
 
 concluded_own : (here : Here) (o : Outcome) → SaysOwn here (concluded here o)
@@ -264,7 +260,7 @@ handled_own here muted (OperationKey number) l =
 handled_own here muted (GroupKey key) l =
     only_if_own here (is_flush_due here key l) (flushed here muted (group_in key))
     (flushed_own here muted (group_in key)) l
-handled_own here muted (RetryKey number) l = by_replica_own (λ h. replica.retried h number) here l
+handled_own here muted (RetryKey number) l = by_replica_own (λ h. retried_by_node h number) here l
 handled_own here muted (PushKey to) l = send_again_own here to (at_number to l.settling.pushes) l
 
 pub ticked_own : (here : Here) → SaysOwn here (ticked here)

@@ -14,7 +14,7 @@ use Rattle.am_instance.specs.Leaving.{LeavesShelf}
 use Rattle.am_instance.specs.Receiving.{brought_on}
 use Rattle.am_instance.specs.Shelves.{Shelf}
 use Rattle.am_instance.specs.declared.instance.Instance.{Instance}
-use Rattle.am_site.specs.Arriving.{IsRejected, with_brought}
+use Rattle.am_instance.specs.Site.{IsRejected, with_brought}
 use Rattle.am_wire.specs.declared.message.Message.{Message}
 use Rattle.am_world.specs.Consistent.{around_at}
 use Rattle.am_world.specs.Leaving.{RejectedBy, stored_after, stored_of, writes}

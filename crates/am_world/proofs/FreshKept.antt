@@ -10,7 +10,7 @@ use Rattle.am_messages.specs.declared.messages.Posted.{Posted}
 use Rattle.am_messages.specs.declared.name.MessageName.{MessageName}
 use Rattle.am_instance.specs.Instance.{IsDown, local_in}
 use Rattle.am_instance.specs.declared.instance.Instance.{Instance}
-use Rattle.am_site.specs.Locals.{local_of}
+use Rattle.am_instance.specs.Site.{local_of}
 use Rattle.am_world.specs.Places.{AreNumbered, At, SameElsewhere, Turns, instance_at}
 use Rattle.am_world.specs.Posting.{ArePast, ArePastBut, Post}
 use Rattle.am_world.proofs.AlonePlaces.{exists_then}

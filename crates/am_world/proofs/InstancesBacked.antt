@@ -4,7 +4,7 @@ use Rattle.am_instance.specs.Instance.{local_in}
 use Rattle.am_instance.specs.declared.instance.Instance.{Instance}
 use Rattle.am_world.specs.Shelves.{StaysBacked}
 use Rattle.am_rows.specs.Rows.{stored_in}
-use Rattle.am_site.specs.Locals.{local_of}
+use Rattle.am_instance.specs.Site.{local_of}
 
 pub backed_stored : (x y : Instance) → y.up ≡ x.up
     → ((t : List ℕ) → stored_in (local_in t y).held ≡ stored_in (local_in t x).held) → StaysBacked x y

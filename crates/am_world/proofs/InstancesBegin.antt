@@ -16,17 +16,19 @@ use Rattle.am_world.proofs.InstancesLemmas.{turns_then}
 
 -- it is the same instance but for connections
 abbrev pub IsSame : Instance → Instance → Type 0
-IsSame x x' = GoesOn x x' × (x'.site ≡ x.site) × (refused_in x' ≡ refused_in x)
+IsSame x x' = GoesOn x x' × (x'.site ≡ x.site) × (refused_in x' ≡ refused_in x) × (x'.tenants ≡ x.tenants)
 
 same_itself : (x : Instance) → IsSame x x
 same_itself x = (
   record {
     up = refl;
+    cause = refl;
     number = refl;
     incarnation = refl;
     known = refl;
     refused = more_nothing _ _ refl;
   },
+  refl,
   refl,
   refl,
 )
@@ -35,6 +37,7 @@ same_then : (x y z : Instance) → IsSame x y → IsSame y z → IsSame x z
 same_then x y z a b = (
   record {
     up = b.0.up ∙ a.0.up;
+    cause = b.0.cause ∙ a.0.cause;
     number = b.0.number ∙ a.0.number;
     incarnation = b.0.incarnation ∙ a.0.incarnation;
     known = b.0.known ∙ a.0.known;
@@ -42,6 +45,7 @@ same_then x y z a b = (
   },
   b.1 ∙ a.1,
   b.2 ∙ a.2,
+  b.3 ∙ a.3,
 )
 
 -- one instance changed so

@@ -5,11 +5,10 @@ use Rattle.std.proofs.Common.{◌∷◌, ◌++◌, Option, None, Some, IfSome, o
 use Rattle.std.proofs.Common.{if◌then◌else◌}
 use Rattle.std.proofs.lemmas.List.{append-nil}
 use Rattle.std.proofs.lemmas.List.Elements.{All-head}
-use Rattle.am_api.specs.Choice.{BuildsAccepted, IsRefusedBuild}
-use Rattle.am_api.specs.Replied.{Decision}
+use Rattle.am_cluster.specs.Patterns.{AsksBuilt, BuildsAccepted, IsRefusedBuild}
+use Rattle.am_cluster.specs.Deciding.{Deciding, Decision, deciding_at, decision_of}
 use Rattle.am_cluster.specs.Arriving.{arrive}
 use Rattle.am_cluster.specs.Courses.{course, course_by, posted_in}
-use Rattle.am_cluster.specs.Deciding.{Deciding, decision_of, deciding_at}
 use Rattle.am_cluster.specs.Events.{Deliver, Output}
 use Rattle.am_cluster.specs.Happening.{Delivered, Happening}
 use Rattle.am_cluster.specs.Here.{Here}
@@ -19,7 +18,6 @@ use Rattle.am_cluster.specs.Moments.{effective, is_too_late}
 use Rattle.am_cluster.specs.Operating.{Decide, decision_on}
 use Rattle.am_cluster.specs.Operations.{Operation}
 use Rattle.am_cluster.specs.Outputs.{front_told}
-use Rattle.am_cluster.specs.Patterns.{AsksBuilt}
 use Rattle.am_cluster.specs.PrivateCluster.{Course, PrivateCluster, here_at, put_out_at, react_one}
 use Rattle.am_cluster.specs.Reactions.{Reaction}
 use Rattle.am_cluster.specs.Replying.{KeepsAskers}
@@ -47,10 +45,7 @@ use Rattle.am_world.specs.Steps.{IsAsAlone, IsRefusedAlone, KeepsBuilds, Kept, P
 use Rattle.am_world.specs.Turning.{Does}
 use Rattle.am_world.specs.declared.common.Common.{Common}
 use Rattle.am_world.specs.declared.state.State.{State}
-use Rattle.am_site.specs.Arriving.{IsMade, decided_by}
-use Rattle.am_site.specs.Deciding.{IsDecided, asked_by}
-use Rattle.am_site.specs.Here.{here_of}
-use Rattle.am_site.specs.declared.here.Here.{Here as Given}
+use Rattle.am_instance.specs.Site.{Given, IsDecided, IsMade, asked_by, decided_by, here_of}
 use Rattle.am_tenant.specs.Names.{same}
 use Rattle.am_tenant.proofs.Same.{same-refl, same_tells}
 use Rattle.am_world.proofs.Alone.{Acts, Behaves, Over, here_alike, local_alike, own_fits, own_outputs}

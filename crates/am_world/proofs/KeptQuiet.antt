@@ -36,7 +36,7 @@ use Rattle.am_tenant.specs.Names.{same}
 use Rattle.am_world.proofs.Built.{builds_kept}
 use Rattle.am_world.proofs.RunLater.{asked_later, later_itself, later_watch}
 use Rattle.am_world.proofs.RunPlaces.{turned_here}
-use Rattle.am_site.specs.Locals.{local_of}
+use Rattle.am_instance.specs.Site.{local_of}
 
 -- ---- rosters
 
@@ -93,7 +93,7 @@ stands_same t w w' p e s = record {
 
 -- it has what it had of each tenant, is up or down as it was, and was refused no build
 abbrev pub Rests : Instance → Instance → Type 0
-Rests x x' = GoesOn x x' × (x'.site ≡ x.site) × (refused_in x' ≡ refused_in x)
+Rests x x' = GoesOn x x' × (x'.site ≡ x.site) × (refused_in x' ≡ refused_in x) × (x'.tenants ≡ x.tenants)
 
 -- what is seen of each instance is the same, where it is so of each that rests
 rest_by : {A : Type 0} (f : Option Instance → A) → ((x x' : Instance) → Rests x x' → f (Some x') ≡ f (Some x))

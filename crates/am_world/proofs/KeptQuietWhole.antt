@@ -11,7 +11,7 @@ use Rattle.am_instance.specs.Instance.{GoesOn, IsSameNode, bytes_in, local_in}
 use Rattle.am_instance.specs.Shelves.{IsBacked, Shelf}
 use Rattle.am_instance.specs.declared.instance.Instance.{Instance}
 use Rattle.am_rows.specs.Rows.{stored_in}
-use Rattle.am_site.specs.Locals.{local_of}
+use Rattle.am_instance.specs.Site.{local_of}
 use Rattle.am_world.specs.Consistent.{IsConsistent, around_at}
 use Rattle.am_world.specs.Places.{AreNumbered, At, ChangesAt, EachIs, SameElsewhere, Turns, bytes_at, bytes_where}
 use Rattle.am_world.specs.Places.{instance_at, up_at, up_where}
@@ -99,7 +99,8 @@ closed_quiet n c xs ys numbered change rests closes quiet =
 
 pub rests_itself : (x : Instance) → Rests x x
 rests_itself x = (
-  record { up = refl; number = refl; incarnation = refl; known = refl; refused = more_nothing _ _ refl },
+  record { up = refl; cause = refl; number = refl; incarnation = refl; known = refl; refused = more_nothing _ _ refl },
+  refl,
   refl,
   refl,
 )
@@ -113,7 +114,7 @@ consistent_rest w w' was clock common messages numbered rests quiet = record {
   whole = λ i x' there.
       let x = also_there i w'.instances w.instances numbered was.numbered x' there in
       let rest = rests i x.0 x' x.1 there in
-      whole_alike (around_at w'.clock w') x.0 x' rest.0.number rest.0.incarnation rest.0.known rest.1
+      whole_alike (around_at w'.clock w') x.0 x' rest.0.number rest.0.incarnation rest.0.known rest.1 rest.3
       (whole_at (around_at w.clock w) (around_at w'.clock w') x.0 (ap (λ (c : Common). c.rings.items) common)
       (ap (λ (c : Common). c.first) common) (was.whole i x.0 x.1));
   quiet = quiet;

@@ -9,9 +9,7 @@ use Rattle.am_cluster.specs.Messages.{Message}
 use Rattle.am_item.specs.declared.fault.Fault.{Fault}
 use Rattle.am_item.specs.declared.fault.Fault.TheVariants.{StoreRefused}
 use Rattle.am_item.specs.declared.item.Item.{Item}
-use Rattle.am_node.specs.Accepting.{accepted_for}
-use Rattle.am_node.specs.Local.{Local}
-use Rattle.am_node.specs.Retiring.{retired}
+use Rattle.am_instance.specs.Node.{Local, accepted_for, retired}
 use Rattle.am_ring.specs.Instances.{all_instances}
 use Rattle.am_instance.specs.Here.{Circumstances}
 use Rattle.am_instance.specs.Instance.{IsSameNode, bytes_in, node_local_in}
@@ -29,7 +27,7 @@ use Rattle.am_instance.specs.Shelves.{IsBacked, Shelf}
 use Rattle.am_world.specs.Shelves.{AreBacked, IsQuiet, StaysBacked, shelf_at}
 use Rattle.am_world.specs.Simulation.{IsSameBeside}
 use Rattle.am_world.specs.declared.state.State.{State}
-use Rattle.am_site.specs.Arriving.{IsRejected, with_brought}
+use Rattle.am_instance.specs.Site.{IsRejected, with_brought}
 use Rattle.am_world.proofs.Shelved.{left_as}
 use Rattle.am_world.proofs.Turned.{whole_at}
 

@@ -5,14 +5,13 @@ use Rattle.std.proofs.Math.Seq.{drop-append_seam, take-append_seam}
 use Rattle.std.proofs.lemmas.List.{append-nil, append_assoc}
 use Rattle.std.proofs.lemmas.List.Elements.{Contains-append_left, filter-append}
 use Rattle.std.proofs.lemmas.List.Folds.{list_all-append}
-use Rattle.am_api.specs.Patterns.{patterns_of_request}
+use Rattle.am_cluster.specs.Patterns.{patterns_of_request, patterns_open}
 use Rattle.am_cluster.proofs.Open.{decided_open}
 use Rattle.am_cluster.specs.Courses.{after, after_all, fits, fits_all, told, told_all}
 use Rattle.am_cluster.specs.Events.{Event, Output}
 use Rattle.am_cluster.specs.Happening.{Happening}
 use Rattle.am_cluster.specs.Outputs.{are_owned, front_outputs, front_told, front_told_all, is_front, is_tenant}
 use Rattle.am_cluster.specs.Outputs.{outputs_of, owner}
-use Rattle.am_cluster.specs.Patterns.{patterns_open}
 use Rattle.am_cluster.specs.PrivateCluster.{PrivateCluster}
 use Rattle.am_cluster.specs.Roster.{AreInstancesUp}
 use Rattle.am_cluster.specs.View.{Watch, adds, names_once, view, watch, watch_all}

@@ -3,7 +3,7 @@ use Rattle.std.proofs.Common.{inl, inr, ℕ, List, [], ◌∷◌, ◌++◌, Cont
 use Rattle.std.proofs.lemmas.Grind.{flat_map-append}
 use Rattle.std.proofs.lemmas.List.Elements.{All-contains, Contains-append_cases, Contains-append_left}
 use Rattle.std.proofs.lemmas.List.Elements.{Contains-append_right}
-use Rattle.am_api.specs.Patterns.{patterns_of_request}
+use Rattle.am_cluster.specs.Patterns.{patterns_brought, patterns_of_operations, patterns_of_request, patterns_open}
 use Rattle.am_cluster.proofs.Open.{from_flat, open_after}
 use Rattle.am_cluster.proofs.Replied.{opened_over}
 use Rattle.am_cluster.specs.Courses.{after, after_all}
@@ -11,7 +11,6 @@ use Rattle.am_cluster.specs.Happening.{Happening}
 use Rattle.am_cluster.specs.Operating.{decision_on}
 use Rattle.am_cluster.specs.Operations.{Operation}
 use Rattle.am_cluster.specs.Origins.{Origin}
-use Rattle.am_cluster.specs.Patterns.{patterns_brought, patterns_of_operations, patterns_open}
 use Rattle.am_cluster.specs.PrivateCluster.{PrivateCluster, opened}
 use Rattle.am_http.specs.declared.request.Request.{Request}
 use Rattle.am_item.specs.declared.item.Item.{Item}

@@ -11,15 +11,14 @@ use Rattle.am_cluster.specs.Events.{Event}
 use Rattle.am_item.specs.declared.fault.Fault.{Fault}
 use Rattle.am_item.specs.declared.fault.Fault.TheVariants.{StoreRefused}
 use Rattle.am_item.specs.declared.item.Item.{Item}
-use Rattle.am_node.specs.Local.{Local}
-use Rattle.am_node.specs.Storing.{AreRowsOf, LeavesStore}
+use Rattle.am_instance.specs.Node.{AreRowsOf, LeavesStore, Local}
 use Rattle.am_rows.specs.Refusing.{Medium}
 use Rattle.am_rows.specs.Rows.{rows_of, stored_in}
 use Rattle.am_instance.specs.Instance.{local_in, node_local_in}
 use Rattle.am_instance.specs.Leaving.{LeavesShelf, stop_for}
 use Rattle.am_instance.specs.Shelves.{IsBacked, Shelf}
 use Rattle.am_instance.specs.declared.instance.Instance.{Instance}
-use Rattle.am_site.specs.Locals.{local_of as local_in_site}
+use Rattle.am_instance.specs.Site.{local_of as local_in_site}
 use Rattle.am_world.specs.Leaving.{LeavesShelves, RejectedBy, stop_at, stored_after, stored_of, stored_where}
 use Rattle.am_world.specs.Leaving.{writes}
 use Rattle.am_world.specs.Places.{At, SameElsewhere, cause_at, cause_where, instance_at, up_at, up_where}

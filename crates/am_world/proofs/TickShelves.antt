@@ -7,7 +7,7 @@ use Rattle.std.proofs.lemmas.Bool.Decides.{nat_tests}
 use Rattle.std.proofs.lemmas.Option.{same_Some}
 use Rattle.am_cluster.specs.Events.{Tick}
 use Rattle.am_item.specs.declared.item.Item.{Item}
-use Rattle.am_node.specs.Retiring.{retired}
+use Rattle.am_instance.specs.Node.{retired}
 use Rattle.am_ring.specs.Instances.{all_instances, is_among, is_instance}
 use Rattle.am_instance.specs.Leaving.{LeavesShelf}
 use Rattle.am_instance.specs.Shelves.{Shelf}

@@ -6,27 +6,11 @@ use Rattle.am_cluster.specs.Moments.{last_moment}
 use Rattle.am_messages.specs.Posted.{lost_at, posted_at, unlost}
 use Rattle.am_messages.specs.declared.messages.Posted.{Posted}
 use Rattle.am_messages.specs.declared.name.MessageName.{MessageName}
-use Rattle.am_ring.specs.Instances.{Members}
-use Rattle.am_site.proofs.InOrder.{in_order_at}
-use Rattle.am_instance.specs.Here.{Circumstances, has_stayed_on, here_on, three_on}
-use Rattle.am_instance.specs.Whole.{IsWhole}
-use Rattle.am_instance.specs.declared.instance.Instance.{Instance}
 use Rattle.am_world.specs.Consistent.{IsConsistent, around_at}
 use Rattle.am_world.specs.Posting.{AreFiled, Post}
 use Rattle.am_world.specs.declared.state.State.{State}
 use Rattle.am_world.proofs.FreshKept.{past_unlost}
-
--- the moment, the limits and the others' incarnations don't count
-pub whole_at : (a b : Circumstances) (x : Instance) → b.rings ≡ a.rings → b.first ≡ a.first → IsWhole a x → IsWhole b x
-unfolding here_on three_on has_stayed_on
-whole_at a b x rings first whole = record {
-  known = subst (λ (rs : List Members). x.known < length rs) (sym rings) whole.known;
-  order = λ t.
-      in_order_at (here_on a x t) (here_on b x t) x.site refl refl (rw rings refl) (rw (rings, first) refl)
-      (whole.order t);
-  timed = whole.timed;
-  incarnation = whole.incarnation;
-}
+use Rattle.am_world.proofs.Turned.{whole_at}
 
 -- a message that is left was there
 was_there : (m : ℕ) (o : Option Posted) (posted : Posted) → unlost m o ≡ Some posted → o ≡ Some posted

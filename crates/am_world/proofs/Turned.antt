@@ -5,7 +5,7 @@ use Rattle.am_cluster.specs.Events.{Notice, Output, Reply, Send}
 use Rattle.am_http.specs.declared.request.Fed.{Fed}
 use Rattle.am_http.specs.declared.request.Fed.TheVariants as fed
 use Rattle.am_ring.specs.Instances.{Members}
-use Rattle.am_site.proofs.InOrder.{in_order_at}
+use Rattle.am_instance.proofs.Whole.{in_order_at}
 use Rattle.am_http.specs.Connections.{bytes_of}
 use Rattle.am_item.specs.declared.fault.Fault.TheVariants.{OutOfMemory}
 use Rattle.am_instance.specs.Bringing.{IsCause}
@@ -26,6 +26,8 @@ whole_at a b x rings first whole = record {
       (rw rings refl) (rw (rings, first) refl) (whole.order t);
   timed = whole.timed;
   incarnation = whole.incarnation;
+  noted = whole.noted;
+  idle = λ t elsewhere. whole.idle t (rw (← rings) elsewhere);
 }
 
 -- ---- whose messages are told

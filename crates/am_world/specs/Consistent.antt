@@ -1,6 +1,6 @@
 -- What is so of a world between events.
 use Rattle.std.specs.Prelude.{◌≡◌, ℕ, ◌<◌, ◌≤◌, ◌==◌, false, List, length}
-use Rattle.am_cluster.specs.Moments.{last_moment}
+pub use Rattle.am_cluster.specs.Moments.{last_moment}
 use Rattle.am_instance.specs.Here.{Circumstances}
 use Rattle.am_instance.specs.Shelves.{Shelf}
 use Rattle.am_instance.specs.Whole.{IsWhole}

@@ -6,8 +6,7 @@ use Rattle.am_item.specs.declared.fault.Fault.{Fault}
 use Rattle.am_item.specs.declared.item.Item.{Item}
 use Rattle.am_messages.specs.Posted.{posted_at}
 use Rattle.am_messages.specs.declared.messages.Posted.{Posted}
-use Rattle.am_node.specs.Local.{Local, blank}
-use Rattle.am_node.specs.Retiring.{retired}
+use Rattle.am_instance.specs.Node.{Local, blank, retired}
 use Rattle.am_instance.specs.Here.{Circumstances}
 use Rattle.am_instance.specs.Instance.{node_local_in}
 use Rattle.am_instance.specs.Leaving.{LeavesShelf, stop_for}
@@ -18,7 +17,7 @@ use Rattle.am_world.specs.Consistent.{around_at}
 use Rattle.am_world.specs.Places.{cause_at, instance_at, up_at}
 use Rattle.am_world.specs.Shelves.{shelf_at}
 use Rattle.am_world.specs.declared.state.State.{State}
-use Rattle.am_site.specs.Arriving.{IsRejected, with_brought}
+use Rattle.am_instance.specs.Site.{IsRejected, with_brought}
 
 -- what the instance of a number has of a tenant, as far as it is stored
 abbrev pub stored_where : List ℕ → Option Instance → Local

@@ -4,11 +4,12 @@ use Rattle.std.specs.List.{flat_map}
 use Rattle.am_cluster.specs.Courses.{after_all, fits_all, told_all}
 use Rattle.am_cluster.specs.Events.{Event, Output}
 use Rattle.am_cluster.specs.Happening.{Happening}
-use Rattle.am_cluster.specs.Origins.{Origin}
+pub use Rattle.am_cluster.specs.Origins.{Origin}
 use Rattle.am_cluster.specs.Outputs.{are_owned, front_outputs, front_told_all, outputs_of}
 use Rattle.am_cluster.specs.Patterns.{patterns_brought, patterns_open}
 use Rattle.am_cluster.specs.PrivateCluster.{PrivateCluster, opened}
-use Rattle.am_cluster.specs.View.{Watch, first_watch, names_once, view, watch_all}
+pub use Rattle.am_cluster.specs.View.{first_watch, names_once}
+use Rattle.am_cluster.specs.View.{Watch, view, watch_all}
 use Rattle.am_item.specs.declared.item.Item.{Item}
 use Rattle.am_world.specs.Opening.{Opens}
 use Rattle.am_world.specs.Places.{AreBuilt}

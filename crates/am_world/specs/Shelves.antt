@@ -6,7 +6,8 @@ use Rattle.am_ring.specs.Instances.{is_instance}
 use Rattle.am_rows.specs.Rows.{rows_of}
 use Rattle.am_rows.specs.declared.rows.Rows.{Ghosts}
 use Rattle.am_instance.specs.Instance.{bytes_in}
-use Rattle.am_instance.specs.Shelves.{IsBacked, Shelf, shelf_of}
+pub use Rattle.am_instance.specs.Shelves.{Shelf}
+use Rattle.am_instance.specs.Shelves.{IsBacked, shelf_of}
 use Rattle.am_instance.specs.declared.instance.Instance.{Instance}
 use Rattle.am_world.specs.Places.{At}
 

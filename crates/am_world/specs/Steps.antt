@@ -1,16 +1,14 @@
 -- One event: for every tenant at once it is what the tenant's private cluster makes of it.
 use Rattle.std.specs.Prelude.{◌≡◌, ◌⊎◌, ℕ, true, List, [], ◌∷◌, ◌++◌, Some, if◌then◌else◌}
-use Rattle.am_api.specs.Choice.{IsRefusedBuild}
-use Rattle.am_api.specs.Replied.{Decision}
+use Rattle.am_cluster.specs.Patterns.{AreAllBuilt, IsRefusedBuild}
+use Rattle.am_cluster.specs.Deciding.{Deciding, Decision, deciding_at}
 use Rattle.am_cluster.specs.Arriving.{arrive}
 use Rattle.am_cluster.specs.Courses.{after_all, course_by, fits_all, told_all}
-use Rattle.am_cluster.specs.Deciding.{Deciding, deciding_at}
 use Rattle.am_cluster.specs.Events.{Event, Limits, Tick, Deliver, Output}
 use Rattle.am_cluster.specs.Happening.{Happening}
 use Rattle.am_cluster.specs.Moments.{effective, is_refused_tick}
 use Rattle.am_cluster.specs.Operations.{Operation}
 use Rattle.am_cluster.specs.Outputs.{are_owned, front_outputs, front_told, outputs_of}
-use Rattle.am_cluster.specs.Patterns.{AreAllBuilt}
 use Rattle.am_cluster.specs.PrivateCluster.{PrivateCluster}
 use Rattle.am_cluster.specs.Roster.{IsSameRoster}
 use Rattle.am_cluster.specs.View.{AskedAs, FrontAnswered, Watch, adds, look, opens_new, watch}
@@ -29,9 +27,7 @@ use Rattle.am_world.specs.Consistent.{around_at}
 use Rattle.am_world.specs.Places.{instance_at}
 use Rattle.am_world.specs.Simulation.{AreAsked, Follows, Stands, fault_count, put_out, refused_by, roster_of}
 use Rattle.am_world.specs.declared.state.State.{State}
-use Rattle.am_site.specs.Arriving.{decided_by}
-use Rattle.am_site.specs.Deciding.{asked_on}
-use Rattle.am_site.specs.declared.here.Here.{Here as Given}
+use Rattle.am_instance.specs.Site.{Given, asked_on, decided_by}
 use Rattle.am_tenant.specs.Names.{same}
 
 -- what an event needs, of a tenant: what is known is so, who waits for a reply had asked, and the cluster has what the

@@ -16,6 +16,7 @@ use Rattle.am_instance.specs.Bringing.{IsCause}
 use Rattle.am_instance.specs.Here.{here_on}
 use Rattle.am_instance.specs.Instance.{IsDown, bytes_in}
 use Rattle.am_instance.specs.Receiving.{StopsReceiving}
+pub use Rattle.am_instance.specs.Ticks.{Either}
 use Rattle.am_instance.specs.Ticks.{StopsTicking, Ticks}
 use Rattle.am_world.specs.Consistent.{around_at}
 use Rattle.am_world.specs.Places.{At, KeepRefused, Turns, cause_at, incarnation_at, instance_at, known_at}
@@ -25,7 +26,7 @@ use Rattle.am_world.specs.Refusal.{refusal}
 use Rattle.am_world.specs.Simulation.{fault_count, put_out, refused_by}
 use Rattle.am_world.specs.Steps.{Kept, clock_after}
 use Rattle.am_world.specs.declared.state.State.{State}
-use Rattle.am_site.specs.Reacting.{StopsReacting}
+use Rattle.am_instance.specs.Site.{StopsReacting}
 
 -- it is the instance of this number, where there is one
 abbrev pub is_that : Option ℕ → ℕ → Bool

@@ -7,8 +7,7 @@ ghost use Rattle.am_cluster.specs.RingChanges.{opened};
 ghost use Rattle.am_http.specs.Connections.{left_open};
 ghost use Rattle.am_http.specs.Verdict.{verdict};
 ghost use Rattle.am_rows.specs.Rows.{rows_of};
-ghost use Rattle.am_site.specs.Arriving.{IsRejected, with_brought};
-ghost use Rattle.am_site.specs.Reacting.{StopsReacting};
+ghost use Rattle.am_instance.specs.Site.{IsRejected, StopsReacting, with_brought};
 
 use am_event::{AttemptName, Output};
 use am_http::ConnectionId;
@@ -54,8 +53,7 @@ pub struct Beginning {
 }
 
 impl Instances {
-    ghost use Rattle.am_node.specs.Retiring.{retired as retired_in_node};
-    ghost use Rattle.am_replica.specs.Storing.{fault_in};
+    ghost use Rattle.am_instance.specs.Node.{fault_in, retired as retired_in_node};
     ghost use Rattle.am_instance.specs.Bringing.{Brings, IsCause};
     ghost use Rattle.am_instance.specs.Here.{Circumstances, circumstances, here_on};
     ghost use Rattle.am_instance.specs.Instance.{GoesOn, IsDown, IsSameNode, ReadsAlike, ReadsOn, Starts};
@@ -204,8 +202,8 @@ impl Instances {
         ensures reading { OnOk result ((c i : ℕ) → bytes_at c i self.new ≡
             (if i == number then (if c == connection then Some [] else bytes_at c i self.old)
             else bytes_at c i self.old)) }
-        ensures stays { Turns number (λ x x'. GoesOn x x' × (x'.site ≡ x.site) × (refused_in x' ≡ refused_in x))
-            self.old self.new }
+        ensures stays { Turns number (λ x x'. GoesOn x x' × (x'.site ≡ x.site) × (refused_in x' ≡ refused_in x)
+            × (x'.tenants ≡ x.tenants)) self.old self.new }
         ensures at { ChangesAt number self.old self.new }
     {
         self.list[place(number)].open(alloc, connection)
@@ -222,7 +220,7 @@ impl Instances {
         ensures reading { OnOk result (IsReadOnce connection self.old → (c i : ℕ) → bytes_at c i self.new ≡
             (if c == connection then (if i == number then Some [] else None) else bytes_at c i self.old)) }
         ensures beside { OnOk result ((i : ℕ) → Turns i (λ x x'. GoesOn x x' × (x'.site ≡ x.site)
-            × (refused_in x' ≡ refused_in x)) self.old self.new) }
+            × (refused_in x' ≡ refused_in x) × (x'.tenants ≡ x.tenants)) self.old self.new) }
         ensures numbered { AreNumbered self.new }
         ensures others { OnErr result (SameElsewhere number self.old self.new) }
         ensures same { Turns number GoesOn self.old self.new }
@@ -243,8 +241,8 @@ impl Instances {
     pub fn close(&mut self, number: Number, connection: ConnectionId)
         ensures reading { Turns number (λ x x'. (c : ℕ) →
             bytes_in c x' ≡ (if c == connection then None else bytes_in c x)) self.old self.new }
-        ensures stays { Turns number (λ x x'. GoesOn x x' × (x'.site ≡ x.site) × (refused_in x' ≡ refused_in x))
-            self.old self.new }
+        ensures stays { Turns number (λ x x'. GoesOn x x' × (x'.site ≡ x.site) × (refused_in x' ≡ refused_in x)
+            × (x'.tenants ≡ x.tenants)) self.old self.new }
         ensures at { ChangesAt number self.old self.new }
     {
         self.list[place(number)].close(connection);

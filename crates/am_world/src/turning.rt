@@ -4,8 +4,7 @@ ghost use Rattle.std.specs.Prelude.{◌≡◌, ◌+◌, ◌-◌, ◌^◌, ◌++�
 ghost use Rattle.std.specs.Prelude.{IfErr, IsSome, OnErr, OnOk};
 ghost use Rattle.am_cluster.specs.Delivery.{outcome};
 ghost use Rattle.am_http.specs.Verdict.{verdict};
-ghost use Rattle.am_site.specs.Arriving.{IsRejected, with_brought};
-ghost use Rattle.am_site.specs.Reacting.{StopsReacting};
+ghost use Rattle.am_instance.specs.Site.{IsRejected, StopsReacting, with_brought};
 
 use crate::posting::send_out;
 use crate::state::State;
@@ -19,8 +18,7 @@ use am_wire::Message;
 use std::alloc::Global;
 
 impl State {
-    ghost use Rattle.am_node.specs.Retiring.{retired as retired_in_node};
-    ghost use Rattle.am_replica.specs.Storing.{fault_in};
+    ghost use Rattle.am_instance.specs.Node.{fault_in, retired as retired_in_node};
     ghost use Rattle.am_instance.specs.Bringing.{Brings, IsCause};
     ghost use Rattle.am_instance.specs.Here.{here_on};
     ghost use Rattle.am_instance.specs.Instance.{GoesOn, IsDown, IsSameNode, ReadsOn, bytes_in, refused_in};

@@ -4,11 +4,11 @@ use super::links::Direct;
 use super::{ended, opened, play_on, stores};
 use am_expect::{equal, holds};
 use am_incarnation::greatest_incarnation;
+use am_play::OpenRefusal;
 use am_play::lines::LineReader;
 use am_play::writing::WholeWriter;
 use am_rows::StoreRefusal;
 use am_test_store::TestStore;
-use am_world::OpenRefusal;
 use std::alloc::Global;
 use std::test::Fail;
 

@@ -1,7 +1,7 @@
 use Rattle.std.proofs.Common.{◌≡◌, nat_eq, false, None, arith, rules}
 use Rattle.std.proofs.lemmas.Bool.Decides.{nat_tests}
 use Rattle.am_world.proofs.InstancesBegin.{IsRead, begins_again, begins_elsewhere, begins_first, quiet_closed}
-use Rattle.am_world.proofs.InstancesBegin.{quiet_opened}
+use Rattle.am_world.proofs.InstancesBegin.{quiet_opened, same_twice}
 use Rattle.am_world.proofs.instances.Instances.begin.Goals as goal
 
 pub returns-in-Some-clause-reading : goal.returns-in-Some-clause-reading
@@ -12,6 +12,12 @@ returns-in-Some-clause-reading c =
     begins_elsewhere c.args.connection c.args.number c.in-Some.reader c.args.self.now c.open.new.self c.close.new.self
     (rw c.self.view_is at c.self.invariant) c.open.ensures.at.numbered read apart c.in_ok-open.ensures.reading
     (rw c.in-Some.is at c.close.ensures.at) (rw c.in-Some.is at c.close.ensures.reading)
+
+pub returns-in-Some-clause-beside : goal.returns-in-Some-clause-beside
+returns-in-Some-clause-beside c =
+    same_twice c.args.number _ c.args.self.now c.open.new.self c.close.new.self
+    (rw c.self.view_is at c.self.invariant) c.open.ensures.at c.open.ensures.stays c.close.ensures.at
+    c.close.ensures.stays
 
 pub returns-in-Some-clause-quiet : goal.returns-in-Some-clause-quiet
 returns-in-Some-clause-quiet c i quiet up =

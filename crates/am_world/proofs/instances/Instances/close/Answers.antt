@@ -21,7 +21,7 @@ returns-clause-stays c =
     let change = changed xs c.place.result c.args.number _ c.close.new.self c.self.invariant c.place.ensures.place
     c.place.ensures.range c.index_mut.ensures.value (c.close.ensures.stays.number) in
     rw (← c.self.view_is) (turns_here _ c.args.number xs _ _ _ change
-    (c.close.ensures.stays, c.close.ensures.site, c.close.ensures.refused))
+    (c.close.ensures.stays, c.close.ensures.site, c.close.ensures.refused, c.close.ensures.tenants))
 
 pub returns-clause-at : goal.returns-clause-at
 returns-clause-at c =

@@ -26,7 +26,7 @@ returns-clause-stays c =
     let change = changed xs c.place.result c.args.number _ c.open.new.self c.self.invariant c.place.ensures.place
     c.place.ensures.range c.index_mut.ensures.value (c.open.ensures.stays.number) in
     rw (← c.self.view_is) (turns_here _ c.args.number xs _ _ _ change
-    (c.open.ensures.stays, c.open.ensures.site, c.open.ensures.refused))
+    (c.open.ensures.stays, c.open.ensures.site, c.open.ensures.refused, c.open.ensures.tenants))
 
 pub returns-clause-at : goal.returns-clause-at
 returns-clause-at c =

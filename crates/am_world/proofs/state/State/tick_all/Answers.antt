@@ -6,7 +6,7 @@ use Rattle.std.proofs.lemmas.Option.{slice_get-get_or}
 use Rattle.am_ring.specs.Instances.{all_instances, is_among}
 use Rattle.am_instance.specs.Leaving.{LeavesShelf}
 use Rattle.am_instance.specs.Shelves.{shelf_of}
-use Rattle.am_node.specs.Retiring.{retired}
+use Rattle.am_instance.specs.Node.{retired}
 use Rattle.am_world.specs.Leaving.{stop_at, stored_of}
 use Rattle.am_world.specs.Ticks.{TakeTurns}
 use Rattle.am_world.proofs.Shelved.{backed_put, backed_there, cleaner_put, cleaner_then, never_cleaner}
