@@ -1,4 +1,5 @@
 pub mod BreakLemmas
+pub mod ChangingLemmas
 pub mod LinesLemmas
 pub mod MailLemmas
 pub mod NamesLemmas

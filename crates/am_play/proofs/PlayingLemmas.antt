@@ -70,6 +70,12 @@ refusal_same w w' (event.Tick moment) forgets = rw forgets.beside.clock refl
 refusal_same w w' (event.Outcome attempt tries moment status) forgets = rw forgets.instances refl
 refusal_same w w' (event.Deliver name moment) forgets = rw forgets.messages refl
 refusal_same w w' (event.Lose name) forgets = rw forgets.messages refl
+refusal_same w w' (event.Join i) forgets = rw (forgets.instances, forgets.beside.common) refl
+refusal_same w w' (event.Leave i) forgets = rw (forgets.instances, forgets.beside.common) refl
+refusal_same w w' (event.Crash i) forgets = rw (forgets.instances, forgets.beside.common) refl
+refusal_same w w' (event.Restart i) forgets = rw (forgets.instances, forgets.beside.common) refl
+refusal_same w w' (event.Learn i) forgets = rw (forgets.instances, forgets.beside.common) refl
+refusal_same w w' (event.Force tenant) forgets = refl
 
 -- whether an event was refused, by what came of it
 pub taken_none : {T : Type 0} (o : Option Refused) (r : Result T Refused) (x : T) → r ≡ Ok x →

@@ -9,20 +9,25 @@ use Rattle.am_world.specs.Refusal.{refusal}
 use Rattle.am_world.specs.Runs.{Alone, Forgets, Origin, first_watch, names_once}
 use Rattle.am_world.specs.Opening.{Opens}
 use Rattle.am_world.specs.Simulation.{fault_count, message_named, put_out, refused_by}
-use Rattle.am_world.specs.Stopping.{Either, Step}
+use Rattle.am_world.specs.Stopping.{Step}
+use Rattle.am_world.specs.Stopping.{Either}
+use Rattle.am_ring.specs.Instances.{all_instances}
+use Rattle.std.specs.List.{concat}
+use Rattle.am_world.specs.Runs.{first_watch, names_once}
 use Rattle.am_world.proofs.RunTaken.{Steps, alone}
 use Rattle.am_scenario.specs.Line.{command_of}
 use Rattle.am_play.specs.Link.{Answers, Carries}
 use Rattle.am_play.specs.Mail.{name_said}
 use Rattle.am_play.specs.Playing.{Happens, Come, Gives, Calls, Obeys, Settles, Does, Plays, goes_on}
 use Rattle.am_play.specs.Playing.{Hands, PassedOver, Reaches, Travels}
+use Rattle.am_play.specs.Playing.{LearnsEach, LearnsInRounds, event_of, is_behind}
 use Rattle.am_play.specs.Scenario.{Course, AloneUntilFault}
 use Rattle.am_play.specs.Streams.{KnownLines}
 use Rattle.am_play.specs.Trace.{Happened, events, outputs, no_fault, unbuilt, unbuilt_after}
 use Rattle.am_play.specs.Tries.{tries_in}
 use Rattle.am_scenario.specs.declared.command.Command.{Command}
 use Rattle.am_scenario.specs.declared.command.Command.TheVariants.{Skip, At, Tick, Open, Bytes, Call, Limits, Pump, Hook}
-use Rattle.am_scenario.specs.declared.command.Command.TheVariants.{Drop, Deliver}
+use Rattle.am_scenario.specs.declared.command.Command.TheVariants.{Drop, Deliver, Change, LearnAll}
 use Rattle.am_messages.specs.declared.name.MessageName.{MessageName}
 use Rattle.am_wire.specs.Messages.{IsRefusalOf}
 use Rattle.am_wire.specs.declared.message.Message.{Message}
@@ -123,6 +128,28 @@ hands_traced {R} carries (one ∷ more) p p' trace (mail, mid, first, rest, wait
     (over_traced carries (message_named one.0.name p.world.state) one.0.name (record p { mail = mail }) mid one.1 first over)
     (hands_traced carries more mid p' rest later))
 
+-- instances learned a ring
+if_behind_traced : {R : Type 0} (b : Bool) (i : ℕ) (p p' : Player R) (trace : List Happened) →
+    Either b (Happens p (event.Learn i) p' trace) ((p' ≡ p) × (trace ≡ [])) → Traced p.world.state trace p'.world.state
+if_behind_traced true i p p' trace happens = happens_traced p (event.Learn i) p' trace happens
+if_behind_traced {R} false i p p' trace (same, nothing) =
+    traced_nothing p p' trace (ap (λ (x : Player R). x.world.state) same) nothing
+
+each_traced : {R : Type 0} (numbers : List ℕ) (p p' : Player R) (trace : List Happened) →
+    LearnsEach numbers p p' trace → Traced p.world.state trace p'.world.state
+each_traced {R} [] p p' trace (same, nothing) =
+    traced_nothing p p' trace (ap (λ (x : Player R). x.world.state) same) nothing
+each_traced {R} (i ∷ numbers) p p' trace (mid, first, rest, learns, both, later) =
+    rw both (traced_more p.world.state first rest mid.world.state p'.world.state
+    (if_behind_traced (is_behind p i) i p mid first learns) (each_traced numbers mid p' rest later))
+
+rounds_traced : {R : Type 0} (rounds : List (List Happened)) (p p' : Player R) → LearnsInRounds rounds p p' →
+    Traced p.world.state (concat rounds) p'.world.state
+rounds_traced {R} [] p p' same = traced_nothing p p' [] (ap (λ (x : Player R). x.world.state) same) refl
+rounds_traced {R} (round ∷ rounds) p p' (mid, learns, later) =
+    traced_more p.world.state round (concat rounds) mid.world.state p'.world.state
+    (each_traced all_instances p mid round learns) (rounds_traced rounds mid p' later)
+
 obeys_traced : {R : Type 0} (carries : Carries) (p : Player R) (command : Command) (p' : Player R) (trace : List Happened) →
     Obeys carries p command p' trace →
     Traced p.world.state trace p'.world.state
@@ -141,6 +168,9 @@ obeys_traced {R} carries p (Drop way) p' trace (same, nothing) =
 obeys_traced {R} carries p (Deliver said) p' trace (mid, happens, forgets) =
     rw (world_kept (is_none (refusal p.world.state (event.Deliver (name_said said) p.moment))) mid p' _ refl forgets)
     (happens_traced p _ mid trace happens)
+obeys_traced {R} carries p (Change change) p' trace happens = happens_traced p (event_of change) p' trace happens
+obeys_traced {R} carries p LearnAll p' trace learns =
+    rw learns.traced (rounds_traced learns.rounds p p' learns.learns)
 obeys_traced {R} carries p Tick p' trace happens = happens_traced p (event.Tick p.moment) p' trace happens
 obeys_traced {R} carries p (Limits tenant limits) p' trace happens =
     happens_traced p (event.Limits tenant limits) p' trace happens

@@ -1,7 +1,7 @@
 -- What playing a scenario does: the trace of the events that the world gets, and what is written of each.
-use Rattle.std.specs.Prelude.{◌≡◌, ℕ, ◌+◌, ◌≤◌, nat_lt, nat_le, Bool, true, false, ◌&&◌, not, is_none}
+use Rattle.std.specs.Prelude.{◌≡◌, ℕ, ◌+◌, ◌-◌, ◌^◌, ◌≤◌, ◌<◌, nat_lt, nat_le, Bool, true, false, ◌&&◌, not, is_none}
 use Rattle.std.specs.Prelude.{◌⊎◌, List, [], ◌∷◌, ◌++◌, length, min, filter, Option, Some, MatchOption, IsSome, codes, decimal}
-use Rattle.std.specs.List.{All as Each, concat, list_all}
+use Rattle.std.specs.List.{All as Each, concat, list_all, list_any}
 use Rattle.am_event.specs.declared.event.Event.{Event}
 use Rattle.am_event.specs.declared.event.Event.TheVariants as event
 use Rattle.am_world.specs.declared.state.State.{State}
@@ -10,9 +10,12 @@ use Rattle.am_world.specs.Refusal.{refusal}
 use Rattle.am_world.specs.Simulation.{fault_count, message_named, put_out, refused_by}
 use Rattle.am_world.specs.Stopping.{Either, Step}
 use Rattle.am_messages.specs.declared.name.MessageName.{MessageName}
+use Rattle.am_ring.specs.Instances.{all_instances}
+use Rattle.am_scenario.specs.declared.command.ClusterChange.{ClusterChange}
+use Rattle.am_scenario.specs.declared.command.ClusterChange.TheVariants.{Join, Leave, Crash, Restart, Learn, Force}
 use Rattle.am_scenario.specs.declared.command.Command.{Command}
 use Rattle.am_scenario.specs.declared.command.Command.TheVariants.{Skip, At, Tick, Open, Bytes, Call}
-use Rattle.am_scenario.specs.declared.command.Command.TheVariants.{Limits, Pump, Drop, Deliver, Hook}
+use Rattle.am_scenario.specs.declared.command.Command.TheVariants.{Limits, Pump, Drop, Deliver, Hook, Change, LearnAll}
 use Rattle.am_wire.specs.Messages.{IsRefusalOf, Spells}
 use Rattle.am_wire.specs.declared.message.Message.{Message}
 use Rattle.am_wire.specs.declared.refusal.EncodeRefusal.{EncodeRefusal}
@@ -164,6 +167,45 @@ naming name p = record p { connections = with_name name p.connections }
 abbrev pub instance_of : ℕ → ℕ
 instance_of i = min i 255
 
+-- a change of the cluster, as an event
+abbrev pub event_of : ClusterChange → Event
+event_of (Join i) = event.Join (instance_of i)
+event_of (Leave i) = event.Leave (instance_of i)
+event_of (Crash i) = event.Crash (instance_of i)
+event_of (Restart i) = event.Restart (instance_of i)
+event_of (Learn i) = event.Learn (instance_of i)
+event_of (Force tenant) = event.Force tenant
+
+-- an instance is behind where it can learn a ring
+abbrev pub is_behind : {R : Type 0} → Player R → ℕ → Bool
+is_behind p i = is_none (refusal p.world.state (event.Learn i))
+
+-- an instance learned the next ring, if it was behind
+abbrev pub LearnsIfBehind : {R : Type 0} → ℕ → Player R → Player R → List Happened → Type 0
+LearnsIfBehind i p p' trace =
+    Either (is_behind p i) (Happens p (event.Learn i) p' trace) ((p' ≡ p) × (trace ≡ []))
+
+-- .. each of these, one after the other
+abbrev pub LearnsEach : {R : Type 0} → List ℕ → Player R → Player R → List Happened → Type 0
+LearnsEach {R} [] p p' trace = (p' ≡ p) × (trace ≡ [])
+LearnsEach {R} (i ∷ more) p p' trace =
+    (mid : Player R) × (first rest : List Happened) × LearnsIfBehind i p mid first
+    × (trace ≡ first ++ rest) × LearnsEach more mid p' rest
+
+-- .. all instances, in rounds, each with what happened in it
+abbrev pub LearnsInRounds : {R : Type 0} → List (List Happened) → Player R → Player R → Type 0
+LearnsInRounds {R} [] p p' = p' ≡ p
+LearnsInRounds {R} (round ∷ rounds) p p' =
+    (mid : Player R) × LearnsEach all_instances p mid round × LearnsInRounds rounds mid p'
+
+-- .. until none was behind; no instance can lack as many rings as there are rounds at most
+pub record LearnsAll {R : Type 0} (p p' : Player R) (trace : List Happened) : Type 0 where
+  pub rounds : List (List Happened)
+  pub learns : LearnsInRounds rounds p p'
+  pub traced : trace ≡ concat rounds
+  pub bound : length rounds < 2 ^ 64
+  pub over : (list_any (is_behind p') all_instances ≡ false) ⊎ (length rounds ≡ 2 ^ 64 - 1)
+
 -- a connection was opened, and then, unless that was refused, a whole request came on it
 abbrev pub Calls : {R : Type 0} → Carries → ℕ → Player R → ℕ → List ℕ → Player R → List Happened → Type 0
 Calls {R} carries c p i text p' trace =
@@ -189,6 +231,8 @@ Obeys carries p (Call name i request) p' trace =
     OnNamed p name (λ c q. Calls carries c q (instance_of i) (request_text request) p' trace)
 Obeys carries p (Drop way) p' trace = (p' ≡ dropping way p) × (trace ≡ [])
 Obeys carries p (Deliver said) p' trace = Delivers (name_said said) p p' trace
+Obeys carries p (Change change) p' trace = Happens p (event_of change) p' trace
+Obeys carries p LearnAll p' trace = LearnsAll p p' trace
 
 -- each of these tries got its outcome, one after the other: with the status that was read of what the receiver, to
 -- which its request went, answers now

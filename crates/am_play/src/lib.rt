@@ -1,6 +1,7 @@
 //! Plays a scenario against a world, and tells how it ended.
 #![tactic(auto)]
 
+mod changing;
 mod connections;
 pub mod ending;
 pub mod lines;

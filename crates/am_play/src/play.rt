@@ -12,6 +12,7 @@ ghost use Rattle.am_play.specs.Trace.{Happened, Reports, printed, output_line};
 ghost use Rattle.am_play.specs.Tries.{tries_in, try_of};
 ghost use Rattle.am_play.specs.Writing.{AppendsPart};
 
+use crate::changing::{event_of, instance_of};
 use crate::connections::Connections;
 use crate::link::Link;
 use crate::mail::Mail;
@@ -212,6 +213,8 @@ impl<R: Rows + Drop> Player<R> {
             Command::Pump => self.pump(alloc, link, report)?,
             Command::Drop(way) => self.drop_oldest(&way),
             Command::Deliver(said) => self.deliver(alloc, name_said(&said), report)?,
+            Command::Change(change) => self.bring(alloc, &event_of(&change), report)?,
+            Command::LearnAll => self.learn_all(alloc, report)?,
             Command::Limits { tenant, limits } => {
                 self.bring(alloc, &Event::Limits { tenant, limits }, report)?;
             }
@@ -266,7 +269,7 @@ impl<R: Rows + Drop> Player<R> {
         Ok(())
     }
 
-    /// Opens a connection, and says whether the world took it. No ring has an instance past 255.
+    /// Opens a connection, and says whether the world took it.
     fn open(
         &mut self,
         alloc: Global,
@@ -281,7 +284,7 @@ impl<R: Rows + Drop> Player<R> {
     {
         let event = Event::Open {
             connection,
-            instance: instance.min(u64::from(u8::MAX)) as u8,
+            instance: instance_of(instance),
         };
         self.happen(alloc, &event, report)
     }
@@ -324,7 +327,12 @@ impl<R: Rows + Drop> Player<R> {
     }
 
     /// Hands an event to the world, whether it is taken or not.
-    fn bring(&mut self, alloc: Global, event: &Event, report: &mut Report) -> Result<(), AllocError>
+    pub(crate) fn bring(
+        &mut self,
+        alloc: Global,
+        event: &Event,
+        report: &mut Report,
+    ) -> Result<(), AllocError>
         ensures { OnOk result (Reports report.old report.new (Happens self.old event.now self.new)) }
     {
         self.happen(alloc, event, report)?;

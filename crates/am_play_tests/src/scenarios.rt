@@ -1,10 +1,13 @@
 //! Whole scenarios. What they must print was computed apart from this program.
 
 mod asked;
+mod dropped;
+mod faulty;
 mod isolation;
 mod kept;
 pub mod links;
 mod pieces;
+mod ring;
 mod streams;
 
 use am_expect::{equal, holds};
@@ -308,7 +311,7 @@ const SCENARIOS: [(&str, &str); 19] = [
 ];
 
 // Lines that are no command.
-const BAD_LINES: [&[u8]; 32] = [
+const BAD_LINES: [&[u8]; 38] = [
     b"ticks",
     b"tick ",
     b" tick",
@@ -335,7 +338,13 @@ const BAD_LINES: [&[u8]; 32] = [
     b"call c 1 a GET /x ",
     b"call c 1  GET /x",
     b"call c 1 a GET /x []",
-    b"join 4",
+    b"join",
+    b"join four",
+    b"leave 4 5",
+    b"restart ",
+    b"learn every",
+    b"force",
+    b"force a|b",
     b"drop a 1 1",
     b"deliver a 1 1 2",
     b"hook",

@@ -19,10 +19,10 @@ use Rattle.am_instance.specs.declared.instance.Instance.{Instance}
 use Rattle.am_world.specs.Places.{bytes_at, reader_of, up_at}
 use Rattle.am_world.specs.Refusal.{refusal}
 use Rattle.am_world.specs.Simulation.{Follows, Stands, bytes_read}
-use Rattle.am_world.specs.Steps.{Kept}
 use Rattle.am_world.specs.declared.state.State.{State}
 use Rattle.am_tenant.proofs.Same.{same_tells}
 use Rattle.am_tenant.specs.Names.{same}
+use Rattle.am_world.proofs.Beside.{Kept}
 use Rattle.am_world.proofs.KeptQuiet.{IsNothing, kept_nothing, nothing_at_all, nothing_refused}
 use Rattle.am_world.proofs.RunPlaces.{same_number}
 use Rattle.am_world.proofs.RefusalSeen.{deliver_same, lose_same, nobody_reads, outcome_same}

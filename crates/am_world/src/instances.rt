@@ -26,7 +26,7 @@ pub(crate) const NUMBERS: [u8; 8] = [1, 2, 3, 4, 5, 6, 7, 8];
 /// All instances, in order of number.
 #[derive(Drop)]
 pub struct Instances {
-    list: Vec<Instance>,
+    pub(crate) list: Vec<Instance>,
 }
 
 impl Model for Instances {
@@ -181,7 +181,7 @@ impl Instances {
 
     // The instance of a number.
     #[tactic(auto, unfolding(crate::specs::Places::instance_at))]
-    fn at(&self, number: u8) -> Option<&Instance>
+    pub(crate) fn at(&self, number: u8) -> Option<&Instance>
         ensures { option_copied result ≡ instance_at number self.now }
     {
         for instance in &self.list {

@@ -49,7 +49,7 @@ impl Drop for State {
 }
 
 impl State {
-    ghost use Rattle.am_world.specs.Consistent.{IsConsistent, around_at};
+    ghost use Rattle.am_world.specs.Consistent.{IsConsistent, around_at, over};
     ghost use Rattle.am_world.specs.Leaving.{LeavesShelves};
     ghost use Rattle.am_world.specs.Opening.{FailsToOpen, FailsWith, IsSameBesideInstances, IsUnopened, Opens};
     ghost use Rattle.am_world.specs.Opening.{OpensAt, StayOutside, first_ring, origin_of};
@@ -75,7 +75,8 @@ impl State {
     ) -> Result<State, OpenRefusal>
         requires { length stores.old ≡ 8 }
         ensures opens { AreClean (shelves_of R.Rows stores.new) → IfOk result
-            (Opens (origin_of setup.origin) (rows_in (shelves_of R.Rows stores.old))) }
+            (λ state. Opens (origin_of setup.origin) (rows_in (shelves_of R.Rows stores.old))
+            (over state (shelves_of R.Rows stores.new))) }
         ensures clean { NeverCleaner (shelves_of R.Rows stores.old) (shelves_of R.Rows stores.new) }
         ensures consistent { IfOk result IsConsistent }
         ensures backed { IfOk result (λ state. AreBacked state.instances (shelves_of R.Rows stores.new)) }
@@ -144,11 +145,11 @@ impl State {
     ) -> Result<(), Refused>
         requires consistent { IsConsistent self.old }
         requires backed { AreBacked self.old.instances (shelves_of R.Rows stores.old) }
-        ensures step { Step self.old event.now self.new }
+        ensures step { Step (over self.old (shelves_of R.Rows stores.old)) event.now
+            (over self.new (shelves_of R.Rows stores.new)) }
         ensures refused { MatchOption (refusal self.old event.now) (IsOk result) (λ r. result ≡ Err r) }
         ensures err { OnErr result ((self.new ≡ self.old) × (stores.new ≡ stores.old)) }
         ensures consistent { IsConsistent self.new }
-        ensures clean { NeverCleaner (shelves_of R.Rows stores.old) (shelves_of R.Rows stores.new) }
         ensures backed { AreBacked self.new.instances (shelves_of R.Rows stores.new) }
         ensures left { LeavesShelves R.rejects self.old event.now self.new
             (shelves_of R.Rows stores.old) (shelves_of R.Rows stores.new) }
@@ -183,6 +184,15 @@ impl State {
             }
             Event::Deliver { message, moment } => self.on_deliver(alloc, message, *moment, stores),
             Event::Lose { message } => self.on_lose(message),
+            Event::Join { instance } => self.on_join(alloc, *instance, stores),
+            Event::Leave { instance } => self.on_leave(alloc, *instance, stores),
+            Event::Crash { instance } => self.on_crash(alloc, *instance),
+            Event::Restart { instance } => self.on_restart(alloc, *instance, stores),
+            Event::Learn { instance } => self.on_learn(alloc, *instance, stores),
+            Event::Force { tenant } => {
+                self.on_force(alloc, tenant);
+                Ok(())
+            }
         }
     }
 
@@ -191,9 +201,12 @@ impl State {
     pub fn run<R: Rows>(&mut self, alloc: Global, events: &[Event], stores: &mut [R])
         requires consistent { IsConsistent self.old }
         requires backed { AreBacked self.old.instances (shelves_of R.Rows stores.old) }
-        ensures steps { Run self.old events.now self.new }
-        ensures headline { Headline self.old events.now self.new }
-        ensures prefixes { Prefixes self.old events.now self.new }
+        ensures steps { Run (over self.old (shelves_of R.Rows stores.old)) events.now
+            (over self.new (shelves_of R.Rows stores.new)) }
+        ensures headline { Headline (over self.old (shelves_of R.Rows stores.old)) events.now
+            (over self.new (shelves_of R.Rows stores.new)) }
+        ensures prefixes { Prefixes (over self.old (shelves_of R.Rows stores.old)) events.now
+            (over self.new (shelves_of R.Rows stores.new)) }
         ensures consistent { IsConsistent self.new }
         ensures clean { NeverCleaner (shelves_of R.Rows stores.old) (shelves_of R.Rows stores.new) }
         ensures backed { AreBacked self.new.instances (shelves_of R.Rows stores.new) }

@@ -34,7 +34,12 @@ pump
 "#;
 
 /// The line of a reply with this status and body.
-fn reply_line(alloc: Global, connection: &str, status: &str, body: &str) -> Result<String, Fail> {
+pub fn reply_line(
+    alloc: Global,
+    connection: &str,
+    status: &str,
+    body: &str,
+) -> Result<String, Fail> {
     let length = body.len();
     let head = "Content-Type: application/json\r\nContent-Length";
     let reply = format!(in alloc;
