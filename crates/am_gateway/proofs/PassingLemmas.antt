@@ -1,5 +1,6 @@
 use Rattle.std.proofs.Common.{◌≡◌, ◌∙◌, ◌<◌, ◌≤◌, ◌+◌, ℕ, zero, suc, Bool, true, false, List, [], ◌∷◌, ◌++◌, Option, None, Some}
-use Rattle.std.proofs.Common.{◌⊎◌, inl, inr, length, length-append, get_or, take, drop, refl, sym, ap, subst, arith, append_assoc, append-nil}
+use Rattle.std.proofs.Common.{◌⊎◌, inl, inr, length, length-append, get_or, take, drop, refl, sym, ap, subst, arith}
+use Rattle.std.proofs.Common.{append_assoc, append-nil}
 use Rattle.std.specs.Prelude.{nat_lt, slice_get, if◌then◌else◌}
 use Rattle.std.specs.List.{flat_map}
 use Rattle.std.proofs.lemmas.Bool.{cases_lt, le-ltb, lt-ltb}
@@ -27,8 +28,8 @@ pub one_step : (w : Contents) (e : Event) (w' : Contents) → Step w e w' → Ru
 one_step w e w' step = (w', step, refl)
 
 -- a message at a place is delivered, unless a million outputs come before it
-pub delivered : (place moment : ℕ) (name : MessageName) (w w' : Contents) → place < 1000000 → Step w (Deliver name moment) w'
-    → Run w (deliveries_at place moment (Some name)) w'
+pub delivered : (place moment : ℕ) (name : MessageName) (w w' : Contents) → place < 1000000
+    → Step w (Deliver name moment) w' → Run w (deliveries_at place moment (Some name)) w'
 delivered place moment name w w' within step =
     subst (λ (is : Bool). Run w (if is then Deliver name moment ∷ [] else []) w') (sym (lt-ltb place 1000000 within))
     (one_step w (Deliver name moment) w' step)
@@ -147,16 +148,18 @@ next_passes moment place old new adds within =
     ∙ more_at moment place (take place old) one.0 (length-take-le place old (omega (arith, within)))
     ∙ ap (λ message. passes moment (take place old) ++ passes_at place moment message) (sym (ap message_where one.1))
 
-pub one_passed : (first now new : Contents) (moment place : ℕ) → Passed first now moment place → place < length (put_out now.state)
-    → Run now (passes_at place moment (message_at place (put_out now.state))) new → AddsTo (put_out now.state) (put_out new.state)
-    → Passed first new moment (place + 1)
+pub one_passed : (first now new : Contents) (moment place : ℕ) → Passed first now moment place
+    → place < length (put_out now.state)
+    → Run now (passes_at place moment (message_at place (put_out now.state))) new
+    → AddsTo (put_out now.state) (put_out new.state) → Passed first new moment (place + 1)
 one_passed first now new moment place before within run adds = record {
   within = omega (arith, ap length adds.1, length-append (put_out now.state) adds.0, within);
-  run = subst (λ es. Run first es new) (sym (next_passes moment place (put_out now.state) (put_out new.state) adds within))
+  run = subst (λ es. Run first es new)
+      (sym (next_passes moment place (put_out now.state) (put_out new.state) adds within))
       (run_both first now new _ _ before.run run);
 }
 
-pub all_passed : (first now : Contents) (moment place : ℕ) → Passed first now moment place → length (put_out now.state) ≤ place
-    → Run first (passes moment (put_out now.state)) now
+pub all_passed : (first now : Contents) (moment place : ℕ) → Passed first now moment place
+    → length (put_out now.state) ≤ place → Run first (passes moment (put_out now.state)) now
 all_passed first now moment place passed over =
     subst (λ outs. Run first (passes moment outs) now) (take_all place (put_out now.state) over) passed.run

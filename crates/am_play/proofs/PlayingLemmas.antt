@@ -7,9 +7,10 @@ use Rattle.am_event.specs.declared.event.Event.{Event}
 use Rattle.am_event.specs.declared.event.Event.TheVariants as event
 use Rattle.am_event.specs.declared.refused.Refused.{Refused}
 use Rattle.am_world.specs.declared.state.State.{State}
+use Rattle.am_world.specs.Consistent.{Contents}
 use Rattle.am_world.specs.Places.{up_at}
 use Rattle.am_world.specs.Refusal.{refusal}
-use Rattle.am_world.specs.Runs.{Forgets}
+use Rattle.am_world.specs.Runs.{Forgets, ForgetsOver}
 use Rattle.am_world.specs.Simulation.{put_out}
 use Rattle.am_world.specs.Stopping.{Either, Step}
 use Rattle.am_play.specs.declared.play.Player.{Player}
@@ -93,10 +94,10 @@ refused_some (Some d) r e is told =
     ap Some same
 
 -- an event came and was reported: its outputs, and then its refusal
-pub reports_event : {R : Type 0} (p : Player R) (e : Event) (p' : Player R) (before : State) (refused : Option Refused)
-    (old new : Report) →
-    Forgets p.world.state before → Step before e p'.world.state → refusal before e ≡ refused →
-    (IsSome refused → p'.world.state ≡ before) →
+pub reports_event : {R : Type 0} (p : Player R) (e : Event) (p' : Player R) (before : Contents)
+    (refused : Option Refused) (old new : Report) →
+    ForgetsOver p.world before → Step before e p'.world → refusal before.state e ≡ refused →
+    (IsSome refused → p'.world ≡ before) →
     p'.connections ≡ p.connections → p'.moment ≡ p.moment → p'.hook ≡ p.hook →
     p'.mail ≡ p.mail ++ letters_in (put_out p'.world.state) →
     string_bytes new.text ≡
@@ -104,7 +105,8 @@ pub reports_event : {R : Type 0} (p : Player R) (e : Event) (p' : Player R) (bef
     new.tries.items ≡ old.tries.items ++ tries_in (put_out p'.world.state) →
     Reports old new (Happens p e p')
 reports_event p e p' before refused old new forgets step is same connections moment hook mail text tries =
-    let seen : refusal p.world.state e ≡ refused = sym (refusal_same p.world.state before e forgets) ∙ is in
+    let seen : refusal p.world.state e ≡ refused =
+    sym (refusal_same p.world.state before.state e forgets.forgets) ∙ is in
     let lines = flat_map (output_line p.connections) (put_out p'.world.state) in (
       happened p e p' ∷ [],
       record {

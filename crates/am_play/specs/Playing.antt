@@ -4,9 +4,9 @@ use Rattle.std.specs.Prelude.{◌⊎◌, List, [], ◌∷◌, ◌++◌, length, 
 use Rattle.std.specs.List.{All as Each, concat, list_all, list_any}
 use Rattle.am_event.specs.declared.event.Event.{Event}
 use Rattle.am_event.specs.declared.event.Event.TheVariants as event
-use Rattle.am_world.specs.declared.state.State.{State}
-use Rattle.am_world.specs.Runs.{Forgets}
+use Rattle.am_world.specs.Consistent.{Contents}
 use Rattle.am_world.specs.Refusal.{refusal}
+use Rattle.am_world.specs.Runs.{ForgetsOver}
 use Rattle.am_world.specs.Simulation.{fault_count, message_named, put_out, refused_by}
 use Rattle.am_world.specs.Stopping.{Either, Step}
 use Rattle.am_messages.specs.declared.name.MessageName.{MessageName}
@@ -43,15 +43,16 @@ happened p e p' = record {
   names = p.connections;
   faults = fault_count p'.world.state;
   unbuilt = refused_by p'.world.state;
+  shelves = p'.world.shelves;
 }
 
 -- an event came to the world, which forgot its outputs first; a refused one did nothing. The messages that this sent
 -- wait behind the others
 pub record Happens {R : Type 0} (p : Player R) (e : Event) (p' : Player R) (trace : List Happened) : Type 0 where
-  pub before : State
-  pub forgets : Forgets p.world.state before
-  pub step : Step before e p'.world.state
-  pub refused : IsSome (refusal p.world.state e) → p'.world.state ≡ before
+  pub before : Contents
+  pub forgets : ForgetsOver p.world before
+  pub step : Step before e p'.world
+  pub refused : IsSome (refusal p.world.state e) → p'.world ≡ before
   pub connections : p'.connections ≡ p.connections
   pub moment : p'.moment ≡ p.moment
   pub hook : p'.hook ≡ p.hook
@@ -269,8 +270,8 @@ Plays {R} carries answers n p (line ∷ lines) played trace p' = MatchOption (co
 
 -- where a scenario begins: a world, no connection, the moment 0, a receiver that takes all notices, and no message
 -- that waits
-pub record IsStart {R : Type 0} (w : State) (p : Player R) : Type 0 where
-  pub begins : p.world.state ≡ w
+pub record IsStart {R : Type 0} (c : Contents) (p : Player R) : Type 0 where
+  pub begins : p.world ≡ c
   pub connections : p.connections ≡ []
   pub moment : p.moment ≡ 0
   pub hook : p.hook ≡ Some 200

@@ -44,14 +44,15 @@ pub enum Played {
     BadLine(u64),
 }
 
-/// Plays the scenario that `source` gives against a world, and writes its output lines to `writer`. What a line gives to a
-/// connection goes over the link in pieces, and ends where one is lost. Each notice goes over it too, and the outcome of its try
-/// has the status that was read of the answer. The world's stores are handed back, each at its last commit.
+/// Plays the scenario that `source` gives against a world, and writes its output lines to `writer`. What a line gives to
+/// a connection goes over the link in pieces, and ends where one is lost. Each notice goes over it too, and the outcome
+/// of its try has the status that was read of the answer. The world's stores are handed back, each at its last commit.
 ///
-/// What is written are the lines of a trace: what happened, event by event. Where the world was just opened, a tenant's outputs in
-/// it are, whatever the other tenants do, byte for byte and in order, those of a private cluster that has this tenant alone and
-/// begins with its rows; provided that no connection's name is opened twice and no pattern that the tenant brings was refused its
-/// build, and up to a first fault.
+/// What is written are the lines of a trace: what happened, event by event. Where the world was just opened, a tenant's
+/// outputs in it are, whatever the other tenants do, byte for byte and in order, those of a private cluster that has
+/// this tenant alone and begins with its rows; provided that no connection's name is opened twice, no pattern that the
+/// tenant brings was refused its build, and each store that a line opens is in memory or its disk has returned what was
+/// written; and up to a first fault.
 ///
 /// # Errors
 /// Out of memory, or an error that one of the streams gave. What was written stays, and is a first part of what is
@@ -66,11 +67,10 @@ pub fn play<R: Rows + Drop, L: Link, S: Source, K: Sink, E: Sink>(
 ) -> Result<(Played, Vec<R>), StreamFailure>
     // Where the lines of the source aren't known, there are lines of which this holds.
     ensures plays { IfOk result (λ r. (trace : List Happened) × (faults : ℕ)
-        × Scenario R L.carries L.answers world.state (S.lines source) r.0 trace faults
-        (shelves_of R.Rows r.1.items)
+        × Scenario R L.carries L.answers world (S.lines source) r.0 trace faults (shelves_of R.Rows r.1.items)
         × Appends (K.contents writer.old) (K.contents writer.new) (printed trace ++ ending r.0 faults)
-        × IsolatesTenants world.state trace faults) }
-    ensures breaks { OnErr result (ScenarioBreaks R L.carries L.answers world.state (S.lines source)
+        × IsolatesTenants world trace faults (shelves_of R.Rows r.1.items)) }
+    ensures breaks { OnErr result (ScenarioBreaks R L.carries L.answers world (S.lines source)
         (K.contents writer.old) (K.contents writer.new)) }
     ensures stores { IfOk result (λ r. length r.1.items ≡ 8) }
     ensures causes { IfErr result (IsFailureOf

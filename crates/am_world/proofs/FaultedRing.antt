@@ -14,7 +14,7 @@ use Rattle.am_messages.specs.declared.messages.Posted.{Posted}
 use Rattle.am_instance.specs.Instance.{HasMore, IsSameNode, refused_in}
 use Rattle.am_instance.specs.Shelves.{Shelf}
 use Rattle.am_instance.specs.declared.instance.Instance.{Instance}
-use Rattle.am_world.specs.Changes.{OpensClean, roster_then}
+use Rattle.am_world.specs.Changes.{IsOpenedClean, roster_then}
 use Rattle.am_world.specs.Changing.{Ends}
 use Rattle.am_world.specs.Consistent.{over}
 use Rattle.am_world.specs.Places.{AreNumbered, ChangesAt, KeepRefused, Turns, incarnation_at, incarnation_where}
@@ -136,7 +136,7 @@ module _ (w begun w' : State) (e : Event) (i : ℕ) (become : Instance → Insta
 
   pub faulted_one : (old new : List Shelf)
       → (roster_of w').rings ≡ (roster_then e (roster_of w)).rings
-      → (OpensClean (roster_of w) e new → Turns i (Cause ends.fault) w.instances w'.instances
+      → (IsOpenedClean (roster_of w) e new i → Turns i (Cause ends.fault) w.instances w'.instances
       → StopsBy w old e i ends.fault (refused_by w' i))
       → Faulted (over w old) e (over w' new)
   faulted_one old new rings cause = inl (record {

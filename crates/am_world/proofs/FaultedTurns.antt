@@ -12,7 +12,7 @@ use Rattle.am_ring.specs.Instances.{all_instances, is_among}
 use Rattle.am_instance.specs.Instance.{HasMore, IsSameNode, refused_in}
 use Rattle.am_instance.specs.Shelves.{Shelf}
 use Rattle.am_instance.specs.declared.instance.Instance.{Instance}
-use Rattle.am_world.specs.Changes.{OpensClean, roster_then}
+use Rattle.am_world.specs.Changes.{IsOpenedClean, roster_then}
 use Rattle.am_world.specs.Consistent.{over}
 use Rattle.am_world.specs.Places.{AreNumbered, KeepRefused, Turns, incarnation_at, incarnation_where, instance_at}
 use Rattle.am_world.specs.Places.{known_at, known_where, refused_at, refused_where}
@@ -37,7 +37,7 @@ pub record AsksSeveral (w w' : State) (e : Event) (old new : List Shelf) (become
   pub left : (posted : Option Posted) → left_by e posted ≡ posted
   pub worked : (i : ℕ) (fault : Fault) (x x' : Instance) → instance_at i w.instances ≡ Some x → Cause i fault x x'
       → works w e i ≡ true
-  pub causes : (i : ℕ) (fault : Fault) → OpensClean (roster_of w) e new
+  pub causes : (i : ℕ) (fault : Fault) → IsOpenedClean (roster_of w) e new i
       → Turns i (Cause i fault) w.instances w'.instances → StopsBy w old e i fault (refused_by w' i)
   pub idle : (i : ℕ) (told : List Output) (x x' : Instance) → instance_at i w.instances ≡ Some x
       → works w e i ≡ false → Are i told x x' → (x' ≡ x) × (told ≡ [])
@@ -108,8 +108,7 @@ module _ (w w' : State) (e : Event) (old new : List Shelf) (become : Becomes)
     | inl among ↦
         let x = standing i w.instances numbered among in
         let y = standing i w'.instances turns.numbered among in
-        let became = node i among x.0 y.0 x.1 y.1 in
-        (
+        let became = node i among x.0 y.0 x.1 y.1 in (
           ap incarnation_where y.1 ∙ became.incarnation ∙ (asks.own i x.0 x.1).0,
           ap known_where y.1 ∙ became.known ∙ (asks.own i x.0 x.1).1,
         )

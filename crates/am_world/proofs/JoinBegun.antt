@@ -23,7 +23,7 @@ use Rattle.am_world.specs.Changes.{OpensClean, roster_then}
 use Rattle.am_world.specs.Changing.{Acts, ComesUp, ComesUpAt, Ends, FailsToComeUp, MayComeUp, around_opening}
 use Rattle.am_world.specs.Changing.{incarnations_with, members_of, with_ring}
 use Rattle.am_world.specs.Consistent.{IsConsistent, IsMember, around, newest_in, over}
-use Rattle.am_world.specs.Leaving.{LeavesShelves, turns_over}
+use Rattle.am_world.specs.Leaving.{LeavesShelves, opens_or_drops}
 use Rattle.am_world.specs.Places.{At, ChangesAt, EachIs, incarnation_at, instance_at}
 use Rattle.am_world.specs.Posting.{posted_over}
 use Rattle.am_world.specs.Refusal.{refusal}
@@ -233,11 +233,10 @@ module _ (i : ℕ) (w begun w' : State) (ks : List ℕ) (old new : List Shelf) (
       begins.clock begins.limits refl begins.first next acts)
       joins.taken joins.rings (never i) others
 
-  store_clean : OpensClean (roster_of w) (Join i) new → (shelf_at i new).is_clean ≡ true
+  store_clean : IsOpenedClean (roster_of w) (Join i) new i → (shelf_at i new).is_clean ≡ true
   store_clean clean =
       let itself : nat_eq i i ≡ true = grind (arith, nat_tests) in
-      let x = there i w.instances exists in
-      clean i (up_instance w i x.0 was.numbered x.1) (rw (itself, joins.taken) refl)
+      clean (rw (itself, joins.taken) refl)
 
   rings_then : (roster_of w').rings ≡ (roster_then (Join i) (roster_of w)).rings
   rings_then =
@@ -272,8 +271,8 @@ join_untouched Rejects w w' i shelves = record {
   others = λ j idle out. refl;
 }
 
-pub turns_joined : (w : State) (i : ℕ) → refusal w (Join i) ≡ None → turns_over w (Join i) i ≡ true
+pub turns_joined : (w : State) (i : ℕ) → refusal w (Join i) ≡ None → opens_or_drops w (Join i) i ≡ true
 turns_joined w i none = let itself : nat_eq i i ≡ true = grind (arith, nat_tests) in rw (itself, none) refl
 
-pub turns_beside : (w : State) (i j : ℕ) → (j == i) ≡ false → turns_over w (Join i) j ≡ false
+pub turns_beside : (w : State) (i j : ℕ) → (j == i) ≡ false → opens_or_drops w (Join i) j ≡ false
 turns_beside w i j apart = rw apart refl

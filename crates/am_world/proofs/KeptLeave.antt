@@ -27,7 +27,7 @@ use Rattle.am_instance.specs.declared.instance.Instance.{Instance}
 use Rattle.am_world.specs.Changes.{roster_then}
 use Rattle.am_world.specs.Consistent.{IsConsistent, IsConsistentBut, IsMember, IsRingInOrder, around_at, newest_in}
 use Rattle.am_world.specs.Consistent.{over}
-use Rattle.am_world.specs.Leaving.{LeavesShelves, LeavesTurned, rows_at, rows_where, stop_at, turns_over}
+use Rattle.am_world.specs.Leaving.{LeavesShelves, LeavesOpenedOrDropped, rows_at, rows_where, stop_at, opens_or_drops}
 use Rattle.am_world.specs.Places.{At, ChangesAt, Turns, cause_at, instance_at, up_at, up_where}
 use Rattle.am_world.specs.Posting.{AreFiled, AreReached}
 use Rattle.am_world.specs.Refusal.{refusal}
@@ -130,7 +130,7 @@ module _ (w : State) (i : ℕ) (none : ring_event_refusal (Leaves i) (roster_of 
 -- where it is down then, for this fault or for none
 pub left_turned : (w w' : State) (i : ℕ) (x : Instance) (fault : Option Fault) (old new : Shelf)
     → instance_at i w.instances ≡ Some x → up_at i w'.instances ≡ false → cause_at i w'.instances ≡ fault
-    → LeavesEachShelf (rows_held x) no_rows_of fault old new → LeavesTurned w (Leave i) w' i old new
+    → LeavesEachShelf (rows_held x) no_rows_of fault old new → LeavesOpenedOrDropped w (Leave i) w' i old new
 left_turned w w' i x fault old new at off is left =
     subst (λ b. Either b (new ≡ old) (LeavesEachShelf (rows_at w i) no_rows_of (stop_at i w'.instances) old new))
     (sym off)
@@ -152,21 +152,21 @@ left_of_store f stores p n next w x store new less found at left =
     (subst (λ o. LeavesEachShelf (rows_where o) no_rows_of None (f store) (f new)) (sym at) left))
 
 turned_own : (w : State) (i : ℕ) → refusal w (Leave i) ≡ None → up_at i w.instances ≡ true
-    → turns_over w (Leave i) i ≡ true
+    → opens_or_drops w (Leave i) i ≡ true
 turned_own w i none up = let itself : nat_eq i i ≡ true = grind (arith, nat_tests) in rw (itself, none, up) refl
 
-pub turned_up : (w : State) (i : ℕ) → turns_over w (Leave i) i ≡ true → up_at i w.instances ≡ true
+pub turned_up : (w : State) (i : ℕ) → opens_or_drops w (Leave i) i ≡ true → up_at i w.instances ≡ true
 turned_up w i some = (and_parts (i == i && is_none (refusal w (Leave i))) (up_at i w.instances) some).1
 
 -- a store that isn't turned over is that of one that was down
-pub not_turned : (w : State) (i : ℕ) → refusal w (Leave i) ≡ None → turns_over w (Leave i) i ≡ false
+pub not_turned : (w : State) (i : ℕ) → refusal w (Leave i) ≡ None → opens_or_drops w (Leave i) i ≡ false
     → up_at i w.instances ≡ false
 not_turned w i none out = elim (cases_Bool (up_at i w.instances)) [
   | inl up ↦ absurd (true≢false (sym (turned_own w i none up) ∙ out))
   | inr off ↦ off
 ]
 
-pub turns_other : (w : State) (i j : ℕ) → (j == i) ≡ false → turns_over w (Leave i) j ≡ false
+pub turns_other : (w : State) (i j : ℕ) → (j == i) ≡ false → opens_or_drops w (Leave i) j ≡ false
 turns_other w i j apart = rw apart refl
 
 -- where nothing changed
@@ -181,7 +181,7 @@ left_untouched Rejects w w' i shelves same = record {
 }
   where
     untouched : (j : ℕ) → up_at j w'.instances ≡ true
-        → LeavesTurned w (Leave i) w' j (shelf_at j shelves) (shelf_at j shelves)
+        → LeavesOpenedOrDropped w (Leave i) w' j (shelf_at j shelves) (shelf_at j shelves)
     untouched j up =
         subst (λ b. Either b (shelf_at j shelves ≡ shelf_at j shelves)
         (LeavesEachShelf (rows_at w j) no_rows_of (stop_at j w'.instances) (shelf_at j shelves) (shelf_at j shelves)))

@@ -16,10 +16,10 @@ use Rattle.am_instance.specs.Changing.{StopsLearning, learned, rows_held, rows_l
 use Rattle.am_instance.specs.Leaving.{LeavesEachShelf}
 use Rattle.am_instance.specs.Shelves.{Shelf}
 use Rattle.am_instance.specs.declared.instance.Instance.{Instance}
-use Rattle.am_world.specs.Changes.{OpensClean, roster_then}
+use Rattle.am_world.specs.Changes.{IsOpenedClean, roster_then}
 use Rattle.am_world.specs.Changing.{FailsToLearn, LearnsRingAt}
 use Rattle.am_world.specs.Consistent.{IsConsistent, around_at, over}
-use Rattle.am_world.specs.Leaving.{LeavesShelves, LeavesTurned, rows_learned_where, rows_where, stop_at, turns_over}
+use Rattle.am_world.specs.Leaving.{LeavesShelves, LeavesOpenedOrDropped, rows_learned_where, rows_where, stop_at, opens_or_drops}
 use Rattle.am_world.specs.Places.{At, Turns, instance_at, known_at, up_at}
 use Rattle.am_world.specs.Refusal.{refusal}
 use Rattle.am_world.specs.Shelves.{NeverCleaner, shelf_at}
@@ -101,17 +101,17 @@ learn_untouched Rejects w i shelves none =
 -- what it leaves in the store that it turns over
 pub learn_turned : (w w' : State) (i : ℕ) (old new : Shelf) → IsSome (instance_at i w.instances)
     → At i (λ x. LeavesEachShelf (rows_held x) (rows_learned (around_at w.clock w) x) (stop_at i w'.instances) old new)
-    w.instances → LeavesTurned w (Learn i) w' i old new
+    w.instances → LeavesOpenedOrDropped w (Learn i) w' i old new
 learn_turned w w' i old new exists left =
     let x = there i w.instances exists in
     subst (λ o. LeavesEachShelf (rows_where o) (rows_learned_where (around_at w.clock w) o) (stop_at i w'.instances)
     old new) (sym x.1) (left x.0 x.1)
 
 -- .. which is the only one
-pub learn_elsewhere : (w : State) (i j : ℕ) → (j == i) ≡ false → turns_over w (Learn i) j ≡ false
+pub learn_elsewhere : (w : State) (i j : ℕ) → (j == i) ≡ false → opens_or_drops w (Learn i) j ≡ false
 learn_elsewhere w i j apart = ap (λ b. b && is_none (refusal w (Learn i))) apart
 
-pub learn_there : (w : State) (i : ℕ) → refusal w (Learn i) ≡ None → turns_over w (Learn i) i ≡ true
+pub learn_there : (w : State) (i : ℕ) → refusal w (Learn i) ≡ None → opens_or_drops w (Learn i) i ≡ true
 learn_there w i none =
     let itself : nat_eq i i ≡ true = grind (arith, nat_tests) in
     rw (itself, none) refl
@@ -156,7 +156,7 @@ module _ (w w' : State) (i : ℕ) (none : ring_event_refusal (Learns i) (roster_
       ap (λ (c : Common). named_by c.rings.items) turn.beside.common
       ∙ sym (ap (λ (r : Roster). r.rings) turned)
 
-  causes : (fault : Fault) (old new : List Shelf) → OpensClean (roster_of w) (Learn i) new
+  causes : (fault : Fault) (old new : List Shelf) → IsOpenedClean (roster_of w) (Learn i) new i
       → Turns i (FailsToLearn (around_at w.clock w) fault) w.instances w'.instances
       → StopsBy w old (Learn i) i fault (refused_by w' i)
   causes fault old new clean fails x at =

@@ -17,7 +17,7 @@ use Rattle.am_instance.specs.Shelves.{Shelf}
 use Rattle.am_world.specs.Changing.{ComesUpAt, FailsToFollow, FollowsRestart, FollowsRestartAt, InTurn, MayComeUp}
 use Rattle.am_world.specs.Changing.{Restarting, WhereUp, around_opening, incarnations_with, may_restart}
 use Rattle.am_world.specs.Consistent.{IsConsistent, around, newest_in}
-use Rattle.am_world.specs.Leaving.{LeavesShelves, turns_over}
+use Rattle.am_world.specs.Leaving.{LeavesShelves, opens_or_drops}
 use Rattle.am_world.specs.Places.{At, incarnation_at, instance_at, up_at}
 use Rattle.am_world.specs.Refusal.{refusal}
 use Rattle.am_world.specs.Shelves.{shelf_at}
@@ -105,11 +105,11 @@ restart_untouched Rejects w i shelves r refused =
     none_of false = refl
 
 -- .. nor any but its own
-pub restart_elsewhere : (w : State) (i j : ℕ) → (j == i) ≡ false → turns_over w (Restart i) j ≡ false
+pub restart_elsewhere : (w : State) (i j : ℕ) → (j == i) ≡ false → opens_or_drops w (Restart i) j ≡ false
 restart_elsewhere w i j apart = ap (λ b. b && is_none (refusal w (Restart i))) apart
 
 pub restart_left : (Rejects : List ℕ → List Item → Type 0) (w w' : State) (i : ℕ) (old new : List Shelf)
-    → turns_over w (Restart i) i ≡ true → ((j : ℕ) → (j == i) ≡ false → shelf_at j new ≡ shelf_at j old)
+    → opens_or_drops w (Restart i) i ≡ true → ((j : ℕ) → (j == i) ≡ false → shelf_at j new ≡ shelf_at j old)
     → LeavesShelves Rejects w (Restart i) w' old new
 restart_left Rejects w w' i old new some rest = record {
   each = λ j never. absurd (false≢true never);
@@ -117,13 +117,13 @@ restart_left Rejects w w' i old new some rest = record {
   others = λ j idle out. elim (cases_Bool (nat_eq j i)) [
     | inl h ↦
         let is : j ≡ i = grind (arith, nat_tests) in
-        absurd (true≢false (sym some ∙ ap (turns_over w (Restart i)) (sym is) ∙ out))
+        absurd (true≢false (sym some ∙ ap (opens_or_drops w (Restart i)) (sym is) ∙ out))
     | inr h ↦ rest j h
   ];
 }
 
 pub restart_there : (w : State) (i : ℕ) → ring_event_refusal (Restarts i) (roster_of w) ≡ None
-    → turns_over w (Restart i) i ≡ true
+    → opens_or_drops w (Restart i) i ≡ true
 restart_there w i none =
     let itself : nat_eq i i ≡ true = grind (arith, nat_tests) in
     rw (itself, none) refl

@@ -15,14 +15,14 @@ use Rattle.am_instance.specs.Changing.{StopsForcing, StopsReactingAll, renewed}
 use Rattle.am_instance.specs.Shelves.{Shelf}
 use Rattle.am_instance.specs.Ticks.{Either}
 use Rattle.am_instance.specs.declared.instance.Instance.{Instance}
-use Rattle.am_world.specs.Changes.{OpensClean, roster_then}
+use Rattle.am_world.specs.Changes.{IsOpenedClean, roster_then}
 use Rattle.am_world.specs.Changing.{ComesUp, FailsToComeUp, FailsToFollow, FailsToForce, FollowsRestart, ForcesAt}
-use Rattle.am_world.specs.Changing.{InTurn, IsForced, Restarting, WhereUp, around_opening}
+use Rattle.am_world.specs.Changing.{InTurn, IsForced, Restarting, StopsComingUp, WhereUp, around_opening}
 use Rattle.am_world.specs.Consistent.{IsConsistent, around_at, over}
 use Rattle.am_world.specs.Places.{AreNumbered, Turns, instance_at, up_at}
 use Rattle.am_world.specs.Shelves.{NeverCleaner, shelf_at}
 use Rattle.am_world.specs.Simulation.{fault_count, refused_by, roster_of}
-use Rattle.am_world.specs.Stopping.{IsSameStart, RestartsOrFollows, Step, StopsBy, StopsComingUp, WentOn}
+use Rattle.am_world.specs.Stopping.{IsSameStart, Step, StopsBy, WentOn}
 use Rattle.am_world.specs.declared.common.Common.{Common}
 use Rattle.am_world.specs.declared.state.State.{State}
 use Rattle.am_world.proofs.AlonePlaces.{exists_then, incarnation_here, known_here, refused_here, up_here}
@@ -89,8 +89,7 @@ module _ (w w' : State) (tenant : List ℕ) (numbered : AreNumbered w.instances)
     idle = λ i told x x' at none did.
         let down : x.up ≡ false = sym (up_here i w.instances x at) ∙ none in
         (did.idle down, did.quiet down);
-    goes = λ i told works did x x' at after.
-        ((did x x' at after).acts (sym (up_here i w.instances x at) ∙ works)).reacts;
+    goes = λ i told works did. did;
     rings = ap (λ (c : Common). named_by c.rings.items) turns.beside.common;
     own = λ i x at. (sym (incarnation_here i w.instances x at), sym (known_here i w.instances x at));
     outside = λ i apart. (refl, refl);
@@ -136,24 +135,27 @@ module _ (w w' : State) (r : ℕ) (old new : List Shelf) (consistent : IsConsist
       by true comes = refl
       by false follows = up_here i w.instances x at ∙ follows.0
 
-  store_clean : OpensClean (roster_of w) (Restart r) new → (shelf_at r new).is_clean ≡ true
-  store_clean clean =
-      let itself : nat_eq r r ≡ true = grind (arith, nat_tests) in
-      clean r (among_all r exists) (rw (itself, none) refl)
+  store_clean : (i : ℕ) → IsOpenedClean (roster_of w) (Restart r) new i → (i == r) ≡ true
+      → (shelf_at r new).is_clean ≡ true
+  store_clean i clean is =
+      let same : i ≡ r = grind (arith, nat_tests) in
+      subst (λ k. (shelf_at k new).is_clean ≡ true) same (clean (rw (is, none) refl))
 
-  restart_causes : (i : ℕ) (fault : Fault) → OpensClean (roster_of w) (Restart r) new
-      → Turns i (FailsAtRestart (around_opening r w) r (shelf_at r old) (shelf_at r new) i fault) w.instances w'.instances
+  restart_causes : (i : ℕ) (fault : Fault) → IsOpenedClean (roster_of w) (Restart r) new i
+      → Turns i (FailsAtRestart (around_opening r w) r (shelf_at r old) (shelf_at r new) i fault)
+      w.instances w'.instances
       → StopsBy w old (Restart r) i fault (refused_by w' i)
   restart_causes i fault clean fails x at =
       let y = exists_then i w.instances w'.instances x consistent.numbered turns.numbered at in
-      by y.0 (i == r) (fails x y.0 at y.1)
+      by y.0 (i == r) (store_clean i clean) (fails x y.0 at y.1)
     where
-      by : (y : Instance) (b : Bool) → Either b (FailsToComeUp (around_opening r w) (shelf_at r old) (shelf_at r new) fault x y)
+      by : (y : Instance) (b : Bool) → (b ≡ true → (shelf_at r new).is_clean ≡ true)
+          → Either b (FailsToComeUp (around_opening r w) (shelf_at r old) (shelf_at r new) fault x y)
           (FailsToFollow (around_opening r w) r fault x y)
           → Either b (StopsComingUp (around_opening r w) (shelf_at r old) fault x)
           (StopsReactingAll (around_opening r w) (λ t here. other_restarted here r) x fault)
-      by y true comes = comes (store_clean clean)
-      by y false follows = follows.1
+      by y true is_clean comes = comes (is_clean refl)
+      by y false is_clean follows = follows.1
 
   idle : (i : ℕ) (told : List Output) (x x' : Instance) → instance_at i w.instances ≡ Some x
       → (i == r || up_at i w.instances) ≡ false
@@ -169,14 +171,7 @@ module _ (w w' : State) (r : ℕ) (old new : List Shelf) (consistent : IsConsist
   goes : (i : ℕ) (told : List Output) → (i == r || up_at i w.instances) ≡ true
       → Turns i (DoesAtRestart (around_opening r w) r (shelf_at r old) (shelf_at r new) i told) w.instances w'.instances
       → WentOn (over w old) (Restart r) i told (over w' new)
-  goes i told works did x x' at after = by (i == r) works (did x x' at after)
-    where
-      by : (b : Bool) → (b || up_at i w.instances) ≡ true
-          → Either b (ComesUp (around_opening r w) (shelf_at r old) (shelf_at r new) told x x')
-          (WhereUp (FollowsRestart (around_opening r w) r) told x x')
-          → RestartsOrFollows (around_opening r w) b r (shelf_at r old) (shelf_at r new) told x x'
-      by true is comes = comes
-      by false is follows = follows.acts (sym (up_here i w.instances x at) ∙ is)
+  goes i told works did = did
 
   own_start : (i : ℕ) (x : Instance) → instance_at i w.instances ≡ Some x
       → ((restarted_as (around_opening r w) r i x).incarnation

@@ -28,10 +28,13 @@ opens_store roster (Join i) j = j == i && is_none (ring_event_refusal (Joins i) 
 opens_store roster (Restart i) j = j == i && is_none (ring_event_refusal (Restarts i) roster)
 opens_store roster e j = false
 
--- a store that it opens is in memory, or its disk has returned what was written
+-- if the event opens this store, it is in memory, or its disk has returned what was written
+abbrev pub IsOpenedClean : Roster → Event → (new : List Shelf) → ℕ → Type 0
+IsOpenedClean roster e new i = opens_store roster e i ≡ true → (shelf_at i new).is_clean ≡ true
+
+-- .. so is each that it opens
 abbrev pub OpensClean : Roster → Event → (new : List Shelf) → Type 0
-OpensClean roster e new =
-    (i : ℕ) → is_instance i ≡ true → opens_store roster e i ≡ true → (shelf_at i new).is_clean ≡ true
+OpensClean roster e new = (i : ℕ) → is_instance i ≡ true → IsOpenedClean roster e new i
 
 -- .. so is each that events open, one after the other
 abbrev pub AreOpenedClean : Roster → List Event → (new : List Shelf) → Type 0

@@ -27,7 +27,7 @@ abbrev pub incarnations_with : (i : ℕ) → List Instance → List ℕ
 incarnations_with i instances =
     map (λ (x : Instance). if x.number == i then x.incarnation + 1 else x.incarnation) instances
 
--- what is so of all tenants where that is opened, at the moment of the clock
+-- what is so of all tenants where that instance is opened, at the moment of the clock
 abbrev pub around_opening : (i : ℕ) → State → Circumstances
 around_opening i w = around w.clock w.common (incarnations_with i w.instances)
 
@@ -75,7 +75,7 @@ abbrev pub InTurn : (Turn : ℕ → State → State → Type 0) → List ℕ →
 InTurn Turn [] w w' = w' ≡ w
 InTurn Turn (i ∷ is) w w' = (mid : State) × Turn i w mid × InTurn Turn is mid w'
 
--- one that is up does so, and one that is down nothing
+-- one that is up does so, and reads the same connections still; and one that is down does nothing
 pub record WhereUp (Are : List Output → Instance → Instance → Type 0) (told : List Output) (x x' : Instance) :
     Type 0 where
   pub stays : ReadsOn x x'
@@ -99,10 +99,13 @@ may_restart w i = is_among i (newest_in w.common) && not (up_at i w.instances)
 abbrev pub ComesUp : Circumstances → (old new : Shelf) → (told : List Output) → Instance → Instance → Type 0
 ComesUp around old new told x x' = Restarts around new.is_clean old.pairs x x' [] told
 
--- why it doesn't, as long as the disk has returned what was written
+-- why it doesn't, where its store had this
+abbrev pub StopsComingUp : Circumstances → Shelf → Fault → Instance → Type 0
+StopsComingUp around shelf fault x = StopsOpening around shelf.pairs (Unit {0}) (renewed around x) fault
+
+-- .. as long as the disk has returned what was written
 abbrev pub FailsToComeUp : Circumstances → (old new : Shelf) → Fault → Instance → Instance → Type 0
-FailsToComeUp around old new fault x x' =
-    new.is_clean ≡ true → StopsOpening around old.pairs (Unit {0}) (renewed around x) fault
+FailsToComeUp around old new fault x x' = new.is_clean ≡ true → StopsComingUp around old fault x
 
 abbrev pub ComesUpAt : Circumstances → (i : ℕ) → (old new : Shelf) → State → State → Type 0
 ComesUpAt around i old new w w' =

@@ -48,12 +48,12 @@ is_taken_at w e i j = j == i && is_none (refusal w e)
 
 -- the store that an event opens, or from which it drops the rows of tenants: that of an instance that joins, is
 -- restarted or learns a ring, or leaves and is up
-abbrev pub turns_over : State → Event → ℕ → Bool
-turns_over w (Join j) i = is_taken_at w (Join j) j i
-turns_over w (Leave j) i = is_taken_at w (Leave j) j i && up_at i w.instances
-turns_over w (Restart j) i = is_taken_at w (Restart j) j i
-turns_over w (Learn j) i = is_taken_at w (Learn j) j i
-turns_over w e i = false
+abbrev pub opens_or_drops : State → Event → ℕ → Bool
+opens_or_drops w (Join j) i = is_taken_at w (Join j) j i
+opens_or_drops w (Leave j) i = is_taken_at w (Leave j) j i && up_at i w.instances
+opens_or_drops w (Restart j) i = is_taken_at w (Restart j) j i
+opens_or_drops w (Learn j) i = is_taken_at w (Learn j) j i
+opens_or_drops w e i = false
 
 -- what tenants have of a message's receiver once it came, at a moment: where it is taken, the items that it brings too
 abbrev pub received_where : Circumstances → Option Posted → Option Instance → (List ℕ → Local) → List ℕ → Local
@@ -102,13 +102,13 @@ rows_learned_at w i = rows_learned_where (around_at w.clock w) (instance_at i w.
 
 -- What it leaves in such a store. One that leaves and is up still found no memory for the ring. Of one that is opened
 -- nothing is said here: what the instance holds then is there, where it is up.
-abbrev pub LeavesTurned : State → Event → State → ℕ → (old new : Shelf) → Type 0
-LeavesTurned w (Leave j) w' i old new =
+abbrev pub LeavesOpenedOrDropped : State → Event → State → ℕ → (old new : Shelf) → Type 0
+LeavesOpenedOrDropped w (Leave j) w' i old new =
     Either (up_at i w'.instances) (new ≡ old)
     (LeavesEachShelf (rows_at w i) no_rows_of (stop_at i w'.instances) old new)
-LeavesTurned w (Learn j) w' i old new =
+LeavesOpenedOrDropped w (Learn j) w' i old new =
     LeavesEachShelf (rows_at w i) (rows_learned_at w i) (stop_at i w'.instances) old new
-LeavesTurned w e w' i old new = Unit {0}
+LeavesOpenedOrDropped w e w' i old new = Unit {0}
 
 -- what it leaves in the stores, where stores of this kind take no such items: those to which it doesn't write, and
 -- which it doesn't turn over, are as they were
@@ -116,5 +116,5 @@ pub record LeavesShelves (Rejects : List ℕ → List Item → Type 0) (w : Stat
     (old new : List Shelf) : Type 0 where
   pub each : (i : ℕ) → writes w e i ≡ true → LeavesShelf (stored_of w i) (stored_after w e i) (RejectedBy Rejects w e i)
       (stop_at i w'.instances) (shelf_at i old) (shelf_at i new)
-  pub turned : (i : ℕ) → turns_over w e i ≡ true → LeavesTurned w e w' i (shelf_at i old) (shelf_at i new)
-  pub others : (i : ℕ) → writes w e i ≡ false → turns_over w e i ≡ false → shelf_at i new ≡ shelf_at i old
+  pub turned : (i : ℕ) → opens_or_drops w e i ≡ true → LeavesOpenedOrDropped w e w' i (shelf_at i old) (shelf_at i new)
+  pub others : (i : ℕ) → writes w e i ≡ false → opens_or_drops w e i ≡ false → shelf_at i new ≡ shelf_at i old

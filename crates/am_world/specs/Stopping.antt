@@ -17,19 +17,16 @@ use Rattle.am_messages.specs.declared.name.MessageName.{MessageName}
 use Rattle.am_ring.specs.Changes.{with_instance}
 use Rattle.am_ring.specs.Instances.{all_instances}
 use Rattle.am_instance.specs.Bringing.{IsCause}
-use Rattle.am_instance.specs.Changing.{ReactsAll, Restarts, StopsForcing, StopsLearning, StopsLeaving, StopsOpening}
-use Rattle.am_instance.specs.Changing.{StopsReactingAll, renewed}
+use Rattle.am_instance.specs.Changing.{StopsForcing, StopsLearning, StopsLeaving, StopsReactingAll}
 use Rattle.am_instance.specs.Here.{Circumstances, here_on}
 use Rattle.am_instance.specs.Instance.{IsDown, bytes_in}
-use Rattle.am_instance.specs.Reacting.{Reacts}
 use Rattle.am_instance.specs.Receiving.{StopsReceiving}
 use Rattle.am_instance.specs.Shelves.{Shelf}
 pub use Rattle.am_instance.specs.Ticks.{Either}
 use Rattle.am_instance.specs.Ticks.{StopsTicking, Ticks}
 use Rattle.am_instance.specs.declared.instance.Instance.{Instance}
-use Rattle.am_cluster.specs.Transfers.{forced}
-use Rattle.am_world.specs.Changes.{OpensClean, roster_then}
-use Rattle.am_world.specs.Changing.{around_opening, with_ring}
+use Rattle.am_world.specs.Changes.{IsOpenedClean, roster_then}
+use Rattle.am_world.specs.Changing.{ComesUp, FollowsRestart, IsForced, StopsComingUp, WhereUp, around_opening, with_ring}
 use Rattle.am_world.specs.Consistent.{Contents, around_at, newest_in}
 use Rattle.am_world.specs.Places.{At, KeepRefused, Turns, cause_at, instance_at, reader_of, up_at}
 use Rattle.am_world.specs.Posting.{posted_over}
@@ -61,10 +58,6 @@ works w (Crash i) j = j == i
 works w (Restart i) j = j == i || up_at j w.instances
 works w (Learn i) j = j == i
 works w (Force tenant) j = up_at j w.instances
-
--- why one isn't opened that joins, or is restarted, where its store had this
-abbrev pub StopsComingUp : Circumstances → Shelf → Fault → Instance → Type 0
-StopsComingUp around shelf fault x = StopsOpening around shelf.pairs (Unit {0}) (renewed around x) fault
 
 -- why an event stops an instance of which it asks work: by what the instance had, and by the patterns that it had been
 -- refused the build of then; memory may run out anywhere
@@ -104,7 +97,8 @@ StopsBy w shelves (Force tenant) j fault refused =
 pub record StoppedBy (c : Contents) (e : Event) (i : ℕ) (c' : Contents) : Type 0 where
   pub fault : Fault
   pub told : cause_at i c'.state.instances ≡ Some fault
-  pub cause : OpensClean (roster_of c.state) e c'.shelves → StopsBy c.state c.shelves e i fault (refused_by c'.state i)
+  pub cause : IsOpenedClean (roster_of c.state) e c'.shelves i →
+      StopsBy c.state c.shelves e i fault (refused_by c'.state i)
 
 -- one fault for each instance that stopped, and one at least
 abbrev pub faults_of : (ℕ → Bool) → ℕ
@@ -129,12 +123,11 @@ LeavesPost w e told w' = (name : MessageName) →
 -- ---- who goes on
 
 -- where one instance was restarted: it came up, and opened its store, of which this was and is seen; or another one
--- followed that
-abbrev pub RestartsOrFollows : Circumstances → (is_that : Bool) → (restarted : ℕ) → (old new : Shelf)
+-- followed that, and is up and reads the same connections still
+abbrev pub ComesUpOrFollows : Circumstances → (is_that : Bool) → (restarted : ℕ) → (old new : Shelf)
     → (told : List Output) → Instance → Instance → Type 0
-RestartsOrFollows around is_that r old new told x x' =
-    Either is_that (Restarts around new.is_clean old.pairs x x' [] told)
-    (ReactsAll around (λ t here. other_restarted here r) x x' [] told)
+ComesUpOrFollows around is_that r old new told x x' =
+    Either is_that (ComesUp around old new told x x') (WhereUp (FollowsRestart around r) told x x')
 
 -- An instance of which work was asked did it, and told this: it ticked, came up again or followed the restart of
 -- another one, or was settled by force. No other event asks work of several, so that of any that met a fault the one
@@ -144,11 +137,10 @@ WentOn c (Tick moment) i told c' =
     Turns i (λ x x'. Ticks (around_at moment c.state) x x' [] told) c.state.instances c'.state.instances
 WentOn c (Restart r) i told c' =
     Turns i
-    (RestartsOrFollows (around_opening r c.state) (i == r) r (shelf_at r c.shelves) (shelf_at r c'.shelves) told)
+    (ComesUpOrFollows (around_opening r c.state) (i == r) r (shelf_at r c.shelves) (shelf_at r c'.shelves) told)
     c.state.instances c'.state.instances
 WentOn c (Force tenant) i told c' =
-    Turns i (λ x x'. Reacts (around_at c.state.clock c.state) tenant forced x x' [] told)
-    c.state.instances c'.state.instances
+    Turns i (WhereUp (IsForced (around_at c.state.clock c.state) tenant) told) c.state.instances c'.state.instances
 WentOn c e i told c' = ⊥
 
 -- ---- an event that met a fault
