@@ -1,7 +1,6 @@
 -- The trace of a scenario has the steps that its world made.
 use Rattle.std.proofs.Common.{◌≡◌, ◌∙◌, ◌⊎◌, ℕ, ◌+◌, Bool, true, false, is_none, List, [], ◌∷◌, ◌++◌, MatchOption}
 use Rattle.std.proofs.Common.{Option, None, Some, refl, sym, ap, inl, inr, subst}
-use Rattle.std.specs.List.{concat}
 use Rattle.am_event.specs.declared.event.Event.TheVariants as event
 use Rattle.am_event.specs.declared.event.Event.{Event}
 use Rattle.am_event.specs.declared.output.Output.{Output}
@@ -28,7 +27,7 @@ use Rattle.am_play.specs.Link.{Answers, Carries}
 use Rattle.am_play.specs.Mail.{name_said}
 use Rattle.am_play.specs.Playing.{Happens, Come, Gives, Calls, Obeys, Settles, Does, Plays, goes_on}
 use Rattle.am_play.specs.Playing.{Hands, PassedOver, Reaches, Travels}
-use Rattle.am_play.specs.Playing.{LearnsEach, LearnsInRounds, event_of, is_behind}
+use Rattle.am_play.specs.Playing.{LearnsEach, LearnsInRounds, event_of, in_all_rounds, is_behind}
 use Rattle.am_play.specs.Scenario.{Course, AloneUntilFault}
 use Rattle.am_play.specs.Streams.{KnownLines}
 use Rattle.am_play.specs.Trace.{Happened, events, no_fault, outputs, shelves_after, unbuilt, unbuilt_after}
@@ -147,10 +146,10 @@ each_traced {R} (i ∷ numbers) p p' trace (mid, first, rest, learns, both, late
     (if_behind_traced (is_behind p i) i p mid first learns) (each_traced numbers mid p' rest later))
 
 rounds_traced : {R : Type 0} (rounds : List (List Happened)) (p p' : Player R) → LearnsInRounds rounds p p' →
-    Traced p.world (concat rounds) p'.world
+    Traced p.world (in_all_rounds rounds) p'.world
 rounds_traced {R} [] p p' same = traced_nothing p p' [] (ap (λ (x : Player R). x.world) same) refl
 rounds_traced {R} (round ∷ rounds) p p' (mid, learns, later) =
-    traced_more p.world round (concat rounds) mid.world p'.world
+    traced_more p.world round (in_all_rounds rounds) mid.world p'.world
     (each_traced all_instances p mid round learns) (rounds_traced rounds mid p' later)
 
 obeys_traced : {R : Type 0} (carries : Carries) (p : Player R) (command : Command) (p' : Player R)

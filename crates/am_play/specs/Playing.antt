@@ -193,7 +193,12 @@ LearnsEach {R} (i ∷ more) p p' trace =
     (mid : Player R) × (first rest : List Happened) × LearnsIfBehind i p mid first
     × (trace ≡ first ++ rest) × LearnsEach more mid p' rest
 
--- .. all instances, in rounds, each with what happened in it
+-- what happened in rounds, one after the other
+abbrev pub in_all_rounds : List (List Happened) → List Happened
+in_all_rounds [] = []
+in_all_rounds (round ∷ rounds) = round ++ in_all_rounds rounds
+
+-- all instances learned so, in rounds, each with what happened in it
 abbrev pub LearnsInRounds : {R : Type 0} → List (List Happened) → Player R → Player R → Type 0
 LearnsInRounds {R} [] p p' = p' ≡ p
 LearnsInRounds {R} (round ∷ rounds) p p' =
@@ -203,7 +208,7 @@ LearnsInRounds {R} (round ∷ rounds) p p' =
 pub record LearnsAll {R : Type 0} (p p' : Player R) (trace : List Happened) : Type 0 where
   pub rounds : List (List Happened)
   pub learns : LearnsInRounds rounds p p'
-  pub traced : trace ≡ concat rounds
+  pub traced : trace ≡ in_all_rounds rounds
   pub bound : length rounds < 2 ^ 64
   pub over : (list_any (is_behind p') all_instances ≡ false) ⊎ (length rounds ≡ 2 ^ 64 - 1)
 

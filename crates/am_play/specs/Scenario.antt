@@ -20,8 +20,8 @@ abbrev pub Known : Type 0
 Known = Option (List ℕ)
 
 -- lines were played over a link, and this happened; they are the source's, where those are known
-pub record Course {R : Type 0} (carries : Carries) (answers : Answers) (start : Player R) (known : KnownLines) (played : Played)
-    (trace : List Happened) (end : Player R) : Type 0 where
+pub record Course {R : Type 0} (carries : Carries) (answers : Answers) (start : Player R) (known : KnownLines)
+    (played : Played) (trace : List Happened) (end : Player R) : Type 0 where
   pub lines : List (List ℕ)
   pub are_read : IfSome known (λ known. lines ≡ known)
   pub plays : Plays carries answers 1 start lines played trace end

@@ -67,7 +67,7 @@ unbuilt_after before (h ∷ trace) = unbuilt_after h.unbuilt trace
 abbrev pub unbuilt : List Happened → ℕ → List (List ℕ)
 unbuilt trace = unbuilt_after (λ i. []) trace
 
--- what was seen of the stores at the end of a trace, where this was before it
+-- what was seen of the stores at the end of a trace, where this was seen before it
 abbrev pub shelves_after : List Shelf → List Happened → List Shelf
 shelves_after before [] = before
 shelves_after before (h ∷ trace) = shelves_after h.shelves trace

@@ -44,9 +44,10 @@ pub enum Played {
     BadLine(u64),
 }
 
-/// Plays the scenario that `source` gives against a world, and writes its output lines to `writer`. What a line gives to
-/// a connection goes over the link in pieces, and ends where one is lost. Each notice goes over it too, and the outcome
-/// of its try has the status that was read of the answer. The world's stores are handed back, each at its last commit.
+/// Plays the scenario that `source` gives against a world, and writes its output lines to `writer`. What a line gives
+/// to a connection goes over the link in pieces, and ends where one is lost. Each notice goes over it too, and the
+/// outcome of its try has the status that was read of the answer. The world's stores are handed back, each at its last
+/// commit.
 ///
 /// What is written are the lines of a trace: what happened, event by event. Where the world was just opened, a tenant's
 /// outputs in it are, whatever the other tenants do, byte for byte and in order, those of a private cluster that has

@@ -19,7 +19,7 @@ use Rattle.am_instance.specs.Changing.{StopsOpening, renewed}
 use Rattle.am_instance.specs.Here.{Circumstances, rings_on}
 use Rattle.am_instance.specs.Shelves.{Shelf}
 use Rattle.am_instance.specs.declared.instance.Instance.{Instance}
-use Rattle.am_world.specs.Changes.{OpensClean, roster_then}
+use Rattle.am_world.specs.Changes.{IsOpenedClean, roster_then}
 use Rattle.am_world.specs.Changing.{Acts, ComesUp, ComesUpAt, Ends, FailsToComeUp, MayComeUp, around_opening}
 use Rattle.am_world.specs.Changing.{incarnations_with, members_of, with_ring}
 use Rattle.am_world.specs.Consistent.{IsConsistent, IsMember, around, newest_in, over}
@@ -39,7 +39,7 @@ use Rattle.am_world.proofs.KeptJoin.{CameUp, kept_join}
 use Rattle.am_world.proofs.NotRefused.{roster_turned, taken}
 use Rattle.am_world.proofs.Placed.{there}
 use Rattle.am_world.proofs.Rostered.{consistent_pushed, joined_itself, members_joined, named_by, newest_pushed}
-use Rattle.am_world.proofs.Rostered.{put_here, put_other, ring_joined, rings_pushed, up_instance}
+use Rattle.am_world.proofs.Rostered.{put_here, put_other, ring_joined, rings_pushed}
 
 -- ---- it stopped on the way
 

@@ -1,6 +1,5 @@
 use Rattle.std.proofs.Common.{◌≡◌, List, length}
-use Rattle.std.specs.List.{concat}
-use Rattle.am_play.specs.Playing.{LearnsInRounds}
+use Rattle.am_play.specs.Playing.{LearnsInRounds, in_all_rounds}
 use Rattle.am_play.specs.Trace.{Happened, Grows}
 use Rattle.am_play.proofs.play.Player.learn_all.Given as goal
 
@@ -8,7 +7,7 @@ use Rattle.am_play.proofs.play.Player.learn_all.Given as goal
 abbrev pub invariant-loop : goal.invariant-loop
 invariant-loop g l = record {
   rounds : List (List Happened);
-  grows : Grows l.fn.report l.report (concat rounds);
+  grows : Grows l.fn.report l.report (in_all_rounds rounds);
   learns : LearnsInRounds rounds l.fn.self l.self;
   count : length rounds ≡ l.counter;
 }

@@ -11,6 +11,14 @@ returns-in_ok-deliver-in-Deliver g c =
       rw c.in-Deliver.is (rw c.name_said.ensures at delivered.2),
     )
 
+pub returns-in_ok-bring-in-Change : goal.returns-in_ok-bring-in-Change
+returns-in_ok-bring-in-Change g c =
+    let brought = c.in_ok-bring-in-Change.ensures in (
+      brought.0,
+      brought.1,
+      rw c.in-Change.is (rw c.event_of.ensures at brought.2),
+    )
+
 pub returns-in_ok-call-in-Call : goal.returns-in_ok-call-in-Call
 returns-in_ok-call-in-Call g c =
     let id = c.in_ok-connection-in-Call in
