@@ -22,6 +22,7 @@ use Rattle.am_cluster.specs.Sending.{message_to, send_in}
 use Rattle.am_cluster.specs.Transfers.{ask, asks_first}
 use Rattle.am_cluster.specs.View.{Watch}
 use Rattle.am_item.specs.declared.fault.Fault.{Fault}
+use Rattle.am_item.specs.declared.item.Item.{Item}
 use Rattle.am_item.specs.declared.fault.Fault.TheVariants.{OutOfMemory, CountsExhausted, PatternNotBuilt, StoreRefused}
 use Rattle.am_limit.specs.Books.{limits_of}
 use Rattle.am_messages.specs.Posted.{posted_at}

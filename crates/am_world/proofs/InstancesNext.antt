@@ -36,28 +36,27 @@ others_stay n i (x ∷ xs) (first, rest) less =
     let apart : nat_eq x.number i ≡ false = grind (arith, nat_tests) in
     rw apart (ap (λ ks. x.incarnation ∷ ks) (others_stay (suc n) i xs rest (omega (arith, less))))
 
-written : (n p : ℕ) (xs : List Instance) (k : ℕ) → NumberedFrom n xs → p < length xs
-    → k ≡ get_or (incarnations_of xs) p k → set (incarnations_of xs) p (k + 1) ≡ incarnations_with (n + p) xs
-written n p [] k counts less found = absurd (omega (arith, less))
-written n zero (x ∷ xs) k (first, rest) less found =
+written : (n p : ℕ) (xs : List Instance) → NumberedFrom n xs → p < length xs
+    → set (incarnations_of xs) p (get_or (incarnations_of xs) p 0 + 1) ≡ incarnations_with (n + p) xs
+written n p [] counts less = absurd (omega (arith, less))
+written n zero (x ∷ xs) (first, rest) less =
     let same : nat_eq x.number (n + 0) ≡ true = grind (arith, nat_tests) in
-    rw same (ap (λ m. (m + 1) ∷ incarnations_of xs) found
-    ∙ ap (λ ks. (x.incarnation + 1) ∷ ks) (others_stay (suc n) (n + 0) xs rest (omega arith)))
-written n (suc p) (x ∷ xs) k (first, rest) less found =
+    rw same (ap (λ ks. (x.incarnation + 1) ∷ ks) (others_stay (suc n) (n + 0) xs rest (omega arith)))
+written n (suc p) (x ∷ xs) (first, rest) less =
     let apart : nat_eq x.number (n + suc p) ≡ false = grind (arith, nat_tests) in
     let next : n + suc p ≡ suc n + p = omega arith in
     rw apart (ap (λ ks. x.incarnation ∷ ks)
-    (written (suc n) p xs k rest (omega (arith, less)) found ∙ ap (λ m. incarnations_with m xs) (sym next)))
+    (written (suc n) p xs rest (omega (arith, less)) ∙ ap (λ m. incarnations_with m xs) (sym next)))
 
-pub at_next : (xs : List Instance) (p i : ℕ) (ns : List ℕ) (k : ℕ) → AreNumbered xs → p + 1 ≡ i → p < 8
-    → ns ≡ incarnations_of xs → k ≡ get_or ns p k → set ns p (k + 1) ≡ incarnations_with i xs
-at_next xs p i ns k numbered at less is found =
+pub at_next : (xs : List Instance) (p i : ℕ) (ns : List ℕ) → AreNumbered xs → p + 1 ≡ i → p < 8
+    → ns ≡ incarnations_of xs → set ns p (get_or ns p 0 + 1) ≡ incarnations_with i xs
+at_next xs p i ns numbered at less is =
     let size = eight xs numbered in
     let place : 1 + p ≡ i = omega (arith, at) in
     let counts : NumberedFrom 1 xs =
     numbered_by 1 xs all_instances numbered (refl, (refl, (refl, (refl, (refl, (refl, (refl, (refl, tt)))))))) in
-    ap (λ ms. set ms p (k + 1)) is
-    ∙ written 1 p xs k counts (omega (arith, less, size)) (found ∙ ap (λ ms. get_or ms p k) is)
+    ap (λ ms. set ms p (get_or ms p 0 + 1)) is
+    ∙ written 1 p xs counts (omega (arith, less, size))
     ∙ ap (λ n. incarnations_with n xs) place
 
 -- it had not its last
@@ -66,16 +65,15 @@ read_at [] p less = absurd (omega (arith, less))
 read_at (x ∷ xs) zero less = (x, refl)
 read_at (x ∷ xs) (suc p) less = read_at xs p (omega (arith, less))
 
-pub next_below : (xs : List Instance) (p i k : ℕ) (ns : List ℕ) → AreNumbered xs → p + 1 ≡ i → p < 8
-    → ns ≡ incarnations_of xs → At i (λ x. x.incarnation < last_incarnation) xs → k ≡ get_or ns p k
-    → k < last_incarnation
-next_below xs p i k ns numbered at less is next found =
+pub next_below : (xs : List Instance) (p i : ℕ) (ns : List ℕ) → AreNumbered xs → p + 1 ≡ i → p < 8
+    → ns ≡ incarnations_of xs → At i (λ x. x.incarnation < last_incarnation) xs → get_or ns p 0 < last_incarnation
+next_below xs p i ns numbered at less is next =
     let size = eight xs numbered in
     let below : p < length xs = omega (arith, less, size) in
     let x = read_at xs p below in
     let there : instance_at i xs ≡ Some x.0 = here_at xs p i x.0 numbered at less x.1 in
     let own : x.0.incarnation < last_incarnation = next x.0 there in
-    let same : k ≡ x.0.incarnation =
-    found ∙ ap (λ ms. get_or ms p k) is ∙ get_or-map (λ (y : Instance). y.incarnation) xs p x.0 k below
+    let same : get_or ns p 0 ≡ x.0.incarnation =
+    ap (λ ms. get_or ms p 0) is ∙ get_or-map (λ (y : Instance). y.incarnation) xs p x.0 0 below
     ∙ ap (λ (y : Instance). y.incarnation) (sym x.1) in
     omega (arith, own, same)

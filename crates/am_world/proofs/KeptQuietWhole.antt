@@ -109,7 +109,6 @@ rests_itself x = (
   refl,
   refl,
   refl,
-  refl,
 )
 
 pub consistent_rest : (w w' : State) → IsConsistent w → w'.clock ≡ w.clock → w'.common ≡ w.common

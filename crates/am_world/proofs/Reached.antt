@@ -1,7 +1,8 @@
 -- The sender of each message that is there has reached the incarnation in which it was sent.
 use Rattle.std.proofs.Common.{◌≡◌, ◌∙◌, ℕ, ◌≤◌, Bool, true, false, List, [], Option, None, Some, arith, sym}
 use Rattle.std.proofs.Common.{if◌then◌else◌}
-use Rattle.am_messages.specs.Posted.{posted_at}
+use Rattle.am_messages.specs.Names.{same_name}
+use Rattle.am_messages.specs.Posted.{Loses, posted_at}
 use Rattle.am_messages.specs.declared.messages.Posted.{Posted}
 use Rattle.am_messages.specs.declared.name.MessageName.{MessageName}
 use Rattle.am_instance.specs.declared.instance.Instance.{Instance}

@@ -27,6 +27,7 @@ reads_itself : (x : Instance) → ReadsOn x x
 reads_itself x = record {
   goes = record {
     up = refl;
+    cause = refl;
     number = refl;
     incarnation = refl;
     known = refl;
@@ -134,7 +135,7 @@ node_by_turn : (i : ℕ) (Are : List Output → Instance → Instance → Type 0
     → Turns i IsSameNode w.instances w'.instances
 node_by_turn i Are Cause w w' turn x x' was is = elim turn.ends [
   | inl acts ↦ acts.node x x' was is
-  | inr ends ↦ elim (ends.node x x' was is) [ inl same ↦ same | inr same ↦ same ]
+  | inr ends ↦ ends.node x x' was is
 ]
 
 -- so that all goes by the same

@@ -59,6 +59,7 @@ impl Instances {
         requires { At number (λ x. x.incarnation < last_incarnation) self.now }
         ensures { result ≡ incarnations_with number self.now }
     {
+        let _ = &self.list;
         let mut incarnations = self.incarnations();
         incarnations[place(number)] += 1;
         incarnations

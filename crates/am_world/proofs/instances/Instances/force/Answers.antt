@@ -31,7 +31,7 @@ returns-clause-forces c =
     let change = changed xs c.place.result c.args.number _ c.force.new.self c.self.invariant
     c.place.ensures.place c.place.ensures.range c.index_mut.ensures.value c.force.ensures.stays.goes.number in
     rw (← c.self.view_is) (on_ok_weaker c.force.result (turns_here _ c.args.number xs _ _ _ change)
-    (on_ok_both c.force.result c.force.ensures.reacts c.force.ensures.refused))
+    (on_ok_both _ _ c.force.result c.force.ensures.reacts c.force.ensures.refused))
 
 pub returns-clause-cause : goal.returns-clause-cause
 returns-clause-cause c =

@@ -1,4 +1,5 @@
-use Rattle.std.proofs.Common.{◌≡◌, ◌∙◌, [], ap, inl, inr, refl, subst, sym}
+use Rattle.std.proofs.Common.{◌≡◌, ◌⊎◌, ◌∙◌, [], ap, inl, inr, refl, subst, sym}
+use Rattle.am_rows.specs.Refusing.{MayRefuse}
 use Rattle.am_item.specs.declared.fault.Fault.TheVariants.{OutOfMemory}
 use Rattle.am_instance.specs.Changing.{Restarts, StopsOpening, renewed}
 use Rattle.am_instance.specs.Here.{Circumstances, circumstances}
@@ -44,14 +45,15 @@ returns-in-Err-clause-turn g c =
     let old = shelf_of g.R.Rows c.args.store.now in
     let new = shelf_of g.R.Rows c.restart.new.store in
     let same : circumstances c.occasion-occasion.result ≡ a = c.occasion-occasion.ensures in
+    let Reason : Type 0 = g.R.Rows.is_foreign c.args.store.now ⊎ MayRefuse old.medium new.medium in
     let stopped = c.stop.ensures.stopped in
     record {
       ends = inr (ends_stopped i (renewed a) (FailsToComeUp a old new) w _ c.stop.new.self c.in-Err.fault
           c.requires.consistent.numbered c.restart.ensures.at
           (λ x y was is. subst (λ (b : Circumstances). IsSameNode (renewed b x) y) same
           (c.restart.ensures.stays x y was is)) (λ name. refl) refl refl stopped
-          (λ x x' was is clean. any_reason a old.pairs _ (renewed a x) c.in-Err.fault
-          (subst (λ (b : Circumstances). StopsOpening b old.pairs _ (renewed b x) c.in-Err.fault) same
+          (λ x x' was is clean. any_reason a old.pairs Reason (renewed a x) c.in-Err.fault
+          (subst (λ (b : Circumstances). StopsOpening b old.pairs Reason (renewed b x) c.in-Err.fault) same
           (c.in-Err.ensures.cause clean x was))));
       others = record {
         numbered = stopped.others.numbered;
@@ -75,7 +77,7 @@ stop-requires-then-is_err g c =
     but_renewed i around_it w _ c.requires.consistent c.restart.ensures.at (record { clock = refl; common = refl })
     (c.send_out.ensures.filed c.requires.consistent.filed) c.restart.ensures.stays
     (ap (λ (a : Circumstances). a.rings) c.occasion-occasion.ensures)
-    (same_post i around_it w _ x.0 x'.0 c.requires.consistent x.1 x'.1 (c.requires.may x.0 x.1)
+    (same_post i around_it w (record w { instances = c.restart.new.self; messages = c.send_out.new.messages }) x.0 x'.0 c.requires.consistent x.1 x'.1 (c.requires.may x.0 x.1)
     (shelf_of g.R.Rows c.restart.new.store).is_clean (shelf_of g.R.Rows c.args.store.now).pairs
     c.restart.new.outputs.items
     (rw c.new-told.ensures.items at (c.in_default.ensures.restarts x.0 x'.0 x.1 x'.1))
@@ -103,7 +105,7 @@ returns-then-is_err-clause-turn g c =
           c.requires.consistent.numbered c.restart.ensures.at
           (λ y y' was is. subst (λ (b : Circumstances). IsSameNode (renewed b y) y') same
           (c.restart.ensures.stays y y' was is))
-          (same_post i around_it w _ x.0 x'.0 c.requires.consistent x.1 x'.1 (c.requires.may x.0 x.1)
+          (same_post i around_it w (record w { instances = c.restart.new.self; messages = c.send_out.new.messages }) x.0 x'.0 c.requires.consistent x.1 x'.1 (c.requires.may x.0 x.1)
           new.is_clean (shelf_of g.R.Rows c.args.store.now).pairs c.restart.new.outputs.items
           (rw c.new-told.ensures.items at (c.in_default.ensures.restarts x.0 x'.0 x.1 x'.1))
           (c.restart.ensures.stays x.0 x'.0 x.1 x'.1)

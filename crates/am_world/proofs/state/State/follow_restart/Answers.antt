@@ -145,7 +145,7 @@ returns-else-is_err-clause-turn c =
     let same : circumstances c.occasion-occasion.result ≡ a = c.occasion-occasion.ensures in
     let went = sym c.is_err.ensures.value ∙ c.if-is_err.false in
     let up : up_at i w.instances ≡ true = ap (λ k. up_at k w.instances) c.in-Some.ensures.at ∙ c.in-Some.ensures.up in
-    subst (λ k. FollowsRestartAt a r k w _) c.in-Some.ensures.at (record {
+    subst (λ k. FollowsRestartAt a r k w (record w { instances = c.follow_restart.new.self; messages = c.send_out.new.messages; outputs = c.send_out.new.outputs })) c.in-Some.ensures.at (record {
       ends = inl (record {
         told = told;
         acts = λ x x' was is.

@@ -1,4 +1,4 @@
-use Rattle.std.proofs.Common.{◌≡◌, ◌∙◌, refl, subst, take}
+use Rattle.std.proofs.Common.{◌≡◌, ◌∙◌, get_or, refl, subst, take}
 use Rattle.std.proofs.lemmas.List.{take_all, take_more}
 use Rattle.am_world.specs.Changing.{FollowsRestartAt}
 use Rattle.am_world.specs.Consistent.{around}
@@ -18,13 +18,13 @@ loop-number-preserved c =
     let w = c.args.self.now in
     let mid = c.loop-number.self in
     let new = c.follow_restart.new.self in
-    let n = c.number-item.result in
+    let n = get_or c.args.numbers.now c.loop-number.number-index 0 in
     let ks = c.args.incarnations.now in
     let before = c.loop-number.invariant in
     let turn = c.follow_restart.ensures.turn in
     let same : around mid.clock mid.common ks ≡ around w.clock w.common ks =
     (λ d. around (before.beside.clock d) (before.beside.common d) ks) in
-    rw (take_more c.args.numbers.now c.loop-number.number-index n c.loop-number-test.true, ← c.number-item.is) (record {
+    rw (take_more c.args.numbers.now c.loop-number.number-index 0 c.loop-number-test.true) (record {
       turns = in_turn_more (FollowsRestartAt (around w.clock w.common ks) c.args.restarted)
           (take c.loop-number.number-index c.args.numbers.now) n w mid new before.turns
           (subst (λ a. FollowsRestartAt a c.args.restarted n mid new) same turn);

@@ -97,7 +97,7 @@ returns-in_default-force-clause-turn c =
     let same : circumstances c.occasion-occasion.result ≡ a =
     c.occasion-occasion.ensures ∙ ap (around w.clock w.common) c.incarnations-incarnations.ensures in
     let up : up_at i w.instances ≡ true = ap (λ k. up_at k w.instances) c.in-Some.ensures.at ∙ c.in-Some.ensures.up in
-    subst (λ k. ForcesAt a t k w _) c.in-Some.ensures.at (record {
+    subst (λ k. ForcesAt a t k w (record w { instances = c.force.new.self })) c.in-Some.ensures.at (record {
       ends = inl (record {
         told = [];
         acts = λ x x' was is.
