@@ -1,6 +1,6 @@
 -- An event of which several instances have work in turn, where some of them stopped.
-use Rattle.std.proofs.Common.{◌≡◌, ◌∙◌, inl, inr, ℕ, ◌+◌, ◌-◌, ◌^◌, ◌≤◌, true, false, List, [], filter, length, max}
-use Rattle.std.proofs.Common.{min, Option, None, Some, refl, sym, ap, subst, arith}
+use Rattle.std.proofs.Common.{◌≡◌, ◌∙◌, inl, inr, ℕ, ◌-◌, true, false, List, [], filter, length, Option, None, Some}
+use Rattle.std.proofs.Common.{sym, ap, subst}
 use Rattle.std.proofs.lemmas.Bool.{cases_Bool, true≢false}
 use Rattle.std.proofs.lemmas.List.{append-nil}
 use Rattle.am_cluster.specs.Events.{Event, Output}
@@ -18,7 +18,7 @@ use Rattle.am_world.specs.Places.{AreNumbered, KeepRefused, Turns, incarnation_a
 use Rattle.am_world.specs.Places.{known_at, known_where, refused_at, refused_where}
 use Rattle.am_world.specs.Posting.{posted_over}
 use Rattle.am_world.specs.Refusal.{refusal}
-use Rattle.am_world.specs.Simulation.{fault_count, put_out, refused_by, roster_of}
+use Rattle.am_world.specs.Simulation.{fault_count, refused_by, roster_of}
 use Rattle.am_world.specs.Steps.{clock_after}
 use Rattle.am_world.specs.Stopping.{Faulted, IsSameStart, StopsBy, WentOn, left_by, works}
 use Rattle.am_world.specs.declared.common.Common.{Common}
@@ -27,8 +27,8 @@ use Rattle.am_world.proofs.InTurn.{Becomes, HadTurns}
 use Rattle.am_world.proofs.TickFaulted.{counted_all, some_counted}
 use Rattle.am_world.proofs.TickPlaces.{at_each_place, nobody, standing}
 
--- what is so of such an event: who stops had work, for such a cause; who has none does nothing; who goes on did what the
--- event asks; and once all went well each instance is in the incarnation and knows the ring that it has become
+-- what is so of such an event: who stops had work, for such a cause; who has none does nothing; who goes on did what
+-- the event asks; and once all went well each instance is in the incarnation and knows the ring that it has become
 pub record AsksSeveral (w w' : State) (e : Event) (old new : List Shelf) (become : Becomes)
     (Are : ℕ → List Output → Instance → Instance → Type 0) (Cause : ℕ → Fault → Instance → Instance → Type 0) :
     Type 0 where

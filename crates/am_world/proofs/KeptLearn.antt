@@ -80,6 +80,9 @@ learn_behind w i none consistent =
     (passed (up_at i w.instances && nat_lt (known_at i w.instances) newest) None NothingToLearn none) in
     (parts.0, λ x at. behind newest refl parts x at)
   where
+    below : (a b : ℕ) → nat_lt a b ≡ true → a < b
+    below a b test = grind (arith, nat_tests)
+
     behind : (newest : ℕ) → newest ≡ length (roster_of w).rings - 1
         → (up_at i w.instances ≡ true) × (nat_lt (known_at i w.instances) newest ≡ true)
         → At i (IsBehind w.common.rings.items) w.instances
@@ -91,9 +94,6 @@ learn_behind w i none consistent =
           up = sym (up_here i w.instances x at) ∙ parts.0;
           next = omega (arith, less, here, is, size);
         }
-
-    below : (a b : ℕ) → nat_lt a b ≡ true → a < b
-    below a b test = grind (arith, nat_tests)
 
 -- ---- it learned one
 
@@ -150,8 +150,8 @@ module _ (w w' : State) (i : ℕ) (consistent : IsConsistent w) (up : up_at i w.
   local_same t = refl
 
   module _ (v : Watch) (asked : AreAsked v w) where
-    over : (t : List ℕ) → IsOver (λ c request. IsAskerOf v t c) (each t)
-    over t =
+    wait_over : (t : List ℕ) → IsOver (λ c request. IsAskerOf v t c) (each t)
+    wait_over t =
         learned_over (λ c request. IsAskerOf v t c) (here_on now (learned x) t) (three_on now x t)
         (local_in t (learned x))
         (subst (λ (l : Local). WaitOver (λ c request. IsAskerOf v t c) l.operations)
@@ -161,22 +161,22 @@ module _ (w w' : State) (i : ℕ) (consistent : IsConsistent w) (up : up_at i w.
     asked_still t =
         at_each (λ j. WaitOver (λ c request. IsAskerOf v t c) (local_at t j w'.instances).operations) i
         (subst (λ (l : Local). WaitOver (λ c request. IsAskerOf v t c) l.operations)
-        (sym (local_here t i w'.instances y last.1 ∙ local_then t)) (over t).0)
+        (sym (local_here t i w'.instances y last.1 ∙ local_then t)) (wait_over t).0)
         (λ j apart. subst (λ (l : Local). WaitOver (λ c request. IsAskerOf v t c) l.operations)
         (sym (local_other t i j w.instances w'.instances change.others apart)) (asked t j))
 
     module _ (u : Watch) (later : Later v u) where
       silent_front : front_outputs u acts.told ≡ []
       silent_front =
-          says_no_front (learned x) acts.told each says v u later (λ t. (over t).1) own_then
+          says_no_front (learned x) acts.told each says v u later (λ t. (wait_over t).1) own_then
 
       all_owned : are_owned u acts.told ≡ true
-      all_owned = says_owned (learned x) acts.told each says v u later (λ t. (over t).1) own_then
+      all_owned = says_owned (learned x) acts.told each says v u later (λ t. (wait_over t).1) own_then
 
       told_as : (t : List ℕ) (k : ℕ) (as_there : Reaction) → x.incarnation ≡ k → each t ≡ as_there
           → outputs_of t u acts.told ≡ map (output_of t i k) as_there.said
       told_as t k as_there incarnation same =
-          says_as (learned x) acts.told each says v u later (λ n. (over n).1) own_then t i k as_there number
+          says_as (learned x) acts.told each says v u later (λ n. (wait_over n).1) own_then t i k as_there number
           incarnation same
 
   -- ---- the instances then

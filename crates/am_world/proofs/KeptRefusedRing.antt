@@ -1,7 +1,6 @@
--- A change of the ring or of an instance that is refused keeps the simulation: it changes nothing, and is refused in any
--- private cluster.
-use Rattle.std.proofs.Common.{◌≡◌, ◌∙◌, inl, ℕ, true, is_some, List, [], ◌∷◌, Option, None, refl, sym, ap}
-use Rattle.std.proofs.Common.{subst, if◌then◌else◌}
+-- A change of the ring or of an instance that is refused keeps the simulation: it changes nothing, and is refused in
+-- any private cluster.
+use Rattle.std.proofs.Common.{◌≡◌, ◌∙◌, inl, ℕ, true, is_some, List, [], ◌∷◌, Option, None, refl, sym, ap, subst}
 use Rattle.std.proofs.lemmas.List.{append-nil}
 use Rattle.am_cluster.proofs.Watched.{refused_same}
 use Rattle.am_cluster.specs.Courses.{refusal_of}
@@ -49,7 +48,8 @@ adds_as (Crashes i) t v = refl
 adds_as (Restarts i) t v = refl
 adds_as (Learns i) t v = refl
 
-pub roster_as : (change : RingEvent) (roster : Roster) → roster_then (event_of change) roster ≡ roster_with change roster
+pub roster_as : (change : RingEvent) (roster : Roster)
+    → roster_then (event_of change) roster ≡ roster_with change roster
 roster_as (Joins i) roster = refl
 roster_as (Leaves i) roster = refl
 roster_as (Crashes i) roster = refl

@@ -72,11 +72,11 @@ not_some None a P none some = absurd cc
 not_some (Some b) a P none some = absurd cc
 
 -- all eight had their turn
-module _ {R : Type 0} (g : Ghosts R) (setting : Setting) (k : ℕ) (old now : List R) (w : State) (over : 8 ≤ k)
+module _ {R : Type 0} (g : Ghosts R) (setting : Setting) (k : ℕ) (old now : List R) (w : State) (end : 8 ≤ k)
     (low : k ≤ 8) (so : AreOpenedTo g setting k old now w) where
   done : AreOpenedTo g setting 8 old now w
   done =
-      let all : k ≡ 8 = omega (arith, over, low) in
+      let all : k ≡ 8 = omega (arith, end, low) in
       subst (λ n. AreOpenedTo g setting n old now w) all so
 
   abbrev rows : List ℕ → ℕ → List Item

@@ -74,13 +74,13 @@ unfolding incarnation_at
 next_incarnations r xs x numbered here =
     sym (raise_all r xs)
     ∙ incarnations_are (map (raise r) xs) (raise_numbers r xs ∙ numbered)
-    ∙ map_alike (λ j. incarnation_at j (map (raise r) xs)) then all_instances
-    (at_each (λ j. incarnation_at j (map (raise r) xs) ≡ then j) r own other)
+    ∙ map_alike (λ j. incarnation_at j (map (raise r) xs)) next all_instances
+    (at_each (λ j. incarnation_at j (map (raise r) xs) ≡ next j) r own other)
   where
-    then : ℕ → ℕ
-    then = put_at (λ k. incarnation_where (instance_at k xs)) r (incarnation_where (instance_at r xs) + 1)
+    next : ℕ → ℕ
+    next = put_at (λ k. incarnation_where (instance_at k xs)) r (incarnation_where (instance_at r xs) + 1)
 
-    own : incarnation_where (instance_at r (map (raise r) xs)) ≡ then r
+    own : incarnation_where (instance_at r (map (raise r) xs)) ≡ next r
     own =
         let is : x.number ≡ r = number_of r xs x here in
         let itself : nat_eq x.number r ≡ true = grind (arith, nat_tests) in
@@ -97,7 +97,7 @@ next_incarnations r xs x numbered here =
         let differs : nat_eq y.number r ≡ false = grind (arith, nat_tests) in
         ap (λ b. if b then y.incarnation + 1 else y.incarnation) differs
 
-    other : (j : ℕ) → nat_eq j r ≡ false → incarnation_where (instance_at j (map (raise r) xs)) ≡ then j
+    other : (j : ℕ) → nat_eq j r ≡ false → incarnation_where (instance_at j (map (raise r) xs)) ≡ next j
     other j apart =
         ap incarnation_where (raise_at r j xs) ∙ by_found j apart (instance_at j xs) refl
         ∙ sym (put_other (λ k. incarnation_where (instance_at k xs)) r j (incarnation_where (instance_at r xs) + 1)

@@ -1,9 +1,7 @@
 -- A restart, as a world takes it: when it is refused, and that all had their turns.
-use Rattle.std.proofs.Common.{◌≡◌, ◌∙◌, inl, inr, ℕ, ◌+◌, ◌-◌, ◌<◌, ◌≤◌, ◌==◌, ◌&&◌, ◌||◌, nat_eq, Bool, true}
-use Rattle.std.proofs.Common.{false, List, IfNone, IfSome, IsSome, None, Option, Some, drop, is_none, is_some, not}
-use Rattle.std.proofs.Common.{refl, sym, take, ap}
+use Rattle.std.proofs.Common.{◌≡◌, ◌∙◌, inl, inr, ℕ, ◌+◌, ◌-◌, ◌==◌, ◌&&◌, nat_eq, Bool, true, false, List, IfNone}
+use Rattle.std.proofs.Common.{IfSome, IsSome, None, Option, Some, drop, is_none, is_some, not, refl, sym, take, ap}
 use Rattle.std.proofs.Common.{subst, arith}
-use Rattle.std.proofs.Common.{if◌then◌else◌}
 use Rattle.std.specs.Prelude.{nat_le}
 use Rattle.std.proofs.lemmas.Bool.{and_parts, cases_Bool, false≢true, true≢false}
 use Rattle.std.proofs.lemmas.Bool.Decides.{nat_tests}
@@ -37,15 +35,16 @@ pub restart_tested : (w : State) (i : ℕ) (contains out : Bool) → contains �
     → out ≡ not (up_at i w.instances) → (contains && out) ≡ may_restart w i
 restart_tested w i contains out among is = λ d. among d && is d
 
-none_is : {X : Type 0} (o : Option X) → is_none o ≡ not (is_some o)
-none_is None = refl
-none_is (Some x) = refl
+not_not : (b : Bool) → b ≡ not (not b)
+not_not true = refl
+not_not false = refl
 
 -- whether an instance isn't up, by who is found
-pub down_known : (w : State) (i : ℕ) (o : Option ℕ) (out : Bool) → out ≡ is_none o
+pub down_known : (w : State) (i : ℕ) (o : Option ℕ) (out : Bool) → is_some o ≡ not out
     → IfSome o (λ n. up_at i w.instances ≡ true) → IfNone o (up_at i w.instances ≡ false)
     → out ≡ not (up_at i w.instances)
-down_known w i o out is some none = is ∙ none_is o ∙ ap not (sym (up_known w i o (is_some o) refl some none))
+down_known w i o out is some none =
+    not_not out ∙ ap not (sym is) ∙ ap not (sym (up_known w i o (is_some o) refl some none))
 
 pub restart_not_up : (w : State) (i : ℕ) → may_restart w i ≡ false
     → ring_event_refusal (Restarts i) (roster_of w) ≡ Some InstanceNotUp

@@ -162,7 +162,7 @@ module _ (w w' : State) (m : ℕ) (post : Post) (numbered : AreNumbered w.instan
     down = λ j is. (turns.stops j is).down;
     causes = cause;
     others = idle_same;
-    starts = λ j. inl (
+    starts = λ j. (
       each_place (λ o o'. incarnation_where o' ≡ incarnation_where o) j (λ o. refl) (λ x y stays. stays.incarnation),
       each_place (λ o o'. known_where o' ≡ known_where o) j (λ o. refl) (λ x y stays. stays.known),
     );

@@ -9,7 +9,7 @@ use Rattle.am_cluster.specs.RingChanges.{other_restarted}
 use Rattle.am_cluster.specs.Rings.{newest_epoch}
 use Rattle.am_cluster.specs.Roster.{Restarts, Roster, ring_event_refusal, roster_after}
 use Rattle.am_item.specs.declared.fault.Fault.{Fault}
-use Rattle.am_ring.proofs.Numbers.{all_among, among_all, within}
+use Rattle.am_ring.proofs.Numbers.{all_among, within}
 use Rattle.am_ring.specs.Instances.{all_instances, is_among, is_instance}
 use Rattle.am_instance.specs.Changing.{StopsForcing, StopsReactingAll, renewed}
 use Rattle.am_instance.specs.Shelves.{Shelf}
@@ -248,8 +248,8 @@ module _ (w w' : State) (r : ℕ) (old new : List Shelf) (consistent : IsConsist
           | inr found ↦
               inr (faulted_turns w w' (Restart r) old new (restarted_as (around_opening r w) r)
               (DoesAtRestart (around_opening r w) r (shelf_at r old) (shelf_at r new))
-              (FailsAtRestart (around_opening r w) r (shelf_at r old) (shelf_at r new)) consistent.numbered asks_restart turns found.0
-              found.1)
+              (FailsAtRestart (around_opening r w) r (shelf_at r old) (shelf_at r new)) consistent.numbered asks_restart
+              turns found.0 found.1)
         ];
     clean = never;
   }

@@ -5,6 +5,7 @@ use Rattle.am_cluster.specs.Roster.{Crashes}
 use Rattle.am_world.specs.Consistent.{around, over}
 use Rattle.am_world.specs.Places.{incarnations_of, up_at}
 use Rattle.am_world.specs.Stopping.{Step}
+use Rattle.am_world.specs.declared.state.State.{State}
 use Rattle.am_world.proofs.KeptCrash.{crash_refused, crash_taken, goes_down, kept_crash}
 use Rattle.am_world.proofs.KeptRefusedRing.{step_refused}
 use Rattle.am_world.proofs.Placed.{consistent_but_all}
@@ -29,8 +30,9 @@ returns-clause-step c shelves backed =
     let w = c.args.self.now in
     let n = c.in-Some.number in
     let up : up_at n w.instances ≡ true = ap (λ k. up_at k w.instances) c.in-Some.ensures.at ∙ c.in-Some.ensures.up in
-    subst (λ k. Step (over w shelves) (Crash k) (over _ shelves)) c.in-Some.ensures.at
-    (kept_crash w _ n up (record {
+    let w' : State = record w { instances = c.shut.new.self } in
+    subst (λ k. Step (over w shelves) (Crash k) (over w' shelves)) c.in-Some.ensures.at
+    (kept_crash w w' n up (record {
       numbered = c.requires.numbered;
       exists = c.in-Some.ensures.exists;
       leaves = c.shut.ensures.leaves;

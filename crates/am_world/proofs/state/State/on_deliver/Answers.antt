@@ -192,7 +192,7 @@ returns-in-Err-clause-step g c =
     let to = c.in-Some-up.ensures.at ∙ c.number.ensures.number ∙ sym (ap (λ (m : Message). m.to) p.2) in
     let up = ap (λ (i : ℕ). up_at i xs) c.in-Some-up.ensures.at ∙ c.in-Some-up.ensures.up in
     record {
-      ends = inr (faulted_at c.args.self.now c.receive.new.self c.stop-in-Err.new.self _ _
+      ends = inr (faulted_at c.args.self.now c.receive.new.self c.stop-in-Err.new.self (map f stores) _
           (Deliver c.args.name.now c.args.moment) c.in-Some-up.receiver c.in-Err.fault (rw (allowed, p.1) refl) refl
           (works_alone c.args.self.now c.args.name.now c.args.moment c.in-Some-up.receiver p.0 p.1
           c.requires.consistent.filed to up)
@@ -200,7 +200,7 @@ returns-in-Err-clause-step g c =
           (stops_delivered c.args.self.now c.receive.new.self c.stop-in-Err.new.self c.args.name.now c.args.moment
           c.in-Some-up.receiver p.0 c.in-Err.fault p.1 c.requires.consistent.numbered c.in-Err.ensures.fails.others
           c.stop-in-Err.ensures.stopped
-          (rw (c.effective-at.ensures, c.in-Ok.ensures ∙ sym p.2) at c.in-Err.ensures.cause)));
+          (rw (c.effective-at.ensures, c.in-Ok.ensures ∙ sym p.2) at c.in-Err.ensures.cause) (map f stores)));
       clean = cleaner_put f stores c.place.result c.in-Some-up.receiver c.place.ensures.place
           (get_or stores c.place.result c.index-stores-place.result) c.receive.new.store less
           (slice_get-get_or stores c.place.result c.index-stores-place.result less) c.receive.ensures.clean;

@@ -42,7 +42,7 @@ returns-in-Err-clause-step g c =
     let w = c.args.self.now in
     let i = c.args.instance in
     let is : join_refusal i (newest_in w.common) ≡ Some c.in-Err.refusal =
-    rw c.newest-ring.ensures at c.in-Err.ensures.refusal in
+    rw c.newest.ensures at c.in-Err.ensures.refusal in
     step_refused w (Joins i) (ap (λ (o : Option Refused). is_some o) (join_refused w i c.in-Err.refusal is))
     (map (shelf_of g.R.Rows) c.args.stores.now)
 
@@ -51,7 +51,7 @@ returns-in-Err-clause-refused g c =
     let w = c.args.self.now in
     let i = c.args.instance in
     let is : join_refusal i (newest_in w.common) ≡ Some c.in-Err.refusal =
-    rw c.newest-ring.ensures at c.in-Err.ensures.refusal in
+    rw c.newest.ensures at c.in-Err.ensures.refusal in
     rw (join_refused w i c.in-Err.refusal is) (ap Err c.by_ring.ensures)
 
 pub returns-in-Err-clause-left : goal.returns-in-Err-clause-left
@@ -60,35 +60,35 @@ returns-in-Err-clause-left g c =
     let i = c.args.instance in
     join_untouched g.R.Rows.rejects w w i (map (shelf_of g.R.Rows) c.args.stores.now)
 
-pub unwrap-requires : goal.unwrap-requires
-unwrap-requires g c =
+pub unwrap-number-requires : goal.unwrap-number-requires
+unwrap-number-requires g c =
     let w = c.args.self.now in
     let i = c.args.instance in
-    let none : join_refusal i (newest_in w.common) ≡ None = rw c.newest-ring.ensures at c.in_default.ensures.refusal in
+    let none : join_refusal i (newest_in w.common) ≡ None = rw c.newest.ensures at c.in_default.ensures.refusal in
     let is = joiner_is i w none in
     rw (c.new.ensures, is) refl
 
-pub returns-then-incarnation-eq-MAX-clause-step : goal.returns-then-incarnation-eq-MAX-clause-step
-returns-then-incarnation-eq-MAX-clause-step g c =
+pub returns-then-incarnation-clause-step : goal.returns-then-incarnation-clause-step
+returns-then-incarnation-clause-step g c =
     let w = c.args.self.now in
     let i = c.args.instance in
-    let none : join_refusal i (newest_in w.common) ≡ None = rw c.newest-ring.ensures at c.in_default.ensures.refusal in
+    let none : join_refusal i (newest_in w.common) ≡ None = rw c.newest.ensures at c.in_default.ensures.refusal in
     let last : nat_le last_incarnation (incarnation_at i w.instances) ≡ true =
-    rw (← c.incarnation.ensures) (rw c.if-incarnation-eq-MAX.true refl) in
+    rw (← c.incarnation.ensures) (rw c.if-incarnation.true refl) in
     step_refused w (Joins i) (ap (λ (o : Option Refused). is_some o) (join_last w i none last))
     (map (shelf_of g.R.Rows) c.args.stores.now)
 
-pub returns-then-incarnation-eq-MAX-clause-refused : goal.returns-then-incarnation-eq-MAX-clause-refused
-returns-then-incarnation-eq-MAX-clause-refused g c =
+pub returns-then-incarnation-clause-refused : goal.returns-then-incarnation-clause-refused
+returns-then-incarnation-clause-refused g c =
     let w = c.args.self.now in
     let i = c.args.instance in
-    let none : join_refusal i (newest_in w.common) ≡ None = rw c.newest-ring.ensures at c.in_default.ensures.refusal in
+    let none : join_refusal i (newest_in w.common) ≡ None = rw c.newest.ensures at c.in_default.ensures.refusal in
     let last : nat_le last_incarnation (incarnation_at i w.instances) ≡ true =
-    rw (← c.incarnation.ensures) (rw c.if-incarnation-eq-MAX.true refl) in
+    rw (← c.incarnation.ensures) (rw c.if-incarnation.true refl) in
     rw (join_last w i none last) refl
 
-pub returns-then-incarnation-eq-MAX-clause-left : goal.returns-then-incarnation-eq-MAX-clause-left
-returns-then-incarnation-eq-MAX-clause-left g c =
+pub returns-then-incarnation-clause-left : goal.returns-then-incarnation-clause-left
+returns-then-incarnation-clause-left g c =
     let w = c.args.self.now in
     let i = c.args.instance in
     join_untouched g.R.Rows.rejects w w i (map (shelf_of g.R.Rows) c.args.stores.now)
@@ -99,9 +99,9 @@ pub returns-then-is_err-clause-step : goal.returns-then-is_err-clause-step
 returns-then-is_err-clause-step g c =
     let w = c.args.self.now in
     let i = c.args.instance in
-    let none : join_refusal i (newest_in w.common) ≡ None = rw c.newest-ring.ensures at c.in_default.ensures.refusal in
+    let none : join_refusal i (newest_in w.common) ≡ None = rw c.newest.ensures at c.in_default.ensures.refusal in
     let next : nat_le last_incarnation (incarnation_at i w.instances) ≡ false =
-    rw (← c.incarnation.ensures) (not_last c.incarnation.result c.if-incarnation-eq-MAX.false (search rules)) in
+    rw (← c.incarnation.ensures) (not_last c.incarnation.result c.if-incarnation.false (search rules)) in
     let failed = sym c.is_err.ensures.value ∙ c.if-is_err.true in
     let same = unpushed c.push.result c.push.new.self.items _ _ c.push.ensures.items failed in
     rw c.count_fault.ensures (record {
@@ -114,9 +114,9 @@ pub returns-then-is_err-clause-refused : goal.returns-then-is_err-clause-refused
 returns-then-is_err-clause-refused g c =
     let w = c.args.self.now in
     let i = c.args.instance in
-    let none : join_refusal i (newest_in w.common) ≡ None = rw c.newest-ring.ensures at c.in_default.ensures.refusal in
+    let none : join_refusal i (newest_in w.common) ≡ None = rw c.newest.ensures at c.in_default.ensures.refusal in
     let next : nat_le last_incarnation (incarnation_at i w.instances) ≡ false =
-    rw (← c.incarnation.ensures) (not_last c.incarnation.result c.if-incarnation-eq-MAX.false (search rules)) in
+    rw (← c.incarnation.ensures) (not_last c.incarnation.result c.if-incarnation.false (search rules)) in
     rw (join_taken w i none next) refl
 
 pub returns-then-is_err-clause-consistent : goal.returns-then-is_err-clause-consistent
@@ -140,13 +140,13 @@ returns-then-is_err-clause-left g c =
 
 -- ---- it comes up, or stops on the way
 
-pub next_incarnations-requires : goal.next_incarnations-requires
-next_incarnations-requires g c =
+pub next_incarnations-incarnations-requires : goal.next_incarnations-incarnations-requires
+next_incarnations-incarnations-requires g c =
     let w = c.args.self.now in
     let i = c.args.instance in
-    let none : join_refusal i (newest_in w.common) ≡ None = rw c.newest-ring.ensures at c.in_default.ensures.refusal in
+    let none : join_refusal i (newest_in w.common) ≡ None = rw c.newest.ensures at c.in_default.ensures.refusal in
     let next : nat_le last_incarnation (incarnation_at i w.instances) ≡ false =
-    rw (← c.incarnation.ensures) (not_last c.incarnation.result c.if-incarnation-eq-MAX.false (search rules)) in
+    rw (← c.incarnation.ensures) (not_last c.incarnation.result c.if-incarnation.false (search rules)) in
     let n = c.unwrap-number.result in
     let one = made i n (sym c.unwrap-number.ensures ∙ c.new.ensures) in
     let went = sym c.is_err.ensures.value ∙ c.if-is_err.false in
@@ -155,7 +155,7 @@ next_incarnations-requires g c =
     let rings = pushed c.push.result c.push.new.self.items _ _ c.push.ensures.items went in
     let ring : c.join.new.self ≡ members_of (with_instance n (newest_in w.common)) =
     c.in_default.ensures.ok
-    ∙ (λ d. members_of (with_instance (sym one.0 d) (c.newest-ring.ensures d))) in
+    ∙ (λ d. members_of (with_instance (sym one.0 d) (c.newest.ensures d))) in
     let joins = joining n w begun c.join.new.self c.requires.consistent begins rings
     (ap (λ (r : Members). r.instances) ring) (ap (λ k. join_refusal k (newest_in w.common)) one.0 ∙ none)
     (ap (λ k. nat_le last_incarnation (incarnation_at k w.instances)) one.0 ∙ next) in
@@ -165,9 +165,9 @@ pub come_up-requires-clause-consistent : goal.come_up-requires-clause-consistent
 come_up-requires-clause-consistent g c =
     let w = c.args.self.now in
     let i = c.args.instance in
-    let none : join_refusal i (newest_in w.common) ≡ None = rw c.newest-ring.ensures at c.in_default.ensures.refusal in
+    let none : join_refusal i (newest_in w.common) ≡ None = rw c.newest.ensures at c.in_default.ensures.refusal in
     let next : nat_le last_incarnation (incarnation_at i w.instances) ≡ false =
-    rw (← c.incarnation.ensures) (not_last c.incarnation.result c.if-incarnation-eq-MAX.false (search rules)) in
+    rw (← c.incarnation.ensures) (not_last c.incarnation.result c.if-incarnation.false (search rules)) in
     let n = c.unwrap-number.result in
     let one = made i n (sym c.unwrap-number.ensures ∙ c.new.ensures) in
     let went = sym c.is_err.ensures.value ∙ c.if-is_err.false in
@@ -176,7 +176,7 @@ come_up-requires-clause-consistent g c =
     let rings = pushed c.push.result c.push.new.self.items _ _ c.push.ensures.items went in
     let ring : c.join.new.self ≡ members_of (with_instance n (newest_in w.common)) =
     c.in_default.ensures.ok
-    ∙ (λ d. members_of (with_instance (sym one.0 d) (c.newest-ring.ensures d))) in
+    ∙ (λ d. members_of (with_instance (sym one.0 d) (c.newest.ensures d))) in
     let joins = joining n w begun c.join.new.self c.requires.consistent begins rings
     (ap (λ (r : Members). r.instances) ring) (ap (λ k. join_refusal k (newest_in w.common)) one.0 ∙ none)
     (ap (λ k. nat_le last_incarnation (incarnation_at k w.instances)) one.0 ∙ next) in
@@ -194,9 +194,9 @@ pub come_up-requires-clause-may : goal.come_up-requires-clause-may
 come_up-requires-clause-may g c =
     let w = c.args.self.now in
     let i = c.args.instance in
-    let none : join_refusal i (newest_in w.common) ≡ None = rw c.newest-ring.ensures at c.in_default.ensures.refusal in
+    let none : join_refusal i (newest_in w.common) ≡ None = rw c.newest.ensures at c.in_default.ensures.refusal in
     let next : nat_le last_incarnation (incarnation_at i w.instances) ≡ false =
-    rw (← c.incarnation.ensures) (not_last c.incarnation.result c.if-incarnation-eq-MAX.false (search rules)) in
+    rw (← c.incarnation.ensures) (not_last c.incarnation.result c.if-incarnation.false (search rules)) in
     let n = c.unwrap-number.result in
     let one = made i n (sym c.unwrap-number.ensures ∙ c.new.ensures) in
     let went = sym c.is_err.ensures.value ∙ c.if-is_err.false in
@@ -205,7 +205,7 @@ come_up-requires-clause-may g c =
     let rings = pushed c.push.result c.push.new.self.items _ _ c.push.ensures.items went in
     let ring : c.join.new.self ≡ members_of (with_instance n (newest_in w.common)) =
     c.in_default.ensures.ok
-    ∙ (λ d. members_of (with_instance (sym one.0 d) (c.newest-ring.ensures d))) in
+    ∙ (λ d. members_of (with_instance (sym one.0 d) (c.newest.ensures d))) in
     let joins = joining n w begun c.join.new.self c.requires.consistent begins rings
     (ap (λ (r : Members). r.instances) ring) (ap (λ k. join_refusal k (newest_in w.common)) one.0 ∙ none)
     (ap (λ k. nat_le last_incarnation (incarnation_at k w.instances)) one.0 ∙ next) in
@@ -215,9 +215,9 @@ pub returns-clause-step : goal.returns-clause-step
 returns-clause-step g c =
     let w = c.args.self.now in
     let i = c.args.instance in
-    let none : join_refusal i (newest_in w.common) ≡ None = rw c.newest-ring.ensures at c.in_default.ensures.refusal in
+    let none : join_refusal i (newest_in w.common) ≡ None = rw c.newest.ensures at c.in_default.ensures.refusal in
     let next : nat_le last_incarnation (incarnation_at i w.instances) ≡ false =
-    rw (← c.incarnation.ensures) (not_last c.incarnation.result c.if-incarnation-eq-MAX.false (search rules)) in
+    rw (← c.incarnation.ensures) (not_last c.incarnation.result c.if-incarnation.false (search rules)) in
     let n = c.unwrap-number.result in
     let one = made i n (sym c.unwrap-number.ensures ∙ c.new.ensures) in
     let f = λ (r : g.row.R.Denot). shelf_of g.R.Rows r in
@@ -232,7 +232,7 @@ returns-clause-step g c =
     let rings = pushed c.push.result c.push.new.self.items _ _ c.push.ensures.items went in
     let ring : c.join.new.self ≡ members_of (with_instance n (newest_in w.common)) =
     c.in_default.ensures.ok
-    ∙ (λ d. members_of (with_instance (sym one.0 d) (c.newest-ring.ensures d))) in
+    ∙ (λ d. members_of (with_instance (sym one.0 d) (c.newest.ensures d))) in
     let joins = joining n w begun c.join.new.self c.requires.consistent begins rings
     (ap (λ (r : Members). r.instances) ring) (ap (λ k. join_refusal k (newest_in w.common)) one.0 ∙ none)
     (ap (λ k. nat_le last_incarnation (incarnation_at k w.instances)) one.0 ∙ next) in
@@ -258,9 +258,9 @@ pub returns-clause-refused : goal.returns-clause-refused
 returns-clause-refused g c =
     let w = c.args.self.now in
     let i = c.args.instance in
-    let none : join_refusal i (newest_in w.common) ≡ None = rw c.newest-ring.ensures at c.in_default.ensures.refusal in
+    let none : join_refusal i (newest_in w.common) ≡ None = rw c.newest.ensures at c.in_default.ensures.refusal in
     let next : nat_le last_incarnation (incarnation_at i w.instances) ≡ false =
-    rw (← c.incarnation.ensures) (not_last c.incarnation.result c.if-incarnation-eq-MAX.false (search rules)) in
+    rw (← c.incarnation.ensures) (not_last c.incarnation.result c.if-incarnation.false (search rules)) in
     rw (join_taken w i none next) refl
 
 pub returns-clause-backed : goal.returns-clause-backed
@@ -282,9 +282,9 @@ pub returns-clause-left : goal.returns-clause-left
 returns-clause-left g c =
     let w = c.args.self.now in
     let i = c.args.instance in
-    let none : join_refusal i (newest_in w.common) ≡ None = rw c.newest-ring.ensures at c.in_default.ensures.refusal in
+    let none : join_refusal i (newest_in w.common) ≡ None = rw c.newest.ensures at c.in_default.ensures.refusal in
     let next : nat_le last_incarnation (incarnation_at i w.instances) ≡ false =
-    rw (← c.incarnation.ensures) (not_last c.incarnation.result c.if-incarnation-eq-MAX.false (search rules)) in
+    rw (← c.incarnation.ensures) (not_last c.incarnation.result c.if-incarnation.false (search rules)) in
     let n = c.unwrap-number.result in
     let one = made i n (sym c.unwrap-number.ensures ∙ c.new.ensures) in
     let f = λ (r : g.row.R.Denot). shelf_of g.R.Rows r in
@@ -299,12 +299,13 @@ returns-clause-left g c =
     let rings = pushed c.push.result c.push.new.self.items _ _ c.push.ensures.items went in
     let ring : c.join.new.self ≡ members_of (with_instance n (newest_in w.common)) =
     c.in_default.ensures.ok
-    ∙ (λ d. members_of (with_instance (sym one.0 d) (c.newest-ring.ensures d))) in
+    ∙ (λ d. members_of (with_instance (sym one.0 d) (c.newest.ensures d))) in
     let joins = joining n w begun c.join.new.self c.requires.consistent begins rings
     (ap (λ (r : Members). r.instances) ring) (ap (λ k. join_refusal k (newest_in w.common)) one.0 ∙ none)
     (ap (λ k. nat_le last_incarnation (incarnation_at k w.instances)) one.0 ∙ next) in
     let no = taken w (Joins n) joins.taken in
-    subst (λ k. LeavesShelves g.R.Rows.rejects w (Join k) c.come_up.new.self (map f stores) _) one.0
+    let new = map f (slice_set stores c.place.result c.come_up.new.store) in
+    subst (λ k. LeavesShelves g.R.Rows.rejects w (Join k) c.come_up.new.self (map f stores) new) one.0
     (turned_put f stores c.place.result n c.place.ensures.place g.R.Rows.rejects w (Join n) c.come_up.new.self store
     c.come_up.new.store less found (λ j. refl) (λ j apart. turns_beside w n j apart) (λ some. tt)
     (λ out. absurd (true≢false (sym (turns_joined w n no) ∙ out))))

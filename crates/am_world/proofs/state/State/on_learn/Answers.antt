@@ -45,8 +45,8 @@ returns-then-not-is_behind-clause-left g c =
 
 -- ---- it learns, or stops on the way
 
-pub unwrap-requires : goal.unwrap-requires
-unwrap-requires g c =
+pub unwrap-number-requires : goal.unwrap-number-requires
+unwrap-number-requires g c =
     let w = c.args.self.now in
     let i = c.args.instance in
     let none = learn_taken w i (sym c.is_behind.ensures ∙ c.if-not-is_behind.false) in
@@ -132,7 +132,7 @@ returns-clause-left g c =
     let y = c.learn.new.store in
     let exists = exists_at n w.instances c.requires.consistent.numbered
     (subst (λ k. IsTrue (is_instance k)) (sym one.0) one.1) in
-    subst (λ k. LeavesShelves g.R.Rows.rejects w (Learn k) c.learn.new.self (map f xs) _) one.0
+    subst (λ k. LeavesShelves g.R.Rows.rejects w (Learn k) c.learn.new.self (map f xs) (map f (slice_set xs p y))) one.0
     (turned_put f xs p n c.place.ensures.place g.R.Rows.rejects w (Learn n) c.learn.new.self store y less found
     (λ j. refl) (λ j apart. learn_elsewhere w n j apart)
     (λ some. learn_turned w c.learn.new.self n (f store) (f y) exists c.learn.ensures.left)

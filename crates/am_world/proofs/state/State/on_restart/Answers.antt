@@ -1,12 +1,12 @@
-use Rattle.std.proofs.Common.{◌≡◌, ◌≢◌, ◌∙◌, ◌≤◌, ℕ, IsTrue, Option, ap, arith, false, is_some, map, not, refl, rules}
-use Rattle.std.proofs.Common.{subst, sym, true}
+use Rattle.std.proofs.Common.{◌≡◌, ◌≢◌, ◌∙◌, ◌≤◌, ℕ, IsTrue, Option, ap, arith, false, is_some, map, refl, rules, subst}
+use Rattle.std.proofs.Common.{sym, true}
 use Rattle.std.specs.Prelude.{nat_le}
 use Rattle.std.proofs.lemmas.Bool.Decides.{nat_tests}
 use Rattle.am_cluster.specs.Events.{Restart}
 use Rattle.am_cluster.specs.Refused.{InstanceNotUp, NoIncarnation, Refused}
 use Rattle.am_cluster.specs.Roster.{Restarts, last_incarnation, ring_event_refusal}
 use Rattle.am_ring.proofs.Numbers.{made}
-use Rattle.am_ring.specs.Instances.{is_among, is_instance}
+use Rattle.am_ring.specs.Instances.{is_instance}
 use Rattle.am_instance.specs.Shelves.{shelf_of}
 use Rattle.am_world.specs.Changing.{MayComeUp, may_restart}
 use Rattle.am_world.specs.Consistent.{newest_in, over}
@@ -52,39 +52,39 @@ returns-then-not-may_restart-clause-left g c =
 
 -- ---- it had its last incarnation
 
-pub returns-then-incarnation-eq-MAX-clause-step : goal.returns-then-incarnation-eq-MAX-clause-step
-returns-then-incarnation-eq-MAX-clause-step g c =
+pub returns-then-incarnation-clause-step : goal.returns-then-incarnation-clause-step
+returns-then-incarnation-clause-step g c =
     let w = c.args.self.now in
     let i = c.args.instance in
     let ok : may_restart w i ≡ true = sym c.may_restart.ensures ∙ c.if-not-may_restart.false in
     let last : nat_le last_incarnation (incarnation_at i w.instances) ≡ true =
-    rw (← c.incarnation.ensures) (rw c.if-incarnation-eq-MAX.true refl) in
+    rw (← c.incarnation.ensures) (rw c.if-incarnation.true refl) in
     step_refused w (Restarts i) (ap (λ (o : Option Refused). is_some o) (restart_last w i ok last))
     (map (shelf_of g.R.Rows) c.args.stores.now)
 
-pub returns-then-incarnation-eq-MAX-clause-refused : goal.returns-then-incarnation-eq-MAX-clause-refused
-returns-then-incarnation-eq-MAX-clause-refused g c =
+pub returns-then-incarnation-clause-refused : goal.returns-then-incarnation-clause-refused
+returns-then-incarnation-clause-refused g c =
     let w = c.args.self.now in
     let i = c.args.instance in
     let ok : may_restart w i ≡ true = sym c.may_restart.ensures ∙ c.if-not-may_restart.false in
     let last : nat_le last_incarnation (incarnation_at i w.instances) ≡ true =
-    rw (← c.incarnation.ensures) (rw c.if-incarnation-eq-MAX.true refl) in
+    rw (← c.incarnation.ensures) (rw c.if-incarnation.true refl) in
     rw (restart_last w i ok last) refl
 
-pub returns-then-incarnation-eq-MAX-clause-left : goal.returns-then-incarnation-eq-MAX-clause-left
-returns-then-incarnation-eq-MAX-clause-left g c =
+pub returns-then-incarnation-clause-left : goal.returns-then-incarnation-clause-left
+returns-then-incarnation-clause-left g c =
     let w = c.args.self.now in
     let i = c.args.instance in
     let ok : may_restart w i ≡ true = sym c.may_restart.ensures ∙ c.if-not-may_restart.false in
     let last : nat_le last_incarnation (incarnation_at i w.instances) ≡ true =
-    rw (← c.incarnation.ensures) (rw c.if-incarnation-eq-MAX.true refl) in
+    rw (← c.incarnation.ensures) (rw c.if-incarnation.true refl) in
     restart_untouched g.R.Rows.rejects w i (map (shelf_of g.R.Rows) c.args.stores.now) NoIncarnation
     (restart_last w i ok last)
 
 -- ---- it is restarted
 
-pub unwrap-requires : goal.unwrap-requires
-unwrap-requires g c =
+pub unwrap-number-requires : goal.unwrap-number-requires
+unwrap-number-requires g c =
     let w = c.args.self.now in
     let i = c.args.instance in
     let ok : may_restart w i ≡ true = sym c.may_restart.ensures ∙ c.if-not-may_restart.false in
@@ -104,7 +104,7 @@ restart-requires-clause-may g c =
     let i = c.args.instance in
     let ok : may_restart w i ≡ true = sym c.may_restart.ensures ∙ c.if-not-may_restart.false in
     let next : nat_le last_incarnation (incarnation_at i w.instances) ≡ false =
-    rw (← c.incarnation.ensures) (not_last c.incarnation.result c.if-incarnation-eq-MAX.false (search rules)) in
+    rw (← c.incarnation.ensures) (not_last c.incarnation.result c.if-incarnation.false (search rules)) in
     let n = c.unwrap-number.result in
     let one = made i n (sym c.unwrap-number.ensures ∙ c.new.ensures) in
     subst (λ k. At k (MayComeUp (newest_in w.common)) w.instances) (sym one.0) (restart_may w i ok next)
@@ -115,7 +115,7 @@ returns-clause-step g c =
     let i = c.args.instance in
     let ok : may_restart w i ≡ true = sym c.may_restart.ensures ∙ c.if-not-may_restart.false in
     let next : nat_le last_incarnation (incarnation_at i w.instances) ≡ false =
-    rw (← c.incarnation.ensures) (not_last c.incarnation.result c.if-incarnation-eq-MAX.false (search rules)) in
+    rw (← c.incarnation.ensures) (not_last c.incarnation.result c.if-incarnation.false (search rules)) in
     let n = c.unwrap-number.result in
     let one = made i n (sym c.unwrap-number.ensures ∙ c.new.ensures) in
     let old = map (shelf_of g.R.Rows) c.args.stores.now in
@@ -132,7 +132,7 @@ returns-clause-refused g c =
     let i = c.args.instance in
     let ok : may_restart w i ≡ true = sym c.may_restart.ensures ∙ c.if-not-may_restart.false in
     let next : nat_le last_incarnation (incarnation_at i w.instances) ≡ false =
-    rw (← c.incarnation.ensures) (not_last c.incarnation.result c.if-incarnation-eq-MAX.false (search rules)) in
+    rw (← c.incarnation.ensures) (not_last c.incarnation.result c.if-incarnation.false (search rules)) in
     rw (restart_taken w i ok next) refl
 
 pub returns-clause-left : goal.returns-clause-left
@@ -141,7 +141,7 @@ returns-clause-left g c =
     let i = c.args.instance in
     let ok : may_restart w i ≡ true = sym c.may_restart.ensures ∙ c.if-not-may_restart.false in
     let next : nat_le last_incarnation (incarnation_at i w.instances) ≡ false =
-    rw (← c.incarnation.ensures) (not_last c.incarnation.result c.if-incarnation-eq-MAX.false (search rules)) in
+    rw (← c.incarnation.ensures) (not_last c.incarnation.result c.if-incarnation.false (search rules)) in
     let n = c.unwrap-number.result in
     let one = made i n (sym c.unwrap-number.ensures ∙ c.new.ensures) in
     let old = map (shelf_of g.R.Rows) c.args.stores.now in

@@ -1,4 +1,4 @@
-use Rattle.std.proofs.Common.{◌≡◌, ◌∙◌, [], ap, inr, refl, subst, sym}
+use Rattle.std.proofs.Common.{◌≡◌, ◌∙◌, [], ap, arith, inr, refl, subst, sym}
 use Rattle.am_messages.specs.Posted.{posted_at}
 use Rattle.am_instance.specs.Here.{Circumstances, circumstances}
 use Rattle.am_instance.specs.Instance.{IsDown}
