@@ -1,6 +1,6 @@
 -- All instances of a private cluster have their turns: what is found under a name among all that they send, and that a
 -- world has the same under each name of the tenant.
-use Rattle.std.proofs.Common.{◌≡◌, ◌∙◌, inl, inr, ℕ, ◌==◌, nat_eq, suc, Bool, true, false, Contains, List, [], ◌∷◌}
+use Rattle.std.proofs.Common.{◌≡◌, ◌∙◌, inl, inr, ℕ, nat_eq, suc, Bool, true, false, Contains, List, [], ◌∷◌}
 use Rattle.std.proofs.Common.{◌++◌, ◌&&◌, find, flat_map, is_some, map, Option, None, Some, refl, sym, ap, arith}
 use Rattle.std.proofs.Common.{if◌then◌else◌}
 use Rattle.std.specs.Prelude.{nat_le}

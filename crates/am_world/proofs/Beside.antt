@@ -2,7 +2,7 @@
 -- stores have then.
 use Rattle.std.proofs.Common.{◌≡◌, ◌⊎◌, ◌∙◌, inl, inr, ℕ, true, false, List, [], ◌∷◌, ◌++◌, Some, refl, sym, ap, subst}
 use Rattle.std.specs.List.{list_all}
-use Rattle.std.proofs.lemmas.Bool.{and_parts, true≢false}
+use Rattle.std.proofs.lemmas.Bool.{and_parts}
 use Rattle.am_cluster.specs.Patterns.{IsRefusedBuild}
 use Rattle.am_cluster.specs.Deciding.{Decision}
 use Rattle.am_cluster.specs.Courses.{after_all, course_by, fits_all, told_all}
@@ -19,8 +19,8 @@ use Rattle.am_limit.specs.Books.{limits_of}
 use Rattle.am_rows.specs.Rows.{rows_of}
 use Rattle.am_world.specs.Consistent.{Contents, over}
 use Rattle.am_world.specs.Places.{up_at}
-use Rattle.am_world.specs.Shelves.{NeverCleaner, shelf_at}
-use Rattle.am_world.specs.Simulation.{AreAsked, Follows, KeepsRows, Stands, StandsOver, fault_count, put_out}
+use Rattle.am_world.specs.Shelves.{shelf_at}
+use Rattle.am_world.specs.Simulation.{AreAsked, Follows, KeepsRows, Stands, fault_count, put_out}
 use Rattle.am_world.specs.Simulation.{refused_by, roster_of}
 use Rattle.am_world.specs.Steps as whole
 use Rattle.am_world.specs.Steps.{KeepsBuilds, Later, clock_after, limits_after, told_when_decided, when_decided}

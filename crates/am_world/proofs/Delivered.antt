@@ -1,6 +1,6 @@
 -- A message that reaches its receiver: what was found under its name, whose store is written, and what is left there.
-use Rattle.std.proofs.Common.{◌≡◌, ◌&&◌, ℕ, Bool, true, false, List, Option, None, Some, option_map, ap, refl, sym, subst}
-use Rattle.std.proofs.Common.{◌∙◌, arith, inl, inr, nat_eq}
+use Rattle.std.proofs.Common.{◌≡◌, ℕ, Bool, true, false, List, Option, None, Some, option_map, ap, refl, sym, subst}
+use Rattle.std.proofs.Common.{◌∙◌, ◌&&◌, arith, inl, inr, nat_eq}
 use Rattle.std.specs.Prelude.{◌==◌}
 use Rattle.std.proofs.lemmas.Bool.Decides.{nat_tests}
 use Rattle.am_cluster.specs.Events.{Deliver}

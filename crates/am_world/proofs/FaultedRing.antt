@@ -1,12 +1,11 @@
 -- An event by which the ring or an instance changes, where the one instance that works stopped, or where there was no
 -- memory for the ring.
-use Rattle.std.proofs.Common.{◌≡◌, ◌∙◌, inl, inr, ℕ, ◌+◌, ◌-◌, ◌^◌, ◌==◌, nat_eq, true, false, List, [], ◌++◌}
+use Rattle.std.proofs.Common.{◌≡◌, ◌∙◌, inl, inr, ℕ, ◌+◌, ◌-◌, ◌^◌, ◌==◌, nat_eq, true, false, List, []}
 use Rattle.std.proofs.Common.{Option, None, Some, IsSome, min, refl, sym, ap, subst, arith}
 use Rattle.std.proofs.lemmas.Bool.{cases_Bool, true≢false}
 use Rattle.std.proofs.lemmas.Bool.Decides.{nat_tests}
 use Rattle.std.proofs.lemmas.List.{append-nil}
 use Rattle.am_cluster.specs.Events.{Event}
-use Rattle.am_cluster.specs.Roster.{Roster}
 use Rattle.am_item.specs.declared.fault.Fault.{Fault}
 use Rattle.am_limit.specs.Books.{limits_of}
 use Rattle.am_messages.specs.Posted.{posted_at}

@@ -1,6 +1,6 @@
--- A connection that isn't opened, since its instance is down, and one that isn't closed, since none reads it: this changes
--- nothing, and is nothing to any private cluster.
-use Rattle.std.proofs.Common.{◌≡◌, ◌∙◌, ℕ, true, false, List, [], Option, None, Some, refl, sym, ap}
+-- A connection that isn't opened, since its instance is down, and one that isn't closed, since none reads it: this
+-- changes nothing, and is nothing to any private cluster.
+use Rattle.std.proofs.Common.{◌≡◌, ◌∙◌, ℕ, false, List, Option, None, Some, refl, sym, ap}
 use Rattle.am_cluster.specs.Events.{Open, Close}
 use Rattle.am_cluster.specs.Outputs.{front_told}
 use Rattle.am_cluster.specs.View.{AskedAs, FrontAnswered, Reading, Seen, Shut, Table, Watch, adds, closed, look, watch}

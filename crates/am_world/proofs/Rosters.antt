@@ -1,7 +1,7 @@
 -- The rings and instances after events: only instances are up, the newest ring is in order, and what is the same of all
 -- instances stays so.
 use Rattle.std.proofs.Common.{◌≡◌, ◌∙◌, ℕ, ◌==◌, ◌&&◌, is_none, is_some, List, [], ◌∷◌, Option, None, Some, refl, sym}
-use Rattle.std.proofs.Common.{ap, subst, Bool, true, false, if◌then◌else◌}
+use Rattle.std.proofs.Common.{ap, if◌then◌else◌}
 use Rattle.am_cluster.proofs.Newest.{in_order_after}
 use Rattle.am_cluster.proofs.UpExist.{up_exist_event}
 use Rattle.am_cluster.proofs.Watched.{after_same, refused_same}
@@ -10,10 +10,10 @@ use Rattle.am_cluster.specs.Events.{Join, Leave, Crash, Restart, Learn, Force}
 use Rattle.am_cluster.specs.Refused.{Refused}
 use Rattle.am_cluster.specs.Roster.{AreInstancesUp, Crashes, IsSameRoster, Joins, Learns, Leaves, Restarts, RingEvent}
 use Rattle.am_cluster.specs.Roster.{Roster, ring_event_refusal, ring_now, roster_after}
-use Rattle.am_ring.specs.Instances.{in_order, is_instance}
+use Rattle.am_ring.specs.Instances.{in_order}
 use Rattle.am_instance.specs.Shelves.{Shelf}
 use Rattle.am_world.specs.Changes.{AreOpenedClean, OpensClean, opens_store, roster_then, roster_with}
-use Rattle.am_world.specs.Shelves.{AreClean, NeverCleaner, shelf_at}
+use Rattle.am_world.specs.Shelves.{AreClean, NeverCleaner}
 
 pub record IsSound (roster : Roster) : Type 0 where
   pub up : AreInstancesUp roster

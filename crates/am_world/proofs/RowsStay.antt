@@ -1,6 +1,6 @@
 -- What a private cluster keeps of instances that are down, where neither the ring nor an instance changes.
-use Rattle.std.proofs.Common.{◌≡◌, ◌∙◌, ℕ, Bool, true, false, ◌&&◌, is_some, List, [], ◌∷◌, Option, None, Some, refl}
-use Rattle.std.proofs.Common.{sym, ap, ◌++◌, if◌then◌else◌}
+use Rattle.std.proofs.Common.{◌≡◌, ◌∙◌, ℕ, Bool, true, false, is_some, List, [], ◌∷◌, Option, None, Some, refl}
+use Rattle.std.proofs.Common.{◌++◌, if◌then◌else◌}
 use Rattle.std.specs.List.{list_all}
 use Rattle.std.proofs.lemmas.Bool.{and_parts, false≢true}
 use Rattle.am_cluster.specs.Courses.{after, after_all, course_by, delivered, handled_by, posted_in, refusal_of}

@@ -152,7 +152,8 @@ watched c [] c' v run none clean follows asked once = rw run (
 watched c (e ∷ es) c' v (mid, step, run) none clean follows asked once =
     let kept = step_kept c e mid c' step (faults_stay mid es c' run) none in
     let opens = clean_before (roster_of c.state) e mid.shelves c'.shelves (run_clean mid es c' run) clean.0 in
-    let later = clean_same es (roster_of mid.state) (roster_then e (roster_of c.state)) c'.shelves kept.roster clean.1 in
+    let later = clean_same es (roster_of mid.state) (roster_then e (roster_of c.state)) c'.shelves kept.roster
+    clean.1 in
     let rest = watched mid es c' (watch v e) run none later (kept.follows v follows)
     (kept.asked opens v follows once.0 asked) once.1 in (
       kept.outs ++ rest.0,

@@ -10,7 +10,7 @@ use Rattle.am_item.specs.declared.item.Item.{Item}
 use Rattle.am_world.specs.Changes.{AreOpenedClean, OpensClean, roster_then}
 use Rattle.am_world.specs.Consistent.{Contents}
 use Rattle.am_world.specs.Opening.{Opens}
-use Rattle.am_world.specs.Places.{AreBuilt, KeepRefused}
+use Rattle.am_world.specs.Places.{KeepRefused}
 use Rattle.am_world.specs.Runs.{Alone, Forgets, ForgetsOver, patterns_asked}
 use Rattle.am_world.specs.Shelves.{NeverCleaner, shelf_at}
 use Rattle.am_world.specs.Simulation.{AreAsked, Follows, Stands, StandsOver, fault_count, put_out, refused_by}

@@ -290,7 +290,8 @@ module _ {R : Type 0} (f : R → Shelf) (stores : List R) (p n : ℕ) (next : p 
   pub turned_put : (Rejects : List ℕ → List Item → Type 0) (w : State) (e : Event) (w' : State) (x y : R)
       → p < length stores → slice_get stores p ≡ Some x → ((j : ℕ) → writes w e j ≡ false)
       → ((j : ℕ) → (j == n) ≡ false → opens_or_drops w e j ≡ false)
-      → (opens_or_drops w e n ≡ true → LeavesOpenedOrDropped w e w' n (f x) (f y)) → (opens_or_drops w e n ≡ false → f y ≡ f x)
+      → (opens_or_drops w e n ≡ true → LeavesOpenedOrDropped w e w' n (f x) (f y))
+      → (opens_or_drops w e n ≡ false → f y ≡ f x)
       → LeavesShelves Rejects w e w' (map f stores) (map f (slice_set stores p y))
   turned_put Rejects w e w' x y less found unwritten alone left idle = record {
     each = λ j some. absurd (true≢false (sym some ∙ unwritten j));
@@ -301,7 +302,8 @@ module _ {R : Type 0} (f : R → Shelf) (stores : List R) (p n : ℕ) (next : p 
       own : opens_or_drops w e n ≡ true
           → LeavesOpenedOrDropped w e w' n (shelf_at n (map f stores)) (shelf_at n (map f (slice_set stores p y)))
       own some =
-          subst (λ old. LeavesOpenedOrDropped w e w' n old (shelf_at n (map f (slice_set stores p y)))) (sym (shelf_is x found))
+          subst (λ old. LeavesOpenedOrDropped w e w' n old (shelf_at n (map f (slice_set stores p y))))
+          (sym (shelf_is x found))
           (subst (λ new. LeavesOpenedOrDropped w e w' n (f x) new) (sym (shelf_put y less)) (left some))
 
       stays : opens_or_drops w e n ≡ false → shelf_at n (map f (slice_set stores p y)) ≡ shelf_at n (map f stores)

@@ -1,6 +1,6 @@
 -- What is so between events is so at a later moment.
-use Rattle.std.proofs.Common.{◌≡◌, ◌∙◌, ℕ, ◌<◌, ◌≤◌, Bool, true, false, length, List, Option, None, Some, if◌then◌else◌}
-use Rattle.std.proofs.Common.{max, refl, sym, arith, subst}
+use Rattle.std.proofs.Common.{◌≡◌, ◌∙◌, ℕ, ◌≤◌, Bool, true, false, Option, None, Some, if◌then◌else◌}
+use Rattle.std.proofs.Common.{max, refl, sym, arith}
 use Rattle.std.specs.Prelude.{nat_le}
 use Rattle.am_cluster.specs.Moments.{last_moment}
 use Rattle.am_messages.specs.Posted.{lost_at, posted_at, unlost}

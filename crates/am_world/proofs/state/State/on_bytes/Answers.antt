@@ -1,4 +1,4 @@
-use Rattle.std.proofs.Common.{◌≡◌, ap, false, inl, inr, refl, sym, arith}
+use Rattle.std.proofs.Common.{◌≡◌, ap, false, refl, sym, arith}
 use Rattle.std.proofs.lemmas.Bool.Decides.{nat_tests}
 use Rattle.am_cluster.specs.Events.{Bytes}
 use Rattle.am_cluster.specs.Moments.{is_too_late}

@@ -20,7 +20,8 @@ returns-clause-step c =
     let n = c.in-Some.reader in
     let close = c.close.ensures in
     let found = read_here c.args.connection n xs c.in-Some.ensures.exists c.in-Some.ensures.reads in
-    step_beside c.args.self.now (Close c.args.connection) _ refl (kept_close c.args.self.now _ n c.args.connection found.0 found.1
+    step_beside c.args.self.now (Close c.args.connection) _ refl
+    (kept_close c.args.self.now _ n c.args.connection found.0 found.1
     (closed_at n c.args.connection xs c.close.new.self c.requires.numbered close.at close.reading)
     (rest_same c.args.self.now _ refl refl refl c.requires.numbered close.at.numbered
     (turns_each Rests rests_itself n xs c.close.new.self close.at.others close.stays)) refl refl)

@@ -13,13 +13,15 @@ use Rattle.am_world.proofs.state.State.on_outcome.Goals as goal
 pub returns-then-moment-gt-LAST_MOMENT-clause-step : goal.returns-then-moment-gt-LAST_MOMENT-clause-step
 returns-then-moment-gt-LAST_MOMENT-clause-step c =
     step_beside c.args.self.now (Outcome c.args.attempt.now c.args.ended.tries c.args.moment c.args.ended.status)
-    c.args.self.now refl (kept_unawaited c.args.self.now c.args.attempt.now c.args.ended.tries c.args.moment c.args.ended.status
+    c.args.self.now refl
+    (kept_unawaited c.args.self.now c.args.attempt.now c.args.ended.tries c.args.moment c.args.ended.status
     (inl (grind (arith, nat_tests))))
 
 pub returns-in_default-clause-step : goal.returns-in_default-clause-step
 returns-in_default-clause-step c =
     step_beside c.args.self.now (Outcome c.args.attempt.now c.args.ended.tries c.args.moment c.args.ended.status)
-    c.args.self.now refl (kept_unawaited c.args.self.now c.args.attempt.now c.args.ended.tries c.args.moment c.args.ended.status
+    c.args.self.now refl
+    (kept_unawaited c.args.self.now c.args.attempt.now c.args.ended.tries c.args.moment c.args.ended.status
     (inr c.in_default.ensures.none))
 
 pub take_outcome-requires-clause-up : goal.take_outcome-requires-clause-up
