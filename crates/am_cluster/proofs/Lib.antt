@@ -20,3 +20,4 @@ pub mod Posted
 pub mod Open
 pub mod Posting
 pub mod UpExist
+pub mod Watched

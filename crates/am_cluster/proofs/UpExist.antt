@@ -1,5 +1,5 @@
 -- Only instances are up, and the newest ring is in order, whatever happens.
-use Rattle.std.proofs.Common.{◌≡◌, ℕ, Bool, true, false, ◌&&◌, ◌||◌, not, Contains, List, [], ◌∷◌, Option, Some, None, eqb, is_some, if◌then◌else◌, refl, sym, subst, ◌∙◌}
+use Rattle.std.proofs.Common.{◌≡◌, ℕ, Bool, true, false, ◌&&◌, ◌||◌, not, Contains, List, [], ◌∷◌, Option, Some, None, eqb, is_some, if◌then◌else◌, refl, sym, subst}
 use Rattle.std.specs.Prelude.{IsTrue, ◌==◌}
 use Rattle.std.specs.List.{list_all}
 use Rattle.std.proofs.lemmas.Bool.{and_parts, eqb-true, false≢true}
@@ -11,7 +11,7 @@ use Rattle.am_ring.specs.Replicas.{replicas}
 use Rattle.am_ring.proofs.Admitted.{may_join}
 use Rattle.am_ring.proofs.Numbers.{all_among}
 use Rattle.am_cluster.specs.Arriving.{arrive}
-use Rattle.am_cluster.specs.Courses.{at_restart, changed, course_by, delivered, handled_by, posted_in, refusal_of, with_event}
+use Rattle.am_cluster.specs.Courses.{changed, course_by, delivered, handled_by, posted_in, refusal_of, with_event}
 use Rattle.am_cluster.specs.Delivery.{outcome}
 use Rattle.am_cluster.specs.Happening.{Happening, Asked, Changed, Delivered, Forced, Limited, Lost, Ticked, Tried}
 use Rattle.am_cluster.specs.Here.{Here}
@@ -25,8 +25,6 @@ use Rattle.am_cluster.specs.Reactions.{Reaction}
 use Rattle.am_cluster.specs.Refused.{Refused, InstanceNotUp}
 use Rattle.am_cluster.specs.RingChanges.{just_opened, ring_learned}
 use Rattle.am_cluster.specs.Roster.{AreInstancesUp, Crashes, Joins, Learns, Leaves, Restarts, RingEvent, Roster, opened_roster, put_at, ring_event_refusal, ring_now, roster_after, three_at, unless_last}
-use Rattle.am_cluster.specs.Ticking.{ticked}
-use Rattle.am_cluster.specs.Transfers.{forced}
 use Rattle.am_cluster.proofs.Newest.{in_order_after, in_order_first, is_member, ring_agreed}
 
 -- ---- instances
@@ -59,7 +57,7 @@ put_up up i b is old j e = by_place (j == i) refl e
     by_place false elsewhere d = old j d
 
 -- what was not refused passed the test
-passed : (b : Bool) (o : Option Refused) (refusal : Refused) → (if b then o else Some refusal) ≡ None → b ≡ true
+pub passed : (b : Bool) (o : Option Refused) (refusal : Refused) → (if b then o else Some refusal) ≡ None → b ≡ true
 passed true o refusal e = refl
 passed false o refusal e = absurd cc
 
@@ -92,7 +90,7 @@ module _ (Q : Roster → Type 0) where
   unfolding react_one
   react_roster f m i p q = if_roster (p.roster.up i) (react_one f m i p) (unchanged p) q q
 
-  changed_roster : (event : RingEvent) (p : PrivateCluster) → Q (roster_after event p.roster)
+  pub changed_roster : (event : RingEvent) (p : PrivateCluster) → Q (roster_after event p.roster)
       → Q (changed event p).cluster.roster
   unfolding changed react_all
   changed_roster (Joins i) p q = react_roster just_opened p.clock i (with_opened i (with_event (Joins i) p)) q
@@ -109,9 +107,14 @@ module _ (Q : Roster → Type 0) where
   delivered_roster decide m (Some message) p q =
       react_roster (λ here local. arrive decide here message local) m message.to p q
 
+  -- where an event of the ring is what happens, and isn't refused
+  abbrev Changes : PrivateCluster → Happening → Type 0
+  Changes p h =
+      (event : RingEvent) → h ≡ Changed event → ring_event_refusal event p.roster ≡ None
+      → Q (roster_after event p.roster)
+
   handled_roster : (decide : Decide) (p : PrivateCluster) (h : Happening) → refusal_of p h ≡ None → Q p.roster
-      → ((event : RingEvent) → ring_event_refusal event p.roster ≡ None → Q (roster_after event p.roster))
-      → Q (handled_by decide p h).cluster.roster
+      → Changes p h → Q (handled_by decide p h).cluster.roster
   unfolding handled_by refusal_of react_all
   handled_roster decide p (Asked connection i moment request) none q new =
       react_roster (λ here local. start here connection request local) (effective moment p.clock) i p q
@@ -122,11 +125,10 @@ module _ (Q : Roster → Type 0) where
   handled_roster decide p (Delivered from k to count moment) none q new =
       delivered_roster decide (effective moment p.clock) (posted_in p from k to count) p q
   handled_roster decide p (Lost from k to count) none q new = q
-  handled_roster decide p (Changed event) none q new = changed_roster event p (new event none)
+  handled_roster decide p (Changed event) none q new = changed_roster event p (new event refl none)
   handled_roster decide p Forced none q new = q
 
-  pub course_roster : (decide : Decide) (p : PrivateCluster) (h : Happening) → Q p.roster
-      → ((event : RingEvent) → ring_event_refusal event p.roster ≡ None → Q (roster_after event p.roster))
+  pub course_roster : (decide : Decide) (p : PrivateCluster) (h : Happening) → Q p.roster → Changes p h
       → Q (course_by decide p h).cluster.roster
   unfolding course_by
   course_roster decide p h q new = by_refusal (refusal_of p h) refl
@@ -141,22 +143,27 @@ pub ring_ordered_after : (decide : Decide) (p : PrivateCluster) (h : Happening)
     → ring_now (course_by decide p h).cluster.roster ≡ in_order (ring_now (course_by decide p h).cluster.roster)
 ring_ordered_after decide p h ordered =
     course_roster (λ roster. ring_now roster ≡ in_order (ring_now roster)) decide p h ordered
-    (λ event none. in_order_after p.roster event ordered none)
+    (λ event is none. in_order_after p.roster event ordered none)
 
 pub up_exist_after : (decide : Decide) (p : PrivateCluster) (h : Happening)
     → ring_now p.roster ≡ in_order (ring_now p.roster) → AreInstancesUp p.roster
     → AreInstancesUp (course_by decide p h).cluster.roster
 up_exist_after decide p h ordered up =
-    course_roster AreInstancesUp decide p h up (λ event none. up_exist_event p.roster event ordered none up)
+    course_roster AreInstancesUp decide p h up (λ event is none. up_exist_event p.roster event ordered none up)
 
 -- ---- its start
+
+-- where the ring has instances alone
+pub up_exist_first : (origin : Origin) → list_all is_instance origin.setting.ring ≡ true
+    → AreInstancesUp (opened_roster origin.setting)
+up_exist_first origin instances i up = is_one_of i (among_instances origin.setting.ring i instances up)
 
 pub opened_all_roster : (is : List ℕ) (p : PrivateCluster) → (with_all_opened is p).roster ≡ p.roster
 opened_all_roster [] p = refl
 opened_all_roster (i ∷ is) p = opened_all_roster is (with_opened i p)
 
 module _ (origin : Origin) (tenant : List ℕ) (rows : ℕ → List Item) where
-  opened_so : (opened origin tenant rows).roster ≡ opened_roster origin.setting
+  pub opened_so : (opened origin tenant rows).roster ≡ opened_roster origin.setting
   opened_so = opened_all_roster origin.setting.ring (unopened (replicas tenant) origin tenant rows)
 
   pub ring_ordered_opened : ring_now (opened origin tenant rows).roster
@@ -164,9 +171,6 @@ module _ (origin : Origin) (tenant : List ℕ) (rows : ℕ → List Item) where
   ring_ordered_opened =
       subst (λ roster. ring_now roster ≡ in_order (ring_now roster)) (sym opened_so) (in_order_first origin.setting)
 
-  -- where the ring has instances alone
   pub up_exist_opened : list_all is_instance origin.setting.ring ≡ true
       → AreInstancesUp (opened origin tenant rows).roster
-  up_exist_opened instances =
-      subst AreInstancesUp (sym opened_so)
-      (λ i up. is_one_of i (among_instances origin.setting.ring i instances up))
+  up_exist_opened instances = subst AreInstancesUp (sym opened_so) (up_exist_first origin instances)

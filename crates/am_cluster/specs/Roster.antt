@@ -70,6 +70,14 @@ pub data RingEvent : Type 0 where
   -- it goes on to the next ring
   Learns : (i : ℕ) → RingEvent
 
+-- which instance that is
+abbrev pub instance_in : RingEvent → ℕ
+instance_in (Joins i) = i
+instance_in (Leaves i) = i
+instance_in (Crashes i) = i
+instance_in (Restarts i) = i
+instance_in (Learns i) = i
+
 abbrev pub last_incarnation : ℕ
 last_incarnation = 4_294_967_295
 

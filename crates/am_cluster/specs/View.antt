@@ -1,14 +1,17 @@
 -- What a list of events is to one tenant, read off the events alone.
-use Rattle.std.specs.Prelude.{ℕ, IsTrue, is_some, ◌==◌, ◌≡◌, List, [], ◌∷◌, ◌++◌, Option, None, Some, if◌then◌else◌}
+use Rattle.std.specs.Prelude.{ℕ, IsTrue, is_some, ◌==◌, ◌≡◌, List, [], ◌∷◌, ◌++◌, Option, None, Some}
+use Rattle.std.specs.Prelude.{if◌then◌else◌}
 use Rattle.am_http.specs.declared.request.Fed.{Fed}
 use Rattle.am_http.specs.declared.request.Fed.TheVariants as fed
 use Rattle.am_http.specs.Verdict.{verdict}
 use Rattle.am_tenant.specs.Names.{same}
 use Rattle.am_cluster.specs.Events.{Event, Open, Bytes, Close, Limits, Tick, Outcome, Deliver, Lose}
-use Rattle.am_cluster.specs.Happening.{Happening, Asked, Delivered, Limited, Lost, Ticked, Tried}
+use Rattle.am_cluster.specs.Events.{Join, Leave, Crash, Restart, Learn, Force}
+use Rattle.am_cluster.specs.Happening.{Happening, Asked, Changed, Delivered, Forced, Limited, Lost, Ticked, Tried}
 use Rattle.am_cluster.specs.Moments.{is_too_late}
 use Rattle.am_cluster.specs.Origins.{Origin}
-use Rattle.am_cluster.specs.Roster.{Crashes, Joins, Learns, Leaves, Restarts, RingEvent, Roster, opened_roster, ring_event_refusal, roster_after}
+use Rattle.am_cluster.specs.Roster.{Crashes, Joins, Learns, Leaves, Restarts, RingEvent}
+use Rattle.am_cluster.specs.Roster.{Roster, opened_roster, ring_event_refusal, roster_after}
 
 -- ---- what is known from the events: the connections and the instances
 
@@ -90,7 +93,8 @@ watch_change event v =
 abbrev pub with_table : Table → Watch → Watch
 with_table table v = record v { table = table }
 
--- what is known after an event: a connection opens where the instance is up; a piece counts where its moment is allowed
+-- what is known after an event: a connection opens where the instance is up; a piece counts where its moment is allowed,
+-- and a change of the ring or of an instance where it isn't refused
 unfoldable pub watch : Watch → Event → Watch
 watch v (Open c i) = if v.roster.up i then with_table ((c, Reading i []) ∷ v.table) v else v
 watch v (Bytes c moment piece) = if is_too_late moment then v else with_table (noted c piece (look c v.table) v.table) v
@@ -100,6 +104,12 @@ watch v (Tick moment) = v
 watch v (Outcome attempt tries moment status) = v
 watch v (Deliver message moment) = v
 watch v (Lose message) = v
+watch v (Join i) = watch_change (Joins i) v
+watch v (Leave i) = watch_change (Leaves i) v
+watch v (Crash i) = watch_change (Crashes i) v
+watch v (Restart i) = watch_change (Restarts i) v
+watch v (Learn i) = watch_change (Learns i) v
+watch v (Force tenant) = v
 
 -- ---- what an event is to the tenant
 
@@ -122,6 +132,7 @@ asked_on t c moment piece None = []
 abbrev pub only_of : (t tenant : List ℕ) → Happening → List Happening
 only_of t tenant h = if same t tenant then h ∷ [] else []
 
+-- a tick, and a change of the ring or of an instance, happen to every tenant
 unfoldable pub adds : List ℕ → Watch → Event → List Happening
 adds t v (Open c i) = []
 adds t v (Bytes c moment piece) = if is_too_late moment then [] else asked_on t c moment piece (look c v.table)
@@ -132,6 +143,12 @@ adds t v (Outcome a tries moment status) =
     only_of t a.tenant (Tried a.instance a.incarnation a.number tries moment status)
 adds t v (Deliver m moment) = only_of t m.tenant (Delivered m.from m.incarnation m.to m.count moment)
 adds t v (Lose m) = only_of t m.tenant (Lost m.from m.incarnation m.to m.count)
+adds t v (Join i) = Changed (Joins i) ∷ []
+adds t v (Leave i) = Changed (Leaves i) ∷ []
+adds t v (Crash i) = Changed (Crashes i) ∷ []
+adds t v (Restart i) = Changed (Restarts i) ∷ []
+adds t v (Learn i) = Changed (Learns i) ∷ []
+adds t v (Force tenant) = only_of t tenant Forced
 
 -- what a list of events is to the tenant
 abbrev pub view : List ℕ → Watch → List Event → List Happening

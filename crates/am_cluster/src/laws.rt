@@ -1,14 +1,14 @@
 //! Laws of the private cluster, which no program needs to call.
 
-ghost use Rattle.std.specs.Prelude.{◌≡◌, ◌≤◌, ℕ, [], ◌∷◌, ◌++◌, Contains, List, None, Some, IsTrue, false, find};
-ghost use Rattle.std.specs.Prelude.{flat_map};
-ghost use Rattle.std.specs.List.{list_any};
+ghost use Rattle.std.specs.Prelude.{◌≡◌, ◌≤◌, ℕ, [], ◌∷◌, ◌++◌, Contains, List, None, Some, IsTrue, true, false, find};
+ghost use Rattle.std.specs.Prelude.{flat_map, is_some};
+ghost use Rattle.std.specs.List.{list_all, list_any};
 ghost use Rattle.am_item.specs.declared.item.Item.{Item};
-ghost use Rattle.am_ring.specs.Instances.{in_order};
+ghost use Rattle.am_ring.specs.Instances.{in_order, is_instance};
 ghost use Rattle.am_ring.specs.Replicas.{ReplacesOne};
 ghost use Rattle.am_setup.specs.Setup.{Origin as Setting};
 ghost use Rattle.am_cluster.specs.Courses.{after_all, told_all};
-ghost use Rattle.am_cluster.specs.Events.{Reply};
+ghost use Rattle.am_cluster.specs.Events.{Event, Reply};
 ghost use Rattle.am_cluster.specs.Happening.{Happening};
 ghost use Rattle.am_cluster.specs.Here.{Here, is_replica_here};
 ghost use Rattle.am_cluster.specs.Local.{Local, is_settled};
@@ -19,7 +19,8 @@ ghost use Rattle.am_cluster.specs.Plans.{plan_of};
 ghost use Rattle.am_cluster.specs.PrivateCluster.{PrivateCluster, here_at, opened};
 ghost use Rattle.am_cluster.specs.Reactions.{stays};
 ghost use Rattle.am_cluster.specs.Replying.{WaitOver, connections_of};
-ghost use Rattle.am_cluster.specs.Roster.{RingEvent, Roster, opened_roster, ring_event_refusal, ring_now, roster_after};
+ghost use Rattle.am_cluster.specs.Roster.{AreInstancesUp, IsSameRoster, RingEvent, Roster, instance_in, opened_roster};
+ghost use Rattle.am_cluster.specs.Roster.{ring_event_refusal, ring_now, roster_after};
 ghost use Rattle.am_cluster.specs.Sent.{Sent, is_named, posted, with_given_up};
 ghost use Rattle.am_cluster.specs.SentFacts.{AreLists, AreNamedOnce, found_as};
 ghost use Rattle.am_transfer.specs.Settling.{untouched};
@@ -29,6 +30,7 @@ ghost use Rattle.am_wire.specs.Messages.{spelling};
 ghost use Rattle.am_node.specs.Notices.{in_order as timers_in_order, timers_in};
 ghost use Rattle.am_cluster.specs.Transfers.{asks_first};
 ghost use Rattle.am_cluster.specs.Unnamed.{IsUnnamed, name_nobody};
+ghost use Rattle.am_cluster.specs.View.{Watch, adds, first_watch, view, watch, watch_all};
 
 /// A tenant whom nothing has named stays so, whatever happens to the ring, and nothing is put out for it.
 pub fn unnamed_tenants()
@@ -45,6 +47,35 @@ pub fn one_replica_changes()
     ensures ordered { (roster : Roster) (event : RingEvent) → ring_now roster ≡ in_order (ring_now roster)
         → ring_event_refusal event roster ≡ None
         → ring_now (roster_after event roster) ≡ in_order (ring_now (roster_after event roster)) }
+{}
+
+/// Only instances are ever up, and the newest ring is in order, whatever comes; so an event of the ring that names
+/// another number is refused.
+pub fn only_instances_are_up()
+    ensures opened { (origin : Origin) → list_all is_instance origin.setting.ring ≡ true
+        → AreInstancesUp (first_watch origin).roster }
+    ensures stay { (v : Watch) (e : Event) → ring_now v.roster ≡ in_order (ring_now v.roster)
+        → AreInstancesUp v.roster → AreInstancesUp (watch v e).roster }
+    ensures ordered { (v : Watch) (e : Event) → ring_now v.roster ≡ in_order (ring_now v.roster)
+        → ring_now (watch v e).roster ≡ in_order (ring_now (watch v e).roster) }
+    ensures others { (roster : Roster) (event : RingEvent) → ring_now roster ≡ in_order (ring_now roster)
+        → AreInstancesUp roster → is_instance (instance_in event) ≡ false
+        → is_some (ring_event_refusal event roster) ≡ true }
+{}
+
+/// Which instances are up, in which incarnations, and which rings they know is the same in each tenant's private
+/// cluster, whatever the events were: it is known from the events of the ring alone. So an event of the ring is refused
+/// for all tenants or for none.
+pub fn instances_are_known()
+    ensures refused { (one other : Roster) (event : RingEvent) → IsSameRoster one other
+        → ring_event_refusal event one ≡ ring_event_refusal event other }
+    ensures after { (one other : Roster) (event : RingEvent) → IsSameRoster one other
+        → IsSameRoster (roster_after event one) (roster_after event other) }
+    ensures event { (tenant : List ℕ) (v : Watch) (e : Event) (p : PrivateCluster) → IsSameRoster p.roster v.roster
+        → IsSameRoster (after_all p (adds tenant v e)).roster (watch v e).roster }
+    ensures all { (origin : Origin) (tenant : List ℕ) (rows : ℕ → List Item) (es : List Event)
+        → IsSameRoster (after_all (opened origin tenant rows) (view tenant (first_watch origin) es)).roster
+        (watch_all (first_watch origin) es).roster }
 {}
 
 /// While no instance joins, leaves or is restarted, the replicas are those that are settled, whatever else happens,

@@ -6,6 +6,7 @@
 mod laws;
 
 pub use laws::{
-    first_frame, messages_are_found_once, messages_are_named_once, one_list, one_replica_changes,
-    replies_answer_requests, settled_from_the_start, states_are_lists, unnamed_tenants,
+    first_frame, instances_are_known, messages_are_found_once, messages_are_named_once, one_list,
+    one_replica_changes, only_instances_are_up, replies_answer_requests, settled_from_the_start,
+    states_are_lists, unnamed_tenants,
 };

@@ -52,4 +52,37 @@ pub enum Event {
     Lose {
         message: MessageName,
     },
+    /// An instance comes into the ring in its next incarnation, opens its store, and knows the new ring at once.
+    /// Refused, in this order: [`RingFull`](crate::Refused::RingFull) where eight are in it,
+    /// [`WrongInstance`](crate::Refused::WrongInstance) where it isn't numbered 1 to 8 or is in it, and
+    /// [`NoIncarnation`](crate::Refused::NoIncarnation) where it had its last one.
+    Join {
+        instance: u8,
+    },
+    /// An instance is out of the ring at once, and of what it had nothing is left but the rows of one that was down.
+    /// Refused, in this order: [`RingSmall`](crate::Refused::RingSmall) where only three are in the ring, and
+    /// [`WrongInstance`](crate::Refused::WrongInstance) where it isn't in it.
+    Leave {
+        instance: u8,
+    },
+    /// An instance goes down: only its rows are left, and it stays in the ring. Refused:
+    /// [`InstanceNotUp`](crate::Refused::InstanceNotUp).
+    Crash {
+        instance: u8,
+    },
+    /// An instance comes up in its next incarnation, opens its store, and knows the newest ring at once. Refused, in
+    /// this order: [`InstanceNotUp`](crate::Refused::InstanceNotUp) where it isn't down in the ring, and
+    /// [`NoIncarnation`](crate::Refused::NoIncarnation) where it had its last one.
+    Restart {
+        instance: u8,
+    },
+    /// An instance goes on to the ring that followed the one it knows. Refused:
+    /// [`NothingToLearn`](crate::Refused::NothingToLearn).
+    Learn {
+        instance: u8,
+    },
+    /// A tenant's up replicas are settled from now on. It is never refused.
+    Force {
+        tenant: TenantName,
+    },
 }

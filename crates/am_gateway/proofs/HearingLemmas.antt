@@ -5,10 +5,10 @@ use Rattle.am_event.specs.declared.event.Event.{Event}
 use Rattle.am_event.specs.declared.output.Output.{Output}
 use Rattle.am_serve.specs.Lanes.{waiting_of}
 use Rattle.am_serve.specs.declared.host.Verdict.TheVariants.{Later, Undecided}
-use Rattle.am_world.specs.Runs.{Forgets, Run}
+use Rattle.am_world.specs.Consistent.{Contents}
+use Rattle.am_world.specs.Runs.{ForgetsOver, Run}
 use Rattle.am_world.specs.Simulation.{put_out}
 use Rattle.am_world.specs.Stopping.{Step}
-use Rattle.am_world.specs.declared.state.State.{State}
 use Rattle.am_gateway.specs.Gateway.{GivesReply, Handles, IsVerdictOn, LetsTick, Sorts, SortsSome, TellsWorld}
 use Rattle.am_gateway.specs.Passing.{has_message, passes}
 use Rattle.am_gateway.specs.Sorting.{Keeps, KeepsSome, Queues, QueuesSome, TryLanes, late_replies}
@@ -16,8 +16,9 @@ use Rattle.am_gateway.specs.declared.gateway.Gateway.{Gateway}
 use Rattle.am_gateway.specs.declared.sorting.LateReply.{LateReply}
 
 -- a step, what its messages came to, and what was taken away then
-pub handles : (w mid ended w' : State) (e : Event) (moment : ℕ) → Step w e mid
-    → Run mid (passes moment (put_out ended)) ended → Forgets ended w' → Handles w e moment (put_out ended) w'
+pub handles : (w mid ended w' : Contents) (e : Event) (moment : ℕ) → Step w e mid
+    → Run mid (passes moment (put_out ended.state)) ended → ForgetsOver ended w'
+    → Handles w e moment (put_out ended.state) w'
 handles w mid ended w' e moment step run taken =
     record { handled = ended; run = (mid, step, run); outputs = refl; taken = taken }
 
@@ -74,7 +75,7 @@ waits_some_before old mid new outs stay same sorts = record {
 
 -- what waited before a call ended waits after it
 pub tells_before : {R : Type 0} {X E : Type 0} (result : Result X E) (e : Event) (old mid new : Gateway R)
-    → mid.world.now.state ≡ old.world.now.state → mid.moment ≡ old.moment
+    → mid.world.now ≡ old.world.now → mid.moment ≡ old.moment
     → ((t : List ℕ) → waiting_of t mid.notices.lanes ≡ waiting_of t old.notices.lanes)
     → mid.replies.items ≡ old.replies.items → TellsWorld result e mid new → TellsWorld result e old new
 tells_before result e old mid new world moment stay same tells = record {

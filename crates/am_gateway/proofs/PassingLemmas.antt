@@ -1,5 +1,6 @@
 use Rattle.std.proofs.Common.{◌≡◌, ◌∙◌, ◌<◌, ◌≤◌, ◌+◌, ℕ, zero, suc, Bool, true, false, List, [], ◌∷◌, ◌++◌, Option, None, Some}
-use Rattle.std.proofs.Common.{inl, inr, length, length-append, get_or, take, drop, refl, sym, ap, subst, arith, append_assoc, append-nil}
+use Rattle.std.proofs.Common.{◌⊎◌, inl, inr, length, length-append, get_or, take, drop, refl, sym, ap, subst, arith}
+use Rattle.std.proofs.Common.{append_assoc, append-nil}
 use Rattle.std.specs.Prelude.{nat_lt, slice_get, if◌then◌else◌}
 use Rattle.std.specs.List.{flat_map}
 use Rattle.std.proofs.lemmas.Bool.{cases_lt, le-ltb, lt-ltb}
@@ -9,36 +10,37 @@ use Rattle.am_event.specs.declared.event.Event.{Event}
 use Rattle.am_event.specs.declared.event.Event.TheVariants.{Deliver}
 use Rattle.am_event.specs.declared.output.Output.{Output}
 use Rattle.am_messages.specs.declared.name.MessageName.{MessageName}
+use Rattle.am_world.specs.Consistent.{Contents}
 use Rattle.am_world.specs.Runs.{Run}
 use Rattle.am_world.specs.Simulation.{put_out}
-use Rattle.am_world.specs.Stopping.{Step}
-use Rattle.am_world.specs.declared.state.State.{State}
+use Rattle.am_world.specs.Steps.{Kept}
+use Rattle.am_world.specs.Stopping.{Faulted, Step}
 use Rattle.am_gateway.specs.Passing.{AddsTo, deliveries, deliveries_at, losses, message_at, message_in, message_where, passes, passes_at, passes_message, passes_within}
 
 -- ---- runs
 
-pub run_both : (a b c : State) (es fs : List Event) → Run a es b → Run b fs c → Run a (es ++ fs) c
+pub run_both : (a b c : Contents) (es fs : List Event) → Run a es b → Run b fs c → Run a (es ++ fs) c
 run_both a b c [] fs first second = subst (λ w. Run w fs c) first second
 run_both a b c (e ∷ es) fs first second = (first.0, first.1, run_both first.0 b c es fs first.2 second)
 
 -- one event
-pub one_step : (w : State) (e : Event) (w' : State) → Step w e w' → Run w (e ∷ []) w'
+pub one_step : (w : Contents) (e : Event) (w' : Contents) → Step w e w' → Run w (e ∷ []) w'
 one_step w e w' step = (w', step, refl)
 
 -- a message at a place is delivered, unless a million outputs come before it
-pub delivered : (place moment : ℕ) (name : MessageName) (w w' : State) → place < 1000000 → Step w (Deliver name moment) w'
-    → Run w (deliveries_at place moment (Some name)) w'
+pub delivered : (place moment : ℕ) (name : MessageName) (w w' : Contents) → place < 1000000
+    → Step w (Deliver name moment) w' → Run w (deliveries_at place moment (Some name)) w'
 delivered place moment name w w' within step =
     subst (λ (is : Bool). Run w (if is then Deliver name moment ∷ [] else []) w') (sym (lt-ltb place 1000000 within))
     (one_step w (Deliver name moment) w' step)
 
-pub not_delivered : (place moment : ℕ) (name : MessageName) (w : State) → 1000000 ≤ place
+pub not_delivered : (place moment : ℕ) (name : MessageName) (w : Contents) → 1000000 ≤ place
     → Run w (deliveries_at place moment (Some name)) w
 not_delivered place moment name w past =
     subst (λ (is : Bool). Run w (if is then Deliver name moment ∷ [] else []) w) (sym (le-ltb place 1000000 past)) refl
 
 -- where no message is, nothing happens
-pub none_passes : (place moment : ℕ) (message : Option MessageName) (w : State) → message ≡ None
+pub none_passes : (place moment : ℕ) (message : Option MessageName) (w : Contents) → message ≡ None
     → Run w (passes_at place moment message) w
 none_passes place moment message w none =
     subst (λ m. Run w (passes_at place moment m) w) (sym none) (either (nat_lt place 1000000))
@@ -51,8 +53,15 @@ pub adds_none : (outs : List Output) → AddsTo outs outs
 adds_none outs = ([], sym (append-nil outs))
 
 -- a step puts out more, and leaves what was put out
-pub step_adds : (w : State) (e : Event) (w' : State) → Step w e w' → AddsTo (put_out w) (put_out w')
-step_adds w e w' step = elim step [ inl kept ↦ (_, kept.appended) | inr faulted ↦ (_, faulted.appended) ]
+ended_adds : (w : Contents) (e : Event) (w' : Contents) → Kept w e w' ⊎ Faulted w e w'
+    → AddsTo (put_out w.state) (put_out w'.state)
+ended_adds w e w' (inl kept) = (_, kept.appended)
+ended_adds w e w' (inr (inl some)) = (_, some.appended)
+ended_adds w e w' (inr (inr nothing)) = ([], nothing.outputs ∙ sym (append-nil (put_out w.state)))
+
+pub step_adds : (w : Contents) (e : Event) (w' : Contents) → Step w e w'
+    → AddsTo (put_out w.state) (put_out w'.state)
+step_adds w e w' step = ended_adds w e w' step.ends
 
 pub adds_twice : (a b c : List Output) → AddsTo a b → AddsTo b c → AddsTo a c
 adds_twice a b c first second =
@@ -119,11 +128,11 @@ more_at moment place outs output here = elim (cases_lt place 1000000) [
 -- ---- the loop
 
 -- the messages among the outputs before a place were passed on
-pub record Passed (first now : State) (moment place : ℕ) : Type 0 where
-  pub within : place ≤ length (put_out now)
-  pub run : Run first (passes moment (take place (put_out now))) now
+pub record Passed (first now : Contents) (moment place : ℕ) : Type 0 where
+  pub within : place ≤ length (put_out now.state)
+  pub run : Run first (passes moment (take place (put_out now.state))) now
 
-pub none_passed : (w : State) (moment : ℕ) → Passed w w moment 0
+pub none_passed : (w : Contents) (moment : ℕ) → Passed w w moment 0
 none_passed w moment = record { within = omega arith; run = refl }
 
 -- what one place more comes to
@@ -139,16 +148,18 @@ next_passes moment place old new adds within =
     ∙ more_at moment place (take place old) one.0 (length-take-le place old (omega (arith, within)))
     ∙ ap (λ message. passes moment (take place old) ++ passes_at place moment message) (sym (ap message_where one.1))
 
-pub one_passed : (first now new : State) (moment place : ℕ) → Passed first now moment place → place < length (put_out now)
-    → Run now (passes_at place moment (message_at place (put_out now))) new → AddsTo (put_out now) (put_out new)
-    → Passed first new moment (place + 1)
+pub one_passed : (first now new : Contents) (moment place : ℕ) → Passed first now moment place
+    → place < length (put_out now.state)
+    → Run now (passes_at place moment (message_at place (put_out now.state))) new
+    → AddsTo (put_out now.state) (put_out new.state) → Passed first new moment (place + 1)
 one_passed first now new moment place before within run adds = record {
-  within = omega (arith, ap length adds.1, length-append (put_out now) adds.0, within);
-  run = subst (λ es. Run first es new) (sym (next_passes moment place (put_out now) (put_out new) adds within))
+  within = omega (arith, ap length adds.1, length-append (put_out now.state) adds.0, within);
+  run = subst (λ es. Run first es new)
+      (sym (next_passes moment place (put_out now.state) (put_out new.state) adds within))
       (run_both first now new _ _ before.run run);
 }
 
-pub all_passed : (first now : State) (moment place : ℕ) → Passed first now moment place → length (put_out now) ≤ place
-    → Run first (passes moment (put_out now)) now
+pub all_passed : (first now : Contents) (moment place : ℕ) → Passed first now moment place
+    → length (put_out now.state) ≤ place → Run first (passes moment (put_out now.state)) now
 all_passed first now moment place passed over =
-    subst (λ outs. Run first (passes moment outs) now) (take_all place (put_out now) over) passed.run
+    subst (λ outs. Run first (passes moment outs) now) (take_all place (put_out now.state) over) passed.run

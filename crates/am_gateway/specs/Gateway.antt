@@ -12,11 +12,11 @@ use Rattle.am_serve.specs.declared.host.Verdict.{Verdict}
 use Rattle.am_serve.specs.declared.host.Verdict.TheVariants.{Undecided, Reply, Later, Gone}
 use Rattle.am_server.specs.declared.service.Notice.{Notice}
 use Rattle.am_tenant.specs.Names.{same}
+use Rattle.am_world.specs.Consistent.{Contents}
 use Rattle.am_world.specs.Refusal.{refusal}
-use Rattle.am_world.specs.Runs.{Forgets, Run}
+use Rattle.am_world.specs.Runs.{ForgetsOver, Run}
 use Rattle.am_world.specs.Simulation.{put_out}
 use Rattle.am_world.specs.Stopping.{Step}
-use Rattle.am_world.specs.declared.state.State.{State}
 use Rattle.am_gateway.specs.Passing.{has_message, passes}
 use Rattle.am_gateway.specs.Sorting.{reply_on, Keeps, KeepsSome, Queues, QueuesSome}
 use Rattle.am_gateway.specs.declared.gateway.Gateway.{Gateway}
@@ -24,11 +24,11 @@ use Rattle.am_gateway.specs.declared.gateway.Try.{Try}
 
 -- a world took an event, then each message that it put out was delivered at the moment and lost, in order of sending,
 -- and all that it had put out then was taken away
-pub record Handles (w : State) (e : Event) (moment : ℕ) (outs : List Output) (w' : State) : Type 0 where
-  pub handled : State
-  pub run : Run w (e ∷ passes moment outs) handled
-  pub outputs : put_out handled ≡ outs
-  pub taken : Forgets handled w'
+pub record Handles (c : Contents) (e : Event) (moment : ℕ) (outs : List Output) (c' : Contents) : Type 0 where
+  pub handled : Contents
+  pub run : Run c (e ∷ passes moment outs) handled
+  pub outputs : put_out handled.state ≡ outs
+  pub taken : ForgetsOver handled c'
 
 -- the gateway opens connections to the same instance, at the same moment, and knows the same reply to `GET /ready`
 pub record IsSameGateway {R : Type 0} (old new : Gateway R) : Type 0 where
@@ -60,7 +60,7 @@ pub record SortsSome {R : Type 0} (named : Option ℕ) (outs : List Output) (old
 -- none where the request isn't whole yet, where no quorum has answered it, or where the instance stopped.
 pub record GivesReply {R : Type 0} (c : ℕ) (e : Event) (reply : Option (List ℕ)) (outs : List Output)
     (old new : Gateway R) : Type 0 where
-  pub handles : Handles old.world.now.state e old.moment outs new.world.now.state
+  pub handles : Handles old.world.now e old.moment outs new.world.now
   pub reply_is : reply_on (Some c) outs ≡ reply
   pub sorts : Sorts (Some c) outs old new
   pub under_way : SameUnderWay old new
@@ -75,14 +75,14 @@ pub record RefusesEvent {R : Type 0} (e : Event) (old new : Gateway R) : Type 0 
 -- a first part was lost
 pub record LosesEvent {R : Type 0} (c : ℕ) (e : Event) (old new : Gateway R) : Type 0 where
   pub reached : (new.world.now ≡ old.world.now) ⊎ ((outs : List Output)
-      × Handles old.world.now.state e old.moment outs new.world.now.state × SortsSome (Some c) outs old new)
+      × Handles old.world.now e old.moment outs new.world.now × SortsSome (Some c) outs old new)
   pub is_tick_due : new.is_tick_due ≡ old.is_tick_due
   pub under_way : SameUnderWay old new
   pub same : IsSameGateway old new
 
 -- the world was told that the client of a connection left
 pub record ClosesConnection {R : Type 0} (old : Gateway R) (c : ℕ) (new : Gateway R) : Type 0 where
-  pub step : Step old.world.now.state (event.Close c) new.world.now.state
+  pub step : Step old.world.now (event.Close c) new.world.now
   pub refused : IsSome (refusal old.world.now.state (event.Close c)) → new ≡ old
   pub rest : new ≡ record old { world = new.world }
 
@@ -113,7 +113,7 @@ TakesPiece old c piece verdict new = IsVerdictOn c (piece_event old c piece) old
 
 -- the world was told that a connection was opened to the gateway's instance, or refused that
 pub record OpensConnection {R : Type 0} (old : Gateway R) (c : ℕ) (result : Bool) (new : Gateway R) : Type 0 where
-  pub step : Step old.world.now.state (event.Open c old.instance) new.world.now.state
+  pub step : Step old.world.now (event.Open c old.instance) new.world.now
   pub result_is : IsTrue result ↔ (refusal old.world.now.state (event.Open c old.instance) ≡ None)
   pub refused : result ≡ false → new ≡ old
   pub rest : new ≡ record old { world = new.world }
@@ -123,7 +123,7 @@ pub record OpensConnection {R : Type 0} (old : Gateway R) (c : ℕ) (result : Bo
 -- the world handled an event of no connection; what it put out waits, or where memory ran out a first part of it
 pub record TellsWorld {R : Type 0} {X E : Type 0} (result : Result X E) (e : Event) (old new : Gateway R) : Type 0 where
   pub outs : List Output
-  pub handles : Handles old.world.now.state e old.moment outs new.world.now.state
+  pub handles : Handles old.world.now e old.moment outs new.world.now
   pub sorts : OnOk result (Sorts None outs old new)
   pub loses : OnErr result (SortsSome None outs old new)
 

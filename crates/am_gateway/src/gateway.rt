@@ -6,7 +6,7 @@ ghost use Rattle.am_event.specs.declared.event.Event.TheVariants as event;
 ghost use Rattle.am_serve.specs.declared.host.Verdict.TheVariants as Verdict;
 ghost use Rattle.am_world.specs.Consistent.{last_moment};
 ghost use Rattle.am_world.specs.Places.{cause_at};
-ghost use Rattle.am_world.specs.Runs.{Forgets};
+ghost use Rattle.am_world.specs.Runs.{ForgetsOver};
 ghost use Rattle.am_world.specs.Simulation.{put_out};
 
 use crate::passing::{has_message, pass_all};
@@ -89,7 +89,7 @@ impl<'w, R: Rows> Gateway<'w, R> {
         ensures reply { IfOk result (λ reply. reply ≡ reply_on connection (put_out self.old.world.now.state)) }
         ensures sorted { OnOk result (Sorts connection (put_out self.old.world.now.state) self.old self.new) }
         ensures err { OnErr result (SortsSome connection (put_out self.old.world.now.state) self.old self.new) }
-        ensures forgets { Forgets self.old.world.now.state self.new.world.now.state }
+        ensures forgets { ForgetsOver self.old.world.now self.new.world.now }
         ensures is_tick_due { self.new.is_tick_due ≡ self.old.is_tick_due }
         ensures under_way { SameUnderWay self.old self.new }
         ensures same { IsSameGateway self.old self.new }

@@ -16,7 +16,7 @@ const MOST_OUTPUTS: usize = 1_000_000;
 /// Delivers each message that the world has put out, in order, those too that this puts out, and has it lost then, so
 /// that the world holds none of them. Those behind a million outputs are only lost.
 pub fn pass_all<R: Rows>(world: &mut World<R>, alloc: Global, moment: u64)
-    ensures { Run world.old.state (passes moment (put_out world.new.state)) world.new.state }
+    ensures { Run world.old (passes moment (put_out world.new.state)) world.new }
 {
     let mut place = 0;
     while place < world.outputs().len() {
@@ -36,8 +36,7 @@ pub fn has_message(outputs: &[Output]) -> bool
 
 // Delivers the message at a place among the outputs, where it is one, and has it lost then.
 fn pass<R: Rows>(world: &mut World<R>, alloc: Global, place: usize, moment: u64)
-    ensures passed { Run world.old.state (passes_at place moment (message_at place (put_out world.old.state)))
-        world.new.state }
+    ensures passed { Run world.old (passes_at place moment (message_at place (put_out world.old.state))) world.new }
     ensures stay { AddsTo (put_out world.old.state) (put_out world.new.state) }
 {
     if let Some(name) = message_at(world.outputs(), place) {
@@ -54,7 +53,7 @@ fn deliver<R: Rows>(
     place: usize,
     moment: u64,
 )
-    ensures delivered { Run world.old.state (deliveries_at place moment (Some message.now)) world.new.state }
+    ensures delivered { Run world.old (deliveries_at place moment (Some message.now)) world.new }
     ensures stay { AddsTo (put_out world.old.state) (put_out world.new.state) }
 {
     if place < MOST_OUTPUTS {
@@ -68,7 +67,7 @@ fn deliver<R: Rows>(
 
 // The world loses a message.
 fn lose<R: Rows>(world: &mut World<R>, alloc: Global, message: &MessageName)
-    ensures lost { Run world.old.state (losses (Some message.now)) world.new.state }
+    ensures lost { Run world.old (losses (Some message.now)) world.new }
     ensures stay { AddsTo (put_out world.old.state) (put_out world.new.state) }
 {
     let event = Event::Lose { message: *message };

@@ -1,21 +1,10 @@
-//! Worked examples: texts, names of tenants, labels, limits, URLs, JSON, the ring, random words and command lines.
+//! Worked examples of what no scenario shows: command lines, bytes that are no text, connections that are closed, and
+//! identifiers that are all held.
 #![tactic(auto)]
 
 #[cfg(test)]
-mod json;
-#[cfg(test)]
-mod labels;
-#[cfg(test)]
-mod limit;
+mod http;
 #[cfg(test)]
 mod options;
-#[cfg(test)]
-mod ring;
-#[cfg(test)]
-mod tenant;
-#[cfg(test)]
-mod text;
-#[cfg(test)]
-mod url;
 #[cfg(test)]
 mod words;

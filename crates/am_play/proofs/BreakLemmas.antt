@@ -2,21 +2,22 @@
 use Rattle.std.proofs.Common.{◌≡◌, ℕ, List, [], ◌++◌, Option, None, Some, IfSome, refl, sym, subst, ◌∙◌, inl, inr, append-nil}
 use Rattle.std.proofs.lemmas.List.Concat.{flat_map-append}
 use Rattle.std.specs.Io.KnownBytes.{Appends}
-use Rattle.am_item.specs.declared.item.Item.{Item}
+use Rattle.am_world.specs.Consistent.{Contents}
 use Rattle.am_world.specs.Opening.{Opens}
+use Rattle.am_world.specs.Shelves.{Shelf}
 use Rattle.am_world.specs.Simulation.{fault_count}
-use Rattle.am_world.specs.declared.state.State.{State}
 use Rattle.am_play.proofs.ScenarioLemmas.{Rest, Upto}
-use Rattle.am_play.proofs.TraceLemmas.{course_alone, course_until_fault}
-use Rattle.am_play.proofs.WritingLemmas.{part_later}
-use Rattle.am_play.specs.Link.{Answers, Carries}
-use Rattle.am_play.specs.Playing.{IsStart, ending}
-use Rattle.am_play.specs.Scenario.{CourseBreaks, Course, IsolatesTenants, ScenarioBreaks}
-use Rattle.am_play.specs.Streams.{KnownLines}
+use Rattle.am_play.proofs.TraceLemmas.{course_alone, course_clean, course_until_fault}
+use Rattle.am_stream.proofs.WritingLemmas.{part_later}
+use Rattle.am_stream.specs.Link.{Answers, Carries}
+use Rattle.am_play.specs.Playing.{IsStart}
+use Rattle.am_report.specs.Ending.{ending}
+use Rattle.am_play.specs.Scenario.{AloneUntilFault, CourseBreaks, Course, IsolatesTenants, ScenarioBreaks}
+use Rattle.am_stream.specs.Streams.{KnownLines}
 use Rattle.am_play.specs.Trace.{Happened, printed, text_of}
-use Rattle.am_play.specs.Writing.{AppendsPart}
-use Rattle.am_play.specs.declared.play.Played.{Played}
-use Rattle.am_play.specs.declared.play.Played.TheVariants.{All}
+use Rattle.am_stream.specs.Writing.{AppendsPart}
+use Rattle.am_report.specs.declared.ending.Played.{Played}
+use Rattle.am_report.specs.declared.ending.Played.TheVariants.{All}
 use Rattle.am_play.specs.declared.play.Player.{Player}
 
 -- the lines that weren't played
@@ -66,27 +67,33 @@ module _ {R : Type 0} (carries : Carries) (answers : Answers) (start : Player R)
   }
 
   -- .. from a new world on
-  pub scenario_breaks : (w : State) → IsStart w start → CourseBreaks carries answers start known old new →
-      ScenarioBreaks R carries answers w known old new
-  scenario_breaks w is_start course = record {
+  pub scenario_breaks : (c : Contents) → IsStart c start → CourseBreaks carries answers start known old new →
+      ScenarioBreaks R carries answers c known old new
+  scenario_breaks c is_start course = record {
     start = start;
     is_start = is_start;
     course = course;
     until_fault = λ origin rows opens.
-        course_until_fault carries answers origin rows start None course.played course.trace course.end (subst (Opens origin rows) (sym is_start.begins) opens)
-        (record { lines = course.lines; are_read = tt; plays = course.plays });
+        subst (λ (begun : Contents). AloneUntilFault origin rows begun course.trace) is_start.begins
+        (course_until_fault carries answers origin rows start None course.played course.trace course.end
+        (subst (Opens origin rows) (sym is_start.begins) opens)
+        (record { lines = course.lines; are_read = tt; plays = course.plays }));
   }
 
--- all of a scenario was played from a new world on
-pub isolates : {R : Type 0} (carries : Carries) (answers : Answers) (start : Player R) (known : KnownLines) (w : State) →
-    IsStart w start → (played : Played) (trace : List Happened) (end : Player R) →
-    Course carries answers start known played trace end → IsolatesTenants w trace (fault_count end.world.state)
-isolates carries answers start known w is_start played trace end course = record {
-  alone = λ origin rows opens.
-      course_alone carries answers origin rows start known played trace end (subst (Opens origin rows) (sym is_start.begins) opens) course;
-  until_fault = λ origin rows opens.
-      course_until_fault carries answers origin rows start known played trace end (subst (Opens origin rows) (sym is_start.begins) opens) course;
-}
+-- all of a scenario was played from a new world on, of whose stores this is seen afterwards
+pub isolates : {R : Type 0} (carries : Carries) (answers : Answers) (start : Player R) (known : KnownLines)
+    (c : Contents) → IsStart c start → (played : Played) (trace : List Happened) (end : Player R) →
+    Course carries answers start known played trace end → (shelves : List Shelf) → shelves ≡ end.world.shelves →
+    IsolatesTenants c trace (fault_count end.world.state) shelves
+isolates carries answers start known c is_start played trace end course shelves stores =
+    let at_start : IsolatesTenants start.world trace (fault_count end.world.state) end.world.shelves = record {
+      alone = λ origin rows opens. course_alone carries answers origin rows start known played trace end opens course;
+      until_fault = λ origin rows opens.
+          course_until_fault carries answers origin rows start known played trace end opens course;
+      clean = course_clean carries answers start known played trace end course;
+    } in
+    rw stores (subst (λ (begun : Contents). IsolatesTenants begun trace (fault_count end.world.state)
+    end.world.shelves) is_start.begins at_start)
 
 -- the lines of a trace were written, and then a first part of those of what followed
 pub trace_later : (a b c : Option (List ℕ)) (trace more : List Happened) → Appends a b (printed trace) →

@@ -1,8 +1,6 @@
 pub mod BreakLemmas
-pub mod LinesLemmas
+pub mod ChangingLemmas
 pub mod MailLemmas
-pub mod NamesLemmas
 pub mod PlayingLemmas
 pub mod ScenarioLemmas
 pub mod TraceLemmas
-pub mod WritingLemmas

@@ -7,19 +7,21 @@ use Rattle.am_event.specs.declared.event.Event.{Event}
 use Rattle.am_event.specs.declared.event.Event.TheVariants as event
 use Rattle.am_event.specs.declared.refused.Refused.{Refused}
 use Rattle.am_world.specs.declared.state.State.{State}
+use Rattle.am_world.specs.Consistent.{Contents}
 use Rattle.am_world.specs.Places.{up_at}
 use Rattle.am_world.specs.Refusal.{refusal}
-use Rattle.am_world.specs.Runs.{Forgets}
+use Rattle.am_world.specs.Runs.{Forgets, ForgetsOver}
 use Rattle.am_world.specs.Simulation.{put_out}
 use Rattle.am_world.specs.Stopping.{Either, Step}
 use Rattle.am_play.specs.declared.play.Player.{Player}
-use Rattle.am_play.specs.declared.report.Report.{Report}
-use Rattle.am_play.specs.declared.report.Try.{Try}
-use Rattle.am_play.specs.Link.{Answers, Carries}
-use Rattle.am_play.specs.Mail.{letters_in}
+use Rattle.am_report.specs.declared.report.Report.{Report}
+use Rattle.am_report.specs.declared.report.Try.{Try}
+use Rattle.am_stream.specs.Link.{Answers, Carries}
+use Rattle.am_report.specs.Mail.{letters_in}
 use Rattle.am_play.specs.Playing.{Happens, Gives, Settles, happened, goes_on, is_piece}
-use Rattle.am_play.specs.Trace.{Happened, Grows, Reports, text_of, outputs, printed, output_line, refusal_line}
-use Rattle.am_play.specs.Tries.{try_of, tries_in}
+use Rattle.am_play.specs.Trace.{Happened, Grows, Reports, text_of, outputs, printed, output_line}
+use Rattle.am_report.specs.Output.{refusal_line}
+use Rattle.am_report.specs.Tries.{try_of, tries_in}
 
 -- nothing is reported
 pub grows_nothing : (report : Report) → Grows report report []
@@ -70,6 +72,12 @@ refusal_same w w' (event.Tick moment) forgets = rw forgets.beside.clock refl
 refusal_same w w' (event.Outcome attempt tries moment status) forgets = rw forgets.instances refl
 refusal_same w w' (event.Deliver name moment) forgets = rw forgets.messages refl
 refusal_same w w' (event.Lose name) forgets = rw forgets.messages refl
+refusal_same w w' (event.Join i) forgets = rw (forgets.instances, forgets.beside.common) refl
+refusal_same w w' (event.Leave i) forgets = rw (forgets.instances, forgets.beside.common) refl
+refusal_same w w' (event.Crash i) forgets = rw (forgets.instances, forgets.beside.common) refl
+refusal_same w w' (event.Restart i) forgets = rw (forgets.instances, forgets.beside.common) refl
+refusal_same w w' (event.Learn i) forgets = rw (forgets.instances, forgets.beside.common) refl
+refusal_same w w' (event.Force tenant) forgets = refl
 
 -- whether an event was refused, by what came of it
 pub taken_none : {T : Type 0} (o : Option Refused) (r : Result T Refused) (x : T) → r ≡ Ok x →
@@ -87,10 +95,10 @@ refused_some (Some d) r e is told =
     ap Some same
 
 -- an event came and was reported: its outputs, and then its refusal
-pub reports_event : {R : Type 0} (p : Player R) (e : Event) (p' : Player R) (before : State) (refused : Option Refused)
-    (old new : Report) →
-    Forgets p.world.state before → Step before e p'.world.state → refusal before e ≡ refused →
-    (IsSome refused → p'.world.state ≡ before) →
+pub reports_event : {R : Type 0} (p : Player R) (e : Event) (p' : Player R) (before : Contents)
+    (refused : Option Refused) (old new : Report) →
+    ForgetsOver p.world before → Step before e p'.world → refusal before.state e ≡ refused →
+    (IsSome refused → p'.world ≡ before) →
     p'.connections ≡ p.connections → p'.moment ≡ p.moment → p'.hook ≡ p.hook →
     p'.mail ≡ p.mail ++ letters_in (put_out p'.world.state) →
     string_bytes new.text ≡
@@ -98,7 +106,8 @@ pub reports_event : {R : Type 0} (p : Player R) (e : Event) (p' : Player R) (bef
     new.tries.items ≡ old.tries.items ++ tries_in (put_out p'.world.state) →
     Reports old new (Happens p e p')
 reports_event p e p' before refused old new forgets step is same connections moment hook mail text tries =
-    let seen : refusal p.world.state e ≡ refused = sym (refusal_same p.world.state before e forgets) ∙ is in
+    let seen : refusal p.world.state e ≡ refused =
+    sym (refusal_same p.world.state before.state e forgets.forgets) ∙ is in
     let lines = flat_map (output_line p.connections) (put_out p'.world.state) in (
       happened p e p' ∷ [],
       record {

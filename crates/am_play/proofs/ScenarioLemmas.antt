@@ -2,14 +2,14 @@
 use Rattle.std.proofs.Common.{◌≡◌, ℕ, ◌+◌, List, [], ◌∷◌, ◌++◌, None, Some, IfSome, refl, sym, ap, ◌∙◌, append_assoc, append-nil}
 use Rattle.std.specs.Bool.{⊤}
 use Rattle.am_scenario.specs.Line.{command_of}
-use Rattle.am_play.specs.Link.{Answers, Carries}
+use Rattle.am_stream.specs.Link.{Answers, Carries}
 use Rattle.am_play.specs.Playing.{Does, Plays}
 use Rattle.am_play.specs.Scenario.{Course}
-use Rattle.am_play.specs.Streams.{GivesLine, KnownLines}
+use Rattle.am_stream.specs.Streams.{GivesLine, KnownLines}
 use Rattle.am_play.specs.Trace.{Happened}
 use Rattle.am_scenario.specs.declared.command.Command.{Command}
-use Rattle.am_play.specs.declared.play.Played.{Played}
-use Rattle.am_play.specs.declared.play.Played.TheVariants.{All, BadLine}
+use Rattle.am_report.specs.declared.ending.Played.{Played}
+use Rattle.am_report.specs.declared.ending.Played.TheVariants.{All, BadLine}
 use Rattle.am_play.specs.declared.play.Player.{Player}
 
 -- lines came, and of known lines the others are left

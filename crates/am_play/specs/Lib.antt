@@ -1,12 +1,3 @@
-pub mod Ending
-pub mod Lines
-pub mod Link
-pub mod Mail
-pub mod Names
-pub mod Output
 pub mod Playing
 pub mod Scenario
-pub mod Streams
 pub mod Trace
-pub mod Tries
-pub mod Writing

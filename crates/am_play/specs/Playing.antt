@@ -1,35 +1,38 @@
 -- What playing a scenario does: the trace of the events that the world gets, and what is written of each.
-use Rattle.std.specs.Prelude.{◌≡◌, ℕ, ◌+◌, ◌≤◌, nat_lt, nat_le, Bool, true, false, ◌&&◌, not, is_none}
-use Rattle.std.specs.Prelude.{◌⊎◌, List, [], ◌∷◌, ◌++◌, length, min, filter, Option, Some, MatchOption, IsSome, codes, decimal}
-use Rattle.std.specs.List.{All as Each, concat, list_all}
+use Rattle.std.specs.Prelude.{◌≡◌, ℕ, ◌+◌, ◌-◌, ◌^◌, ◌≤◌, ◌<◌, nat_lt, nat_le, Bool, true, false, ◌&&◌, not, is_none}
+use Rattle.std.specs.Prelude.{◌⊎◌, List, [], ◌∷◌, ◌++◌, length, filter, Option, Some, MatchOption, IsSome, is_some}
+use Rattle.std.specs.List.{All as Each, concat, list_all, list_any}
 use Rattle.am_event.specs.declared.event.Event.{Event}
 use Rattle.am_event.specs.declared.event.Event.TheVariants as event
-use Rattle.am_world.specs.declared.state.State.{State}
-use Rattle.am_world.specs.Runs.{Forgets}
+use Rattle.am_world.specs.Consistent.{Contents}
 use Rattle.am_world.specs.Refusal.{refusal}
+use Rattle.am_world.specs.Runs.{ForgetsOver}
 use Rattle.am_world.specs.Simulation.{fault_count, message_named, put_out, refused_by}
 use Rattle.am_world.specs.Stopping.{Either, Step}
+use Rattle.am_world.specs.declared.state.State.{State}
 use Rattle.am_messages.specs.declared.name.MessageName.{MessageName}
+use Rattle.am_ring.specs.Instances.{all_instances}
 use Rattle.am_scenario.specs.declared.command.Command.{Command}
 use Rattle.am_scenario.specs.declared.command.Command.TheVariants.{Skip, At, Tick, Open, Bytes, Call}
-use Rattle.am_scenario.specs.declared.command.Command.TheVariants.{Limits, Pump, Drop, Deliver, Hook}
+use Rattle.am_scenario.specs.declared.command.Command.TheVariants.{Limits, Pump, Drop, Deliver, Hook, Change, LearnAll}
 use Rattle.am_wire.specs.Messages.{IsRefusalOf, Spells}
 use Rattle.am_wire.specs.declared.message.Message.{Message}
 use Rattle.am_wire.specs.declared.refusal.EncodeRefusal.{EncodeRefusal}
-use Rattle.am_play.specs.declared.mail.Letter.{Letter}
-use Rattle.am_play.specs.declared.play.Played.{Played}
-use Rattle.am_play.specs.declared.play.Played.TheVariants.{All, BadLine}
+use Rattle.am_report.specs.declared.mail.Letter.{Letter}
+use Rattle.am_report.specs.declared.ending.Played.{Played}
+use Rattle.am_report.specs.declared.ending.Played.TheVariants.{All, BadLine}
 use Rattle.am_play.specs.declared.play.Player.{Player}
-use Rattle.am_play.specs.declared.report.Try.{Try}
+use Rattle.am_report.specs.declared.report.Try.{Try}
 use Rattle.am_scenario.specs.declared.command.Way.{Way}
 use Rattle.am_scenario.specs.Line.{command_of}
-use Rattle.am_play.specs.Link.{Answers, Carries}
-use Rattle.am_play.specs.Mail.{goes, is_named, is_there, kept_of, letters_in, name_said, without_first}
-use Rattle.am_play.specs.Names.{place_of, with_name}
-use Rattle.am_play.specs.Output.{is_answered}
+use Rattle.am_stream.specs.Link.{Answers, Carries}
+use Rattle.am_report.specs.Mail.{goes, is_named, kept_of, letters_in, without_first}
+use Rattle.am_report.specs.Said.{event_of, instance_of, name_said}
+use Rattle.am_report.specs.Names.{place_of, with_name}
+use Rattle.am_report.specs.Output.{is_answered}
 use Rattle.am_scenario.specs.Request.{request_text}
 use Rattle.am_play.specs.Trace.{Happened, outputs}
-use Rattle.am_play.specs.Tries.{tries_in}
+use Rattle.am_report.specs.Tries.{tries_in}
 
 -- what an event is in the trace, by the player before it and after it
 abbrev pub happened : {R : Type 0} → Player R → Event → Player R → Happened
@@ -40,15 +43,16 @@ happened p e p' = record {
   names = p.connections;
   faults = fault_count p'.world.state;
   unbuilt = refused_by p'.world.state;
+  shelves = p'.world.shelves;
 }
 
 -- an event came to the world, which forgot its outputs first; a refused one did nothing. The messages that this sent
 -- wait behind the others
 pub record Happens {R : Type 0} (p : Player R) (e : Event) (p' : Player R) (trace : List Happened) : Type 0 where
-  pub before : State
-  pub forgets : Forgets p.world.state before
-  pub step : Step before e p'.world.state
-  pub refused : IsSome (refusal p.world.state e) → p'.world.state ≡ before
+  pub before : Contents
+  pub forgets : ForgetsOver p.world before
+  pub step : Step before e p'.world
+  pub refused : IsSome (refusal p.world.state e) → p'.world ≡ before
   pub connections : p'.connections ≡ p.connections
   pub moment : p'.moment ≡ p.moment
   pub hook : p'.hook ≡ p.hook
@@ -145,6 +149,10 @@ pub record Pumps {R : Type 0} (carries : Carries) (p p' : Player R) (trace : Lis
   pub over : (until.mail ≡ []) ⊎ (length handed ≡ 1000000)
   pub kept : p' ≡ record until { mail = kept_of handed ++ until.mail }
 
+-- whether a world has a letter's message still
+abbrev pub is_there : State → Letter → Bool
+is_there w letter = is_some (message_named letter.name w)
+
 -- the oldest message that is there and goes this way waits no more
 abbrev pub dropping : {R : Type 0} → Way → Player R → Player R
 dropping way p = record p { mail = without_first (goes way) (filter (is_there p.world.state) p.mail) }
@@ -160,9 +168,40 @@ Delivers {R} name p p' trace =
 abbrev pub naming : {R : Type 0} → List ℕ → Player R → Player R
 naming name p = record p { connections = with_name name p.connections }
 
--- the number of an instance as the world takes it: none past 255 is in any ring
-abbrev pub instance_of : ℕ → ℕ
-instance_of i = min i 255
+-- an instance is behind where it can learn a ring
+abbrev pub is_behind : {R : Type 0} → Player R → ℕ → Bool
+is_behind p i = is_none (refusal p.world.state (event.Learn i))
+
+-- an instance learned the next ring, if it was behind
+abbrev pub LearnsIfBehind : {R : Type 0} → ℕ → Player R → Player R → List Happened → Type 0
+LearnsIfBehind i p p' trace =
+    Either (is_behind p i) (Happens p (event.Learn i) p' trace) ((p' ≡ p) × (trace ≡ []))
+
+-- .. each of these, one after the other
+abbrev pub LearnsEach : {R : Type 0} → List ℕ → Player R → Player R → List Happened → Type 0
+LearnsEach {R} [] p p' trace = (p' ≡ p) × (trace ≡ [])
+LearnsEach {R} (i ∷ more) p p' trace =
+    (mid : Player R) × (first rest : List Happened) × LearnsIfBehind i p mid first
+    × (trace ≡ first ++ rest) × LearnsEach more mid p' rest
+
+-- what happened in rounds, one after the other
+abbrev pub in_all_rounds : List (List Happened) → List Happened
+in_all_rounds [] = []
+in_all_rounds (round ∷ rounds) = round ++ in_all_rounds rounds
+
+-- all instances learned so, in rounds, each with what happened in it
+abbrev pub LearnsInRounds : {R : Type 0} → List (List Happened) → Player R → Player R → Type 0
+LearnsInRounds {R} [] p p' = p' ≡ p
+LearnsInRounds {R} (round ∷ rounds) p p' =
+    (mid : Player R) × LearnsEach all_instances p mid round × LearnsInRounds rounds mid p'
+
+-- .. until none was behind; no instance can lack as many rings as there are rounds at most
+pub record LearnsAll {R : Type 0} (p p' : Player R) (trace : List Happened) : Type 0 where
+  pub rounds : List (List Happened)
+  pub learns : LearnsInRounds rounds p p'
+  pub traced : trace ≡ in_all_rounds rounds
+  pub bound : length rounds < 2 ^ 64
+  pub over : (list_any (is_behind p') all_instances ≡ false) ⊎ (length rounds ≡ 2 ^ 64 - 1)
 
 -- a connection was opened, and then, unless that was refused, a whole request came on it
 abbrev pub Calls : {R : Type 0} → Carries → ℕ → Player R → ℕ → List ℕ → Player R → List Happened → Type 0
@@ -189,6 +228,8 @@ Obeys carries p (Call name i request) p' trace =
     OnNamed p name (λ c q. Calls carries c q (instance_of i) (request_text request) p' trace)
 Obeys carries p (Drop way) p' trace = (p' ≡ dropping way p) × (trace ≡ [])
 Obeys carries p (Deliver said) p' trace = Delivers (name_said said) p p' trace
+Obeys carries p (Change change) p' trace = Happens p (event_of change) p' trace
+Obeys carries p LearnAll p' trace = LearnsAll p p' trace
 
 -- each of these tries got its outcome, one after the other: with the status that was read of what the receiver, to
 -- which its request went, answers now
@@ -206,15 +247,6 @@ Does {R} carries answers p command p' trace =
     (mid : Player R) × (first rest : List Happened) × Obeys carries p command mid first × (trace ≡ first ++ rest)
     × Settles answers mid (tries_in (outputs first)) p' rest
 
--- the last line of a scenario that was played whole
-abbrev pub faults_line : ℕ → List ℕ
-faults_line faults = codes "faults " ++ (decimal faults ++ 10 ∷ [])
-
--- what is written last, after this many faults; nothing where a line is no command
-abbrev pub ending : Played → ℕ → List ℕ
-ending All faults = faults_line faults
-ending (BadLine n) faults = []
-
 -- the lines from the n-th on were played, up to the first that is no command
 abbrev pub Plays : {R : Type 0} → Carries → Answers → ℕ → Player R → List (List ℕ) → Played → List Happened → Player R → Type 0
 Plays {R} carries answers n p [] played trace p' = (played ≡ All) × (trace ≡ []) × (p' ≡ p)
@@ -225,8 +257,8 @@ Plays {R} carries answers n p (line ∷ lines) played trace p' = MatchOption (co
 
 -- where a scenario begins: a world, no connection, the moment 0, a receiver that takes all notices, and no message
 -- that waits
-pub record IsStart {R : Type 0} (w : State) (p : Player R) : Type 0 where
-  pub begins : p.world.state ≡ w
+pub record IsStart {R : Type 0} (c : Contents) (p : Player R) : Type 0 where
+  pub begins : p.world ≡ c
   pub connections : p.connections ≡ []
   pub moment : p.moment ≡ 0
   pub hook : p.hook ≡ Some 200

@@ -1,14 +1,14 @@
 -- The trace of a scenario: what happened, event by event, and the lines that are written of it.
-use Rattle.std.specs.Prelude.{◌≡◌, ℕ, List, [], ◌∷◌, ◌++◌, map, slice_get, Option, None, Some, codes, string_bytes}
+use Rattle.std.specs.Prelude.{◌≡◌, ℕ, List, [], ◌∷◌, ◌++◌, map, slice_get, Option, None, Some, string_bytes}
 use Rattle.std.specs.List.{flat_map}
 use Rattle.am_event.specs.declared.event.Event.{Event}
 use Rattle.am_event.specs.declared.output.Output.{Output}
 use Rattle.am_event.specs.declared.output.Output.TheVariants.{Reply, Notice, Send}
 use Rattle.am_event.specs.declared.refused.Refused.{Refused}
-use Rattle.am_event.specs.Codes.{code_of}
-use Rattle.am_play.specs.declared.report.Report.{Report}
-use Rattle.am_play.specs.Output.{reply_line, notice_line}
-use Rattle.am_play.specs.Tries.{tries_in}
+use Rattle.am_world.specs.Shelves.{Shelf}
+use Rattle.am_report.specs.declared.report.Report.{Report}
+use Rattle.am_report.specs.Output.{notice_line, refusal_line, reply_line}
+use Rattle.am_report.specs.Tries.{tries_in}
 
 -- the line of a reply on the connection of this name, where it has one
 abbrev pub named_line : List ℕ → Option (List ℕ) → List ℕ
@@ -21,13 +21,8 @@ output_line names (Reply c bytes) = named_line bytes (slice_get names c)
 output_line names (Notice attempt tries url bytes) = notice_line attempt tries url bytes
 output_line names (Send message) = []
 
--- the line of a refusal
-abbrev pub refusal_line : Option Refused → List ℕ
-refusal_line None = []
-refusal_line (Some refused) = codes "refused " ++ (code_of refused ++ 10 ∷ [])
-
 -- what the trace keeps of an event: its outputs, why it was refused, if it was, the names of connections, how many
--- faults had come then, and which patterns each instance had been refused the build of
+-- faults had come then, which patterns each instance had been refused the build of, and what was seen of the stores
 pub record Happened : Type 0 where
   pub event : Event
   pub outputs : List Output
@@ -35,6 +30,7 @@ pub record Happened : Type 0 where
   pub names : List (List ℕ)
   pub faults : ℕ
   pub unbuilt : ℕ → List (List ℕ)
+  pub shelves : List Shelf
 
 -- the lines of what happened: those of its outputs, and then that of its refusal
 abbrev pub text_of : Happened → List ℕ
@@ -64,6 +60,11 @@ unbuilt_after before (h ∷ trace) = unbuilt_after h.unbuilt trace
 -- .. of a trace that begins with a new world
 abbrev pub unbuilt : List Happened → ℕ → List (List ℕ)
 unbuilt trace = unbuilt_after (λ i. []) trace
+
+-- what was seen of the stores at the end of a trace, where this was seen before it
+abbrev pub shelves_after : List Shelf → List Happened → List Shelf
+shelves_after before [] = before
+shelves_after before (h ∷ trace) = shelves_after h.shelves trace
 
 -- a report grew by a trace: by its lines, and by the tries that went out in it
 pub record Grows (old new : Report) (trace : List Happened) : Type 0 where

@@ -1,21 +1,18 @@
 //! How the messages that wait are delivered and dropped.
-ghost use Rattle.std.specs.Prelude.{◌≡◌, Some, None, IfOk, OnOk, if◌then◌else◌};
-ghost use Rattle.am_ring.specs.Instances.{all_instances, is_among};
-ghost use Rattle.am_play.specs.Mail.{name_said};
-ghost use Rattle.am_play.specs.Playing.{Crosses, Delivers, HandsOver, Pumps, dropping};
+ghost use Rattle.std.specs.Prelude.{◌≡◌, IfOk, OnOk, filter};
+ghost use Rattle.am_play.specs.Playing.{Crosses, Delivers, HandsOver, Pumps, dropping, is_there};
 ghost use Rattle.am_play.specs.Trace.{Reports};
 
-use crate::link::Link;
-use crate::mail::Mail;
 use crate::play::{PIECE, Player};
-use crate::report::Report;
 use am_event::Event;
 use am_messages::MessageName;
-use am_ring::Instance;
+use am_report::{Mail, Report};
 use am_rows::Rows;
-use am_scenario::{SaidName, Way};
+use am_scenario::Way;
+use am_stream::Link;
 use am_text::Failure;
 use am_wire::encode;
+use am_world::World;
 use std::alloc::{AllocError, Global};
 
 /// How many messages one line hands over, at most.
@@ -97,9 +94,17 @@ impl<R: Rows + Drop> Player<R> {
     pub(crate) fn drop_oldest(&mut self, way: &Way)
         ensures { self.new ≡ dropping way.now self.old }
     {
-        self.mail.drop_lost(&self.world);
+        drop_lost(&mut self.mail, &self.world);
         self.mail.drop_first(way);
     }
+}
+
+/// Messages that a world has no more wait no more.
+fn drop_lost<R: Rows>(mail: &mut Mail, world: &World<R>)
+    ensures { mail.new ≡ filter (is_there world.now.state) mail.old }
+{
+    mail.letters
+        .retain(|letter| world.message(&letter.name).is_some());
 }
 
 /// Sends the bytes of a message over the link, piece by piece. Whether all of them came.
@@ -112,41 +117,4 @@ fn carry<L: Link>(link: &mut L, bytes: &[u8]) -> bool
         }
     }
     true
-}
-
-/// The name that a line says; where a number is out of range one that no message has, since these are counted from 1
-/// on.
-pub(crate) fn name_said(said: &SaidName) -> MessageName
-    ensures { result ≡ name_said said.now }
-{
-    let tenant = said.tenant;
-    let count = said.count;
-    if let (Some(from), Some(to)) = (instance(said.from), instance(said.to)) {
-        if let Ok(incarnation) = u32::try_from(said.incarnation) {
-            return MessageName {
-                tenant,
-                from,
-                incarnation,
-                to,
-                count,
-            };
-        }
-    }
-    MessageName {
-        tenant,
-        from: Instance::new(1).unwrap(),
-        incarnation: 0,
-        to: Instance::new(1).unwrap(),
-        count: 0,
-    }
-}
-
-/// The instance of a number, where it is one.
-fn instance(number: u64) -> Option<Instance>
-    ensures { result ≡ (if is_among number all_instances then Some number else None) }
-{
-    match u8::try_from(number) {
-        Ok(number) => Instance::new(number),
-        Err(_) => None,
-    }
 }

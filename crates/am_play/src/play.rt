@@ -4,25 +4,24 @@ ghost use Rattle.std.specs.Io.KnownBytes.{Appends, Keeps};
 ghost use Rattle.am_world.specs.Refusal.{refusal};
 ghost use Rattle.am_world.specs.Shelves.{shelves_of};
 ghost use Rattle.am_world.specs.Simulation.{fault_count, put_out};
-ghost use Rattle.am_play.specs.Output.{is_answered};
-ghost use Rattle.am_play.specs.Playing.{Happens, Gives, Calls, Obeys, Settles, Does, ending, faults_line, instance_of};
+ghost use Rattle.am_play.specs.Playing.{Happens, Gives, Calls, Obeys, Settles, Does};
 ghost use Rattle.am_play.specs.Scenario.{Course, CourseBreaks, IsolatesTenants, Scenario, ScenarioBreaks};
-ghost use Rattle.am_play.specs.Streams.{IsFailureOf};
+ghost use Rattle.am_stream.specs.Streams.{IsFailureOf};
 ghost use Rattle.am_play.specs.Trace.{Happened, Reports, printed, output_line};
-ghost use Rattle.am_play.specs.Tries.{tries_in, try_of};
-ghost use Rattle.am_play.specs.Writing.{AppendsPart};
+ghost use Rattle.am_report.specs.Ending.{ending};
+ghost use Rattle.am_report.specs.Output.{is_answered};
+ghost use Rattle.am_report.specs.Said.{instance_of};
+ghost use Rattle.am_report.specs.Tries.{tries_in, try_of};
+ghost use Rattle.am_stream.specs.Writing.{AppendsPart};
 
-use crate::connections::Connections;
-use crate::link::Link;
-use crate::mail::Mail;
-use crate::mailing::name_said;
-use crate::report::{Report, Try};
 use crate::stops::Stops;
-use crate::streams::{Sink, Source, StreamFailure};
 use am_event::{Event, Output};
 use am_http::ConnectionId;
+use am_report::ending::{Played, faults_line};
+use am_report::{Connections, Mail, Report, Try, event_of, instance_of, is_answered, name_said};
 use am_rows::Rows;
 use am_scenario::{Command, LineFault, Request, read_command};
+use am_stream::{Link, Sink, Source, StreamFailure};
 use am_text::{Octets, Text};
 use am_world::World;
 use std::alloc::{AllocError, Global};
@@ -34,23 +33,16 @@ pub(crate) const PIECE: usize = 4096;
 /// What the program's own receiver answers at first: the status 200.
 const TAKEN: u16 = 200;
 
-/// How a scenario ended.
-#[derive(Clone, Copy, PartialEq, Eq)]
-pub enum Played {
-    /// Every line was played, and `faults N` was written.
-    All,
-    /// The line of this number, counted from 1, is no command. The lines before it were played.
-    BadLine(u64),
-}
-
-/// Plays the scenario that `source` gives against a world, and writes its output lines to `writer`. What a line gives to a
-/// connection goes over the link in pieces, and ends where one is lost. Each notice goes over it too, and the outcome of its try
-/// has the status that was read of the answer. The world's stores are handed back, each at its last commit.
+/// Plays the scenario that `source` gives against a world, and writes its output lines to `writer`. What a line gives
+/// to a connection goes over the link in pieces, and ends where one is lost. Each notice goes over it too, and the
+/// outcome of its try has the status that was read of the answer. The world's stores are handed back, each at its last
+/// commit.
 ///
-/// What is written are the lines of a trace: what happened, event by event. Where the world was just opened, a tenant's outputs in
-/// it are, whatever the other tenants do, byte for byte and in order, those of a private cluster that has this tenant alone and
-/// begins with its rows; provided that no connection's name is opened twice and no pattern that the tenant brings was refused its
-/// build, and up to a first fault.
+/// What is written are the lines of a trace: what happened, event by event. Where the world was just opened, a tenant's
+/// outputs in it are, whatever the other tenants do, byte for byte and in order, those of a private cluster that has
+/// this tenant alone and begins with its rows; provided that no connection's name is opened twice, no pattern that the
+/// tenant brings was refused its build, and each store that a line opens is in memory or its disk has returned what was
+/// written; and up to a first fault.
 ///
 /// # Errors
 /// Out of memory, or an error that one of the streams gave. What was written stays, and is a first part of what is
@@ -65,11 +57,10 @@ pub fn play<R: Rows + Drop, L: Link, S: Source, K: Sink, E: Sink>(
 ) -> Result<(Played, Vec<R>), StreamFailure>
     // Where the lines of the source aren't known, there are lines of which this holds.
     ensures plays { IfOk result (λ r. (trace : List Happened) × (faults : ℕ)
-        × Scenario R L.carries L.answers world.state (S.lines source) r.0 trace faults
-        (shelves_of R.Rows r.1.items)
+        × Scenario R L.carries L.answers world (S.lines source) r.0 trace faults (shelves_of R.Rows r.1.items)
         × Appends (K.contents writer.old) (K.contents writer.new) (printed trace ++ ending r.0 faults)
-        × IsolatesTenants world.state trace faults) }
-    ensures breaks { OnErr result (ScenarioBreaks R L.carries L.answers world.state (S.lines source)
+        × IsolatesTenants world trace faults (shelves_of R.Rows r.1.items)) }
+    ensures breaks { OnErr result (ScenarioBreaks R L.carries L.answers world (S.lines source)
         (K.contents writer.old) (K.contents writer.new)) }
     ensures stores { IfOk result (λ r. length r.1.items ≡ 8) }
     ensures causes { IfErr result (IsFailureOf
@@ -212,6 +203,8 @@ impl<R: Rows + Drop> Player<R> {
             Command::Pump => self.pump(alloc, link, report)?,
             Command::Drop(way) => self.drop_oldest(&way),
             Command::Deliver(said) => self.deliver(alloc, name_said(&said), report)?,
+            Command::Change(change) => self.bring(alloc, &event_of(&change), report)?,
+            Command::LearnAll => self.learn_all(alloc, report)?,
             Command::Limits { tenant, limits } => {
                 self.bring(alloc, &Event::Limits { tenant, limits }, report)?;
             }
@@ -266,7 +259,7 @@ impl<R: Rows + Drop> Player<R> {
         Ok(())
     }
 
-    /// Opens a connection, and says whether the world took it. No ring has an instance past 255.
+    /// Opens a connection, and says whether the world took it.
     fn open(
         &mut self,
         alloc: Global,
@@ -281,7 +274,7 @@ impl<R: Rows + Drop> Player<R> {
     {
         let event = Event::Open {
             connection,
-            instance: instance.min(u64::from(u8::MAX)) as u8,
+            instance: instance_of(instance),
         };
         self.happen(alloc, &event, report)
     }
@@ -324,7 +317,12 @@ impl<R: Rows + Drop> Player<R> {
     }
 
     /// Hands an event to the world, whether it is taken or not.
-    fn bring(&mut self, alloc: Global, event: &Event, report: &mut Report) -> Result<(), AllocError>
+    pub(crate) fn bring(
+        &mut self,
+        alloc: Global,
+        event: &Event,
+        report: &mut Report,
+    ) -> Result<(), AllocError>
         ensures { OnOk result (Reports report.old report.new (Happens self.old event.now self.new)) }
     {
         self.happen(alloc, event, report)?;
@@ -393,24 +391,4 @@ impl<R: Rows + Drop> Player<R> {
             Output::Send(_) => Ok(()),
         }
     }
-}
-
-/// The last line of a scenario.
-fn faults_line(alloc: Global, faults: u64) -> Result<String, AllocError>
-    ensures { IfOk result (λ line. string_bytes line ≡ faults_line faults) }
-{
-    format!(in alloc; "faults {faults}\n")
-}
-
-/// Whether the outputs have a reply on the connection.
-fn is_answered(outputs: &[Output], connection: ConnectionId) -> bool
-    ensures { result ≡ is_answered connection outputs.now }
-{
-    outputs.iter().any(|output| match output {
-        Output::Reply {
-            connection: answered,
-            ..
-        } => *answered == connection,
-        Output::Notice { .. } | Output::Send(_) => false,
-    })
 }

@@ -1,7 +1,10 @@
-//! Worked examples: whole scenarios, their links, streams and ends.
+//! Worked examples of what fails while a scenario is played: a call of its link, or of a store. The program itself
+//! plays whole scenarios (`tests/`).
 #![tactic(auto)]
 
 #[cfg(test)]
-mod ending;
+mod links;
 #[cfg(test)]
-mod scenarios;
+mod playing;
+#[cfg(test)]
+mod stores;

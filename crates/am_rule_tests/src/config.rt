@@ -1,8 +1,6 @@
-//! Configurations with the codes of their refusals, and what holds for routes.
+//! Configurations with the codes of their refusals.
 
-mod codes;
 mod greatest;
-mod told;
 
 use am_config::{Config, ConfigRefusal};
 use am_pattern::PatternCache;
@@ -21,11 +19,6 @@ fn reread(alloc: Global, text: &str) -> Read {
     Config::reread(alloc, text.as_bytes())
 }
 
-fn read_document(alloc: Global, document: &str) -> Read {
-    let mut cache = PatternCache::new(alloc, 16, [7; 16])?;
-    Config::read(alloc, document.as_bytes(), &mut cache)
-}
-
 fn code_of(read: Read) -> &'static str {
     match read {
         Ok(_) => "ok",
@@ -41,8 +34,4 @@ fn code_of_text(alloc: Global, text: &str) -> &'static str {
         return "read again with another code";
     }
     code
-}
-
-fn code_of_document(alloc: Global, document: &str) -> &'static str {
-    code_of(read_document(alloc, document))
 }

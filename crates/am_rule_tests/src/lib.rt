@@ -1,4 +1,5 @@
-//! Worked examples: patterns, matchers, configurations, routes and queries.
+//! Worked examples of what a scenario would need megabytes for: the greatest configurations, and matchers after many
+//! refused patterns.
 #![tactic(auto)]
 
 #[cfg(test)]
@@ -7,9 +8,3 @@ mod config;
 mod labels;
 #[cfg(test)]
 mod matchers;
-#[cfg(test)]
-mod pattern;
-#[cfg(test)]
-mod query;
-#[cfg(test)]
-mod route;

@@ -8,8 +8,11 @@ use Rattle.am_tenant.specs.Names.{is_tenant_name}
 use Rattle.am_scenario.specs.Number.{number_of}
 use Rattle.am_scenario.specs.declared.line.LineFault.{LineFault}
 use Rattle.am_scenario.specs.declared.line.LineFault.TheVariants.{NotACommand, OutOfMemory}
+use Rattle.am_scenario.specs.declared.command.ClusterChange.{ClusterChange}
+use Rattle.am_scenario.specs.declared.command.ClusterChange.TheVariants.{Join, Leave, Crash, Restart, Learn, Force}
 use Rattle.am_scenario.specs.declared.command.Command.{Command}
-use Rattle.am_scenario.specs.declared.command.Command.TheVariants.{Skip, At, Tick, Open, Bytes, Call, Limits, Pump, Drop, Deliver, Hook}
+use Rattle.am_scenario.specs.declared.command.Command.TheVariants.{Skip, At, Tick, Open, Bytes, Call, Limits}
+use Rattle.am_scenario.specs.declared.command.Command.TheVariants.{Pump, Drop, Deliver, Hook, Change, LearnAll}
 use Rattle.am_scenario.specs.declared.command.Request.{Request}
 use denote.Ref.{Bor}
 
@@ -154,6 +157,31 @@ unfoldable pub hook_of : List ℕ → Option Command
 hook_of s =
     if bytes_eq s (codes "none") then Some (Hook None) else option_map (λ n. Hook (status_in n)) (number_of s)
 
+-- what stands behind `learn `: `all`, or an instance
+unfoldable pub learn_of : List ℕ → Option Command
+learn_of s =
+    if bytes_eq s (codes "all") then Some LearnAll else option_map (λ n. Change (Learn n)) (number_of s)
+
+-- what stands behind `force `: a tenant
+unfoldable pub force_of : List ℕ → Option Command
+force_of s = option_map (λ tenant. Change (Force tenant)) (tenant_named s)
+
+-- the change of this name at an instance
+unfoldable pub change_at : List ℕ → ℕ → Option ClusterChange
+change_at name i =
+    if bytes_eq name (codes "join") then Some (Join i)
+    else if bytes_eq name (codes "leave") then Some (Leave i)
+    else if bytes_eq name (codes "crash") then Some (Crash i)
+    else if bytes_eq name (codes "restart") then Some (Restart i)
+    else None
+
+-- the name of a change, and what stands behind it and a space: an instance
+unfoldable pub change_of : List ℕ → List ℕ → Option Command
+change_of name s = do
+  i ← number_of s
+  change ← change_at name i
+  Some (Change change)
+
 -- a command that is one word
 unfoldable pub lone_command : List ℕ → Option Command
 lone_command name =
@@ -172,7 +200,9 @@ named_command name rest =
     else if bytes_eq name (codes "drop") then drop_of rest
     else if bytes_eq name (codes "deliver") then deliver_of rest
     else if bytes_eq name (codes "hook") then hook_of rest
-    else None
+    else if bytes_eq name (codes "learn") then learn_of rest
+    else if bytes_eq name (codes "force") then force_of rest
+    else change_of name rest
 
 -- the command of a text that is neither empty nor a comment
 abbrev pub text_by : List ℕ → Option (List ℕ × List ℕ) → Option Command

@@ -44,6 +44,27 @@ pub enum Command {
     Deliver(SaidName),
     /// The program's own receiver answers notices with this status from now on, or not at all.
     Hook(Option<u16>),
+    /// The cluster changes.
+    Change(ClusterChange),
+    /// Every instance that is behind learns the rings that it lacks.
+    LearnAll,
+}
+
+/// How the cluster changes, each an event of its own. Instances are named by number.
+#[derive(Drop)]
+pub enum ClusterChange {
+    /// The instance comes into the ring.
+    Join(u64),
+    /// The instance leaves the ring.
+    Leave(u64),
+    /// The instance goes down.
+    Crash(u64),
+    /// The instance comes up again.
+    Restart(u64),
+    /// The instance learns the next ring.
+    Learn(u64),
+    /// The tenant's replicas count as settled.
+    Force(TenantName),
 }
 
 /// Which messages a `drop` line means: those about a tenant, of a kind, from one instance to another.

@@ -5,6 +5,6 @@ mod command;
 mod line;
 mod numbers;
 
-pub use command::{Command, Request, SaidName, Way};
+pub use command::{ClusterChange, Command, Request, SaidName, Way};
 pub use line::{LineFault, read_command};
 pub use numbers::number;

@@ -2,9 +2,12 @@ ghost use Rattle.std.specs.Prelude.{◌≡◌, option_map};
 ghost use Rattle.serde_json.specs.Find.{as_str};
 ghost use Rattle.serde_json.specs.View.{view};
 ghost use Rattle.am_scenario.specs.Number.{number_of};
-ghost use Rattle.am_scenario.specs.Line.{Reads, split, both, word_of, word_then, string_of, command_of, text_command, lone_command, named_command, at_of, open_of, bytes_of, call_of, limits_of, drop_of, deliver_of, hook_of, status_in, number_then, request_of, target_of, tenant_named};
+ghost use Rattle.am_scenario.specs.Line.{Reads, split, both, word_of, word_then, string_of, number_then, tenant_named};
+ghost use Rattle.am_scenario.specs.Line.{command_of, text_command, lone_command, named_command, at_of, open_of, bytes_of};
+ghost use Rattle.am_scenario.specs.Line.{call_of, request_of, target_of, limits_of, drop_of, deliver_of, hook_of};
+ghost use Rattle.am_scenario.specs.Line.{status_in, learn_of, force_of, change_of, change_at};
 
-use crate::command::{Command, Request, SaidName, Way};
+use crate::command::{ClusterChange, Command, Request, SaidName, Way};
 use crate::numbers::number;
 use am_limit::Limits;
 use am_tenant::TenantName;
@@ -91,8 +94,12 @@ fn named_command(alloc: Global, name: &str, rest: &str) -> Result<Command, LineF
         read_deliver(rest)
     } else if name == "hook" {
         read_hook(rest)
+    } else if name == "learn" {
+        read_learn(rest)
+    } else if name == "force" {
+        read_force(rest)
     } else {
-        Err(LineFault::NotACommand)
+        read_change(name, rest)
     }
 }
 
@@ -213,6 +220,54 @@ fn read_hook(rest: &str) -> Result<Command, LineFault>
     }
     let number = read_number(rest)?;
     Ok(Command::Hook(status_in(number)))
+}
+
+/// `all`, or an instance.
+#[tactic(auto, unfolding(crate::specs::Line::learn_of))]
+fn read_learn(rest: &str) -> Result<Command, LineFault>
+    ensures { Reads (λ c. c) result (learn_of rest.now) }
+{
+    if rest == "all" {
+        return Ok(Command::LearnAll);
+    }
+    let instance = read_number(rest)?;
+    Ok(Command::Change(ClusterChange::Learn(instance)))
+}
+
+#[tactic(auto, unfolding(crate::specs::Line::force_of))]
+fn read_force(rest: &str) -> Result<Command, LineFault>
+    ensures { Reads (λ c. c) result (force_of rest.now) }
+{
+    let tenant = read_tenant(rest)?;
+    Ok(Command::Change(ClusterChange::Force(tenant)))
+}
+
+/// The name of a change, and the instance at which it is.
+#[tactic(auto, unfolding(crate::specs::Line::change_of))]
+fn read_change(name: &str, rest: &str) -> Result<Command, LineFault>
+    ensures { Reads (λ c. c) result (change_of name.now rest.now) }
+{
+    let instance = read_number(rest)?;
+    let change = change_at(name, instance)?;
+    Ok(Command::Change(change))
+}
+
+/// The change of this name at an instance.
+#[tactic(auto, unfolding(crate::specs::Line::change_at))]
+fn change_at(name: &str, instance: u64) -> Result<ClusterChange, LineFault>
+    ensures { Reads (λ c. c) result (change_at name.now instance) }
+{
+    if name == "join" {
+        Ok(ClusterChange::Join(instance))
+    } else if name == "leave" {
+        Ok(ClusterChange::Leave(instance))
+    } else if name == "crash" {
+        Ok(ClusterChange::Crash(instance))
+    } else if name == "restart" {
+        Ok(ClusterChange::Restart(instance))
+    } else {
+        Err(LineFault::NotACommand)
+    }
 }
 
 /// The status of an answer that has this number: none where it isn't of three digits (RFC 9110 section 15).

@@ -4,12 +4,10 @@
 
 ghost use Rattle.std.specs.Prelude.{◌≡◌, IfOk, length};
 
-use am_play::lines::LineReader;
-use am_play::loopback::Loopback;
-use am_play::streams::Sink;
-use am_play::writing::WholeWriter;
-use am_play::{OpenRefusal, World, ending, play};
+use am_play::{OpenRefusal, World, play};
+use am_report::ending;
 use am_setup::Setup;
+use am_stream::{LineReader, Loopback, Sink, WholeWriter};
 use am_test_store::TestStore;
 use std::alloc::{AllocError, Global};
 use std::io;

@@ -11,3 +11,4 @@ pub mod Opening
 pub mod Failing
 pub mod Best
 pub mod Items
+pub mod Either

@@ -3,6 +3,7 @@
 
 mod commit;
 mod config;
+mod either;
 mod fit;
 mod laws;
 mod made;
@@ -19,7 +20,8 @@ mod stamps;
 mod store;
 mod tenants;
 
+pub use either::EitherShelf;
 pub use laws::{memory_never_fails, memory_stays_clean, rows_are_the_best};
-pub use made::{FileShelf, MemoryShelf};
+pub use made::AnyShelf;
 pub use shelf::Shelf;
 pub use store::Store;

@@ -8,6 +8,7 @@ ghost use Rattle.sqlite.specs.Steps.{over_memory};
 ghost use Rattle.am_text.specs.Outcome.{ForRefused};
 ghost use Rattle.am_store.specs.Items.{kept_in};
 
+use crate::either::EitherShelf;
 use crate::refusal::failure_of;
 use crate::shelf::Shelf;
 use am_rows::StoreRefusal;
@@ -15,11 +16,8 @@ use am_text::Failure;
 use sqlite::{Connection, File, FileStore, MemStore};
 use std::alloc::{AllocError, Global};
 
-/// A database in memory, which is gone where it is dropped.
-pub type MemoryShelf = Shelf<MemStore>;
-
-/// A database in a file, with its log in another file beside it.
-pub type FileShelf = Shelf<FileStore<File>>;
+/// A database in memory, which is gone where it is dropped, or one in a file, with its log in another file beside it.
+pub type AnyShelf = EitherShelf<MemStore, FileStore<File>>;
 
 impl Shelf<MemStore> {
     /// A database in memory, which has nothing and isn't opened yet.

@@ -21,8 +21,8 @@ use Rattle.am_messages.specs.declared.name.MessageName.{MessageName}
 use Rattle.am_world.specs.Places.{up_at}
 use Rattle.am_world.specs.Posting.{unlost_sent}
 use Rattle.am_world.specs.Simulation.{Stands}
-use Rattle.am_world.specs.Steps.{Kept}
 use Rattle.am_world.specs.declared.state.State.{State}
+use Rattle.am_world.proofs.Beside.{Kept}
 use Rattle.am_world.proofs.AloneDecided.{as_deciding, decided_in, deciding_in}
 use Rattle.am_world.proofs.AloneKept.{adds_idle, kept_nothing}
 

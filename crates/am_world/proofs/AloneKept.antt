@@ -18,11 +18,12 @@ use Rattle.am_instance.specs.declared.instance.Instance.{Instance}
 use Rattle.am_http.specs.Connections.{bytes_of}
 use Rattle.am_world.specs.Places.{SameElsewhere, bytes_at, instance_at}
 use Rattle.am_world.specs.Simulation.{AreAsked, Follows, Stands, put_out, roster_of}
-use Rattle.am_world.specs.Steps.{KeepsBuilds, Kept, Premises, clock_after, limits_after}
+use Rattle.am_world.specs.Steps.{KeepsBuilds, clock_after, limits_after}
 use Rattle.am_world.specs.declared.state.State.{State}
 use Rattle.am_tenant.specs.Names.{same}
 use Rattle.am_tenant.proofs.Same.{same_tells}
 use Rattle.am_text.specs.Moment.{greatest_moment}
+use Rattle.am_world.proofs.Beside.{Kept, Premises}
 use Rattle.am_world.proofs.AlonePlaces.{at_each, bytes_here, bytes_other, roster_then, same_again}
 
 -- ---- moments

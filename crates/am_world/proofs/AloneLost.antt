@@ -28,11 +28,11 @@ use Rattle.am_messages.proofs.Orders.{one_name}
 use Rattle.am_world.specs.Places.{bytes_at, incarnation_at, known_at, local_at, refused_at, up_at}
 use Rattle.am_world.specs.Simulation.{IsPostedAlike, IsSameBeside, Stands, fault_count, limits_in, put_out}
 use Rattle.am_world.specs.Simulation.{roster_of}
-use Rattle.am_world.specs.Steps.{IsAsAlone, Kept}
 use Rattle.am_world.specs.declared.common.Common.{Common}
 use Rattle.am_world.specs.declared.state.State.{State}
 use Rattle.am_tenant.specs.Names.{same}
 use Rattle.am_tenant.proofs.Same.{same-refl, same_tells}
+use Rattle.am_world.proofs.Beside.{IsAsAlone, Kept}
 use Rattle.am_world.proofs.Alone.{Over}
 use Rattle.am_world.proofs.AloneKept.{adds_idle, kept_nothing}
 use Rattle.am_world.proofs.AlonePlaces.{roster_then}

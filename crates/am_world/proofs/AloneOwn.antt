@@ -68,23 +68,23 @@ SaysOwn here f = (l : Local) → AreOf here.tenant (f l).said
 none_own : (here : Here) → AreOf here.tenant []
 none_own here = All-nil (IsOf here.tenant)
 
-stays_own : (here : Here) → SaysOwn here stays
+pub stays_own : (here : Here) → SaysOwn here stays
 stays_own here l = none_own here
 
-seq : (here : Here) (f g : Local → Reaction) → SaysOwn here f → SaysOwn here g → SaysOwn here (f >> g)
+pub seq : (here : Here) (f g : Local → Reaction) → SaysOwn here f → SaysOwn here g → SaysOwn here (f >> g)
 seq here f g a b l = All-append (IsOf here.tenant) (f l).said (g (f l).local).said (a l) (b (f l).local)
 
-each_own : {A : Type 0} (here : Here) (f : A → Local → Reaction) (xs : List A) → ((x : A) → SaysOwn here (f x))
+pub each_own : {A : Type 0} (here : Here) (f : A → Local → Reaction) (xs : List A) → ((x : A) → SaysOwn here (f x))
     → SaysOwn here (each f xs)
 each_own here f [] a l = none_own here
 each_own here f (x ∷ xs) a l = seq here (f x) (each f xs) (a x) (each_own here f xs a) l
 
-chosen_own : (here : Here) (b : Bool) (f g : Local → Reaction) → SaysOwn here f → SaysOwn here g
+pub chosen_own : (here : Here) (b : Bool) (f g : Local → Reaction) → SaysOwn here f → SaysOwn here g
     → SaysOwn here (if b then f else g)
 chosen_own here true f g a c l = a l
 chosen_own here false f g a c l = c l
 
-only_if_own : (here : Here) (b : Bool) (f : Local → Reaction) → SaysOwn here f → SaysOwn here (only_if b f)
+pub only_if_own : (here : Here) (b : Bool) (f : Local → Reaction) → SaysOwn here f → SaysOwn here (only_if b f)
 only_if_own here true f a l = a l
 only_if_own here false f a l = none_own here
 
@@ -150,7 +150,7 @@ flushed_own here muted group l =
 
 -- ---- operations
 
-finish_own : (here : Here) (bytes : List ℕ) (operation : Operation) → SaysOwn here (finish bytes operation)
+pub finish_own : (here : Here) (bytes : List ℕ) (operation : Operation) → SaysOwn here (finish bytes operation)
 unfolding finish
 finish_own here bytes operation l =
     All-cons (IsOf here.tenant) (Replies operation.connection bytes) [] tt (none_own here)
@@ -209,7 +209,7 @@ ask_own here to l =
     send_in_own here.epoch here to (Ask here.incarnation)
     (with_settling (record (l.settling) { asked_at = Some here.moment }) l)
 
-asks_first_own : (here : Here) → SaysOwn here (asks_first here)
+pub asks_first_own : (here : Here) → SaysOwn here (asks_first here)
 unfolding asks_first
 asks_first_own here l =
     only_if_own here (is_replica_here here && (not (is_settled here l) && is_none l.settling.asked_at))
@@ -224,7 +224,7 @@ send_state_own here is_asked receiver l =
     (λ p. send_in_own here.epoch here receiver.instance (State receiver.incarnation p.place p.is_last p.items))
     (with_settling (with_list receiver list l.settling) l)
 
-push_own : (here : Here) (receiver : Peer) → SaysOwn here (push here receiver)
+pub push_own : (here : Here) (receiver : Peer) → SaysOwn here (push here receiver)
 unfolding push
 push_own here receiver l =
     send_state_own here false receiver

@@ -21,10 +21,11 @@ use Rattle.am_instance.specs.Reacting.{reaction_on}
 use Rattle.am_world.specs.Consistent.{around_at}
 use Rattle.am_world.specs.Places.{local_at}
 use Rattle.am_world.specs.Simulation.{AreAsked, Stands}
-use Rattle.am_world.specs.Steps.{IsAsAlone, Later}
+use Rattle.am_world.specs.Steps.{Later}
 use Rattle.am_world.specs.declared.state.State.{State}
 use Rattle.am_tenant.specs.Names.{same}
 use Rattle.am_tenant.proofs.Same.{same-refl, same_tells}
+use Rattle.am_world.proofs.Beside.{IsAsAlone}
 use Rattle.am_world.proofs.Alone.{Acts, Behaves, Over, other_stands, own_fits, own_outputs, own_stands}
 use Rattle.am_world.proofs.AloneOwn.{AreOf, IsOf}
 use Rattle.am_world.proofs.AlonePlaces.{at_each, local_here, local_other}

@@ -5,6 +5,7 @@ use Rattle.std.proofs.lemmas.Bool.{or_left}
 use Rattle.std.proofs.lemmas.List.Elements.{All-contains, All-contains_itself, All-weaker}
 use Rattle.std.proofs.lemmas.List.Folds.{list_any-append}
 use Rattle.am_cluster.specs.Events.{Event, Open, Bytes, Close, Limits, Tick, Outcome, Deliver, Lose, Output}
+use Rattle.am_cluster.specs.Events.{Join, Leave, Crash, Restart, Learn, Force}
 use Rattle.am_match.specs.Checking.{AreRefusedRightly}
 use Rattle.am_pattern.specs.Refused.{IsRefusedRightly, has_text}
 use Rattle.am_pattern.specs.Taking.{IsPattern}
@@ -29,6 +30,12 @@ builds_kept w w' (Tick moment) i outs same = same
 builds_kept w w' (Outcome attempt tries moment status) i outs same = same
 builds_kept w w' (Deliver name moment) i outs same = inl same
 builds_kept w w' (Lose name) i outs same = same
+builds_kept w w' (Join j) i outs same = same
+builds_kept w w' (Leave j) i outs same = same
+builds_kept w w' (Crash j) i outs same = same
+builds_kept w w' (Restart j) i outs same = same
+builds_kept w w' (Learn j) i outs same = same
+builds_kept w w' (Force tenant) i outs same = same
 
 -- and what any event leaves
 pub builds_more : (w w' : State) (e : Event) (i : ℕ) (outs : List Output) → KeepsBuilds w e i outs w'
@@ -42,6 +49,12 @@ builds_more w w' (Outcome attempt tries moment status) i outs same = more_nothin
 builds_more w w' (Deliver name moment) i outs (inl same) = more_nothing _ _ same
 builds_more w w' (Deliver name moment) i outs (inr refuses) = (refuses.adds.more, refuses.adds.refused)
 builds_more w w' (Lose name) i outs same = more_nothing _ _ same
+builds_more w w' (Join j) i outs same = more_nothing _ _ same
+builds_more w w' (Leave j) i outs same = more_nothing _ _ same
+builds_more w w' (Crash j) i outs same = more_nothing _ _ same
+builds_more w w' (Restart j) i outs same = more_nothing _ _ same
+builds_more w w' (Learn j) i outs same = more_nothing _ _ same
+builds_more w w' (Force tenant) i outs same = more_nothing _ _ same
 
 pub keep_then : (xs ys zs : List Instance) → KeepRefused xs ys → KeepRefused ys zs → KeepRefused xs zs
 keep_then xs ys zs first next i = more_then _ _ _ (first i) (next i)

@@ -1,6 +1,6 @@
 -- A message that reaches its receiver: what was found under its name, whose store is written, and what is left there.
-use Rattle.std.proofs.Common.{◌≡◌, ℕ, true, false, List, Option, None, Some, option_map, ap, refl, sym, subst}
-use Rattle.std.proofs.Common.{◌∙◌, arith, inl, inr, nat_eq}
+use Rattle.std.proofs.Common.{◌≡◌, ℕ, Bool, true, false, List, Option, None, Some, option_map, ap, refl, sym, subst}
+use Rattle.std.proofs.Common.{◌∙◌, ◌&&◌, arith, inl, inr, nat_eq}
 use Rattle.std.specs.Prelude.{◌==◌}
 use Rattle.std.proofs.lemmas.Bool.Decides.{nat_tests}
 use Rattle.am_cluster.specs.Events.{Deliver}
@@ -94,6 +94,14 @@ left_delivered Rejects w name moment n at there x m fault stop old new then foun
 pub writes_up : (w : State) (name : MessageName) (moment : ℕ) (i : ℕ) → writes w (Deliver name moment) i ≡ true → up_at i w.instances ≡ true
 writes_up w name moment i is = (and_parts (nat_eq i name.to) (up_at i w.instances) is).1
 
+pub writes_none : (w : State) (name : MessageName) (moment i : ℕ) → up_at i w.instances ≡ false
+    → writes w (Deliver name moment) i ≡ false
+writes_none w name moment i down = rw down (by_name (nat_eq i name.to))
+  where
+    by_name : (b : Bool) → (b && false) ≡ false
+    by_name true = refl
+    by_name false = refl
+
 -- one that is up is there
 pub exists_up : (i : ℕ) (xs : List Instance) → up_at i xs ≡ true → (x : Instance) × (instance_at i xs ≡ Some x)
 unfolding up_at
@@ -133,9 +141,9 @@ pub stops_delivered : (w mid w' : State) (name : MessageName) (moment n : ℕ) (
     → IsStopped n fault mid w'
     → Turns n (λ x x'. StopsReceiving (refused_in x) (refused_in x') (around_at (effective moment w.clock) w) there.message x fault)
     w.instances mid.instances
-    → StopsBy w (Deliver name moment) n fault (refused_by w' n)
+    → (shelves : List Shelf) → StopsBy w shelves (Deliver name moment) n fault (refused_by w' n)
 unfolding refused_at
-stops_delivered w mid w' name moment n there fault found numbered changes stopped cause posted is x here =
+stops_delivered w mid w' name moment n there fault found numbered changes stopped cause shelves posted is x here =
     let y = also_there n w.instances mid.instances numbered changes.numbered x here in
     let z = also_there n mid.instances w'.instances changes.numbered stopped.others.numbered y.0 y.1 in
     let around = around_at (effective moment w.clock) w in

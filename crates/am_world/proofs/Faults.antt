@@ -5,6 +5,7 @@ use Rattle.std.proofs.lemmas.Bool.{cases_Bool, true≢false}
 use Rattle.std.proofs.lemmas.Bool.Decides.{nat_tests}
 use Rattle.std.proofs.lemmas.List.{append-nil}
 use Rattle.am_cluster.specs.Events.{Event, Limits}
+use Rattle.am_cluster.specs.Roster.{Roster}
 use Rattle.am_item.specs.declared.fault.Fault.{Fault}
 use Rattle.am_limit.specs.Books.{limits_of}
 use Rattle.am_limit.specs.declared.limits.Limits as limit
@@ -13,18 +14,22 @@ use Rattle.am_messages.specs.declared.messages.Posted.{Posted}
 use Rattle.am_ring.specs.Instances.{all_instances}
 use Rattle.am_instance.proofs.Growing.{more_nothing}
 use Rattle.am_instance.specs.Instance.{GoesOn, HasMore, IsSameNode}
+use Rattle.am_instance.specs.Shelves.{Shelf}
 use Rattle.am_instance.specs.declared.instance.Instance.{Instance}
+use Rattle.am_world.specs.Changes.{roster_then}
+use Rattle.am_world.specs.Consistent.{over}
 use Rattle.am_world.specs.Places.{AreNumbered, ChangesAt, KeepRefused, SameElsewhere, Turns, incarnation_at}
 use Rattle.am_world.specs.Places.{incarnation_where, instance_at, known_at, known_where, refused_at, refused_where}
 use Rattle.am_world.specs.Refusal.{refusal}
-use Rattle.am_world.specs.Simulation.{fault_count, put_out, refused_by}
+use Rattle.am_world.specs.Simulation.{fault_count, put_out, refused_by, roster_of}
 use Rattle.am_world.specs.Steps.{clock_after}
-use Rattle.am_world.specs.Stopping.{Faulted, StopsBy, faults_of, left_by, works}
+use Rattle.am_world.specs.Stopping.{Faulted, IsSameStart, Step, StopsBy, faults_of, left_by, works}
 use Rattle.am_world.specs.Turning.{Fails, IsStopped}
 use Rattle.am_world.specs.declared.common.Common.{Common}
 use Rattle.am_world.specs.declared.state.State.{State}
-use Rattle.am_world.proofs.Built.{keep_equal, keep_then}
+use Rattle.am_world.proofs.Built.{keep_then}
 use Rattle.am_world.proofs.KeptQuiet.{SameBesideLimits}
+use Rattle.am_world.proofs.RowsStay.{leaves_ring, roster_beside}
 use Rattle.am_world.proofs.RunPlaces.{elsewhere_then, one_found, turned}
 
 -- ---- how many faults
@@ -48,7 +53,7 @@ count_once n i (m ∷ ms) (first, rest) = elim (cases_Bool (nat_eq m i)) [
   | inr h ↦ rw h (count_once (suc n) i ms rest)
 ]
 
-one_fault : (i : ℕ) → faults_of (λ j. j == i) ≡ 1
+pub one_fault : (i : ℕ) → faults_of (λ j. j == i) ≡ 1
 one_fault i =
     let most = count_once 1 i all_instances (refl, (refl, (refl, (refl, (refl, (refl, (refl, (refl, tt)))))))) in
     omega arith
@@ -107,34 +112,35 @@ fails_alone i w xs numbered others goes = record {
 -- ---- the event
 
 -- the instance of a number, of which alone work was asked, failed, and was stopped for it
-pub faulted_at : (w mid w' : State) (e : Event) (i : ℕ) (fault : Fault) → refusal w e ≡ None
-    → ((j : ℕ) → works w e j ≡ (j == i)) → clock_after e w.clock ≡ w.clock
+pub faulted_at : (w mid w' : State) (old new : List Shelf) (e : Event) (i : ℕ) (fault : Fault) → refusal w e ≡ None
+    → leaves_ring e ≡ true → ((j : ℕ) → works w e j ≡ (j == i)) → clock_after e w.clock ≡ w.clock
     → ((posted : Option Posted) → left_by e posted ≡ posted)
-    → AreNumbered w.instances → Fails i w mid → IsStopped i fault mid w' → StopsBy w e i fault (refused_by w' i)
-    → Faulted w e w'
-faulted_at w mid w' e i fault taken alone clock left numbered fails stops cause =
+    → AreNumbered w.instances → Fails i w mid → IsStopped i fault mid w' → StopsBy w old e i fault (refused_by w' i)
+    → Faulted (over w old) e (over w' new)
+faulted_at w mid w' old new e i fault taken beside alone clock left numbered fails stops cause =
     let itself : nat_eq i i ≡ true = grind (arith, nat_tests) in
     let node : Turns i IsSameNode mid.instances w'.instances = λ x x' here there. (stops.stays x x' here there).0 in
     let common : w'.common ≡ w.common = stops.beside.common ∙ fails.beside.common in
     let apart : (j : ℕ) → works w e j ≡ false → (j == i) ≡ false = λ j idle. sym (alone j) ∙ idle in
-    record {
+    let unturned : roster_then e (roster_of w) ≡ roster_of w = roster_beside e (roster_of w) beside in
+    inl (record {
       taken = taken;
       stopped = λ j. j == i;
       worked = λ j same. alone j ∙ same;
-      some = λ none. absurd (true≢false (sym itself ∙ none i));
+      some = (i, itself);
       down = λ j same. let here : i ≡ j = grind (arith, nat_tests) in rw (← here) stops.down;
       causes = λ j same.
           let here : i ≡ j = grind (arith, nat_tests) in
-          rw (← here) (record { fault = fault; told = stops.cause; cause = cause });
+          rw (← here) (record { fault = fault; told = stops.cause; cause = λ clean. cause });
       others = λ j idle.
           elsewhere_then i w.instances mid.instances w'.instances fails.others.others stops.others.others j
           (apart j idle);
-      incarnations = λ j.
-          incarnations_stay i mid.instances w'.instances fails.others.numbered stops.others node j
-          ∙ incarnations_stay i w.instances mid.instances numbered fails.others fails.stays j;
-      known = λ j.
-          known_stay i mid.instances w'.instances fails.others.numbered stops.others node j
-          ∙ known_stay i w.instances mid.instances numbered fails.others fails.stays j;
+      starts = λ j. subst (IsSameStart j (roster_of w')) (sym unturned) (
+        incarnations_stay i mid.instances w'.instances fails.others.numbered stops.others node j
+            ∙ incarnations_stay i w.instances mid.instances numbered fails.others fails.stays j,
+        known_stay i mid.instances w'.instances fails.others.numbered stops.others node j
+            ∙ known_stay i w.instances mid.instances numbered fails.others fails.stays j,
+      );
       told = λ j. [];
       goes_on = λ j works on. absurd (true≢false (sym works ∙ alone j ∙ on));
       silent = λ j same. refl;
@@ -144,7 +150,8 @@ faulted_at w mid w' e i fault taken alone clock left numbered fails stops cause 
           ap (posted_at name) stops.messages ∙ fails.posted name ∙ sym (left (posted_at name w.messages));
       limits = λ t. ap (λ (c : Common). limits_of t c.limits) common;
       service_key = ap (λ (c : Common). c.service_key) common;
-      rings = ap (λ (c : Common). c.rings) common;
+      rings = ap (λ (c : Common). (roster_of (record w { common = c })).rings) common
+          ∙ sym (ap (λ (r : Roster). r.rings) unturned);
       first = ap (λ (c : Common). c.first) common;
       refused = keep_then w.instances mid.instances w'.instances
           (refused_stay i w.instances mid.instances numbered fails.others fails.stays)
@@ -153,33 +160,30 @@ faulted_at w mid w' e i fault taken alone clock left numbered fails stops cause 
           ∙ ap (λ n. min (n + 1) (2 ^ 64 - 1)) fails.faults
           ∙ ap (λ n. min (fault_count w + n) (2 ^ 64 - 1)) (sym (one_fault i));
       clock = stops.beside.clock ∙ fails.beside.clock ∙ sym clock;
-    }
+    })
+
+-- a fault is a step where the stores stay
+pub step_faulted : (w : State) (e : Event) (w' : State)
+    → ((shelves : List Shelf) → Faulted (over w shelves) e (over w' shelves)) → (shelves : List Shelf)
+    → Step (over w shelves) e (over w' shelves)
+step_faulted w e w' faulted shelves = record { ends = inr (faulted shelves); clean = λ i clean. clean }
 
 -- new limits that find no memory: nothing has changed, and one fault is counted
-pub faulted_limits : (w w' : State) (tenant : List ℕ) (limits : limit.Limits) → SameBesideLimits w w'
-    → ((t : List ℕ) → limits_of t w'.common.limits ≡ limits_of t w.common.limits) → put_out w' ≡ put_out w
-    → fault_count w' ≡ min (fault_count w + 1) (2 ^ 64 - 1) → Faulted w (Limits tenant limits) w'
-faulted_limits w w' tenant limits beside same outputs counted = record {
+pub faulted_limits : (w w' : State) (shelves : List Shelf) (tenant : List ℕ) (limits : limit.Limits)
+    → SameBesideLimits w w' → ((t : List ℕ) → limits_of t w'.common.limits ≡ limits_of t w.common.limits)
+    → put_out w' ≡ put_out w → fault_count w' ≡ min (fault_count w + 1) (2 ^ 64 - 1)
+    → Faulted (over w shelves) (Limits tenant limits) (over w' shelves)
+faulted_limits w w' shelves tenant limits beside same outputs counted = inr (record {
   taken = refl;
-  stopped = λ i. false;
-  worked = λ i never. absurd (true≢false (sym never));
-  some = λ none. refl;
-  down = λ i never. absurd (true≢false (sym never));
-  causes = λ i never. absurd (true≢false (sym never));
-  others = λ i idle. ap (instance_at i) beside.instances;
-  incarnations = λ i. ap (incarnation_at i) beside.instances;
-  known = λ i. ap (known_at i) beside.instances;
-  told = λ i. [];
-  goes_on = λ i never on. absurd (true≢false (sym never));
-  silent = λ i never. refl;
-  idle = λ i idle. refl;
-  appended = outputs ∙ sym (append-nil (put_out w));
-  posted = λ name. ap (posted_at name) beside.messages;
+  may = refl;
+  clock = beside.clock;
   limits = same;
   service_key = beside.service_key;
-  rings = beside.rings;
+  rings = rw beside.rings refl;
   first = beside.first;
-  refused = keep_equal _ _ beside.instances;
+  instances = beside.instances;
+  messages = beside.messages;
+  outputs = outputs;
   counted = counted;
-  clock = beside.clock;
-}
+  shelves = refl;
+})

@@ -19,8 +19,11 @@ consistent_forgotten w w' forgets was = record {
       (ap (λ (c : Common). c.rings.items) forgets.beside.common) (ap (λ (c : Common). c.first) forgets.beside.common)
       (was.whole i x (sym (ap (instance_at i) forgets.instances) ∙ there));
   quiet = rw forgets.instances was.quiet;
+  ring = rw forgets.beside.common was.ring;
+  members = rw (forgets.instances, forgets.beside.common) was.members;
   filed = rw forgets.messages was.filed;
   past = rw (forgets.messages, forgets.instances) was.past;
+  fresh = rw (forgets.messages, forgets.instances) was.fresh;
 }
 
 pub backed_forgotten : (w w' : State) (shelves : List Shelf) → Forgets w w' → AreBacked w.instances shelves

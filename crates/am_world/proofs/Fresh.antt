@@ -61,7 +61,7 @@ pub record CountsOn (x x' : Instance) (told : List Output) : Type 0 where
 
 -- ---- what is said of one tenant
 
-counts_rise : (i k a b : ℕ) (ms : List Message) → Counts i k a ms b → a ≤ b
+pub counts_rise : (i k a b : ℕ) (ms : List Message) → Counts i k a ms b → a ≤ b
 counts_rise i k a b [] counts = let same : a ≡ b = counts in omega (arith, same)
 counts_rise i k a b (m ∷ ms) counts =
     let more : a + 1 ≤ b = counts_rise i k (a + 1) b ms counts.3 in omega (arith, more)
@@ -82,7 +82,7 @@ module _ (x x' : Instance) (t : List ℕ) where
         counted = subst (λ s. m.count ≤ counted_in s x') (sym own) counted;
       }
 
-  said_next : (a : ℕ) (said : List Said) → AreOf t said → counted_in t x ≤ a
+  pub said_next : (a : ℕ) (said : List Said) → AreOf t said → counted_in t x ≤ a
       → Counts x.number x.incarnation a (messages_in said) (counted_in t x') → All (SaysNext x x') said
   said_next a [] own low counts = All-nil (SaysNext x x')
   said_next a (Replies c bytes ∷ said) own low counts =
@@ -96,7 +96,7 @@ module _ (x x' : Instance) (t : List ℕ) where
       All-cons (SaysNext x x') (Tells s) said tt
       (said_next a said (All-tail (IsOf t) (Tells s) said own) low counts)
 
-word_next : (x x' : Instance) (t : List ℕ) (i k : ℕ) (word : Said) → SaysNext x x' word
+pub word_next : (x x' : Instance) (t : List ℕ) (i k : ℕ) (word : Said) → SaysNext x x' word
     → TellsNext x x' (output_of t i k word)
 word_next x x' t i k (Replies c bytes) next = tt
 word_next x x' t i k (Sends m) next = next

@@ -26,7 +26,7 @@ use Rattle.am_instance.specs.Receiving.{Receives}
 use Rattle.am_instance.specs.Ticks.{Ticks}
 use Rattle.am_instance.specs.declared.instance.Instance.{Instance}
 use Rattle.am_world.specs.Places.{AreNumbered, At, ChangesAt, Turns, instance_at}
-use Rattle.am_world.specs.Posting.{ArePast, HasCounted, LosesAll, Post, Posts}
+use Rattle.am_world.specs.Posting.{ArePast, AreReached, HasCounted, HasReached, LosesAll, Post, Posts}
 use Rattle.am_world.specs.Posting.{is_of_name, posted_by, posted_over}
 use Rattle.am_world.specs.Shelves.{IsQuiet}
 use Rattle.am_world.proofs.AloneOwn.{SaysOwn}
@@ -48,7 +48,7 @@ module _ (x x' : Instance) where
     | inr other ↦ inl (rw other at is)
   ]
 
-  was_or_next : (moment : ℕ) (told : List Output) (name : MessageName) (before : Option Posted) (posted : Posted)
+  pub was_or_next : (moment : ℕ) (told : List Output) (name : MessageName) (before : Option Posted) (posted : Posted)
       → All (TellsNext x x') told → posted_over moment told name before ≡ Some posted
       → (before ≡ Some posted) ⊎ IsNext x x' name
   was_or_next moment [] name before posted next is = inl is
@@ -61,7 +61,7 @@ module _ (x x' : Instance) where
       ]
 
   -- a name among what is told is new
-  told_next : (told : List Output) (name : MessageName) → All (TellsNext x x') told
+  pub told_next : (told : List Output) (name : MessageName) → All (TellsNext x x') told
       → (IsNext x x' name → ⊥) → list_any (is_of_name name) told ≡ false
   told_next [] name next never = refl
   told_next (output ∷ told) name next never =
@@ -158,6 +158,32 @@ module _ (i : ℕ) (told : List Output) (xs ys : List Instance) (goes : GoesOnAt
       either : (posted_at name old ≡ Some posted) ⊎ IsNext first.0 second.0 name
       either = was_or_next first.0 second.0 moment told name (posted_at name old) posted on.next (sym (posts name) ∙ is)
 
+  -- .. and the instance is in the incarnation in which it told it
+  pub reached_posts : AreReached old xs → (moment : ℕ) (new : Post) → Posts moment told old new → AreReached new ys
+  reached_posts reached moment new posts name posted is y at =
+      elim (cases_eq name.from i) [
+        | inl own ↦
+            let found : Some second.0 ≡ Some y = sym second.1 ∙ ap (λ j. instance_at j ys) (sym own) ∙ at in
+            let same : second.0 ≡ y = cc in
+            subst (HasReached name) same (own_reached own either)
+        | inr apart ↦
+            let other : (name.from == i) ≡ false = ne_eqb name.from i apart in
+            reached name posted (other_was name posted other either) y
+            (sym (goes.others.others name.from other) ∙ at)
+      ]
+    where
+      either : (posted_at name old ≡ Some posted) ⊎ IsNext first.0 second.0 name
+      either = was_or_next first.0 second.0 moment told name (posted_at name old) posted on.next (sym (posts name) ∙ is)
+
+      own_reached : name.from ≡ i → (posted_at name old ≡ Some posted) ⊎ IsNext first.0 second.0 name
+          → HasReached name second.0
+      own_reached own (inl was) =
+          let at : instance_at name.from xs ≡ Some first.0 = ap (λ j. instance_at j xs) own ∙ first.1 in
+          subst (λ n. name.incarnation ≤ n) (sym stayed.incarnation) (reached name posted was first.0 at)
+      own_reached own (inr next) =
+          let same : name.incarnation ≡ second.0.incarnation = next.incarnation ∙ sym stayed.incarnation in
+          omega (arith, same)
+
   -- no message that was there has a name of which a message is told
   never_next : At i (λ x. x.up ≡ true) xs → (name : MessageName) (posted : Posted) → posted_at name old ≡ Some posted
       → IsNext first.0 second.0 name → ⊥
@@ -202,6 +228,10 @@ module _ (i : ℕ) (around : Circumstances) (tenant : List ℕ) (f : Here → Lo
   pub past_reacts : (moment : ℕ) → Posts moment told old new → ArePast new ys
   past_reacts moment posts = past_posts i told xs ys goes reacts_turns old past moment new posts
 
+  pub reached_reacts : AreReached old xs → (moment : ℕ) → Posts moment told old new → AreReached new ys
+  reached_reacts reached moment posts =
+      reached_posts i told xs ys goes reacts_turns old past reached moment new posts
+
   pub lost_none_reacts : At i (λ x. x.up ≡ true) xs → LosesAll told old new
       → (name : MessageName) → posted_at name new ≡ posted_at name old
   lost_none_reacts up loses = none_lost i told xs ys goes reacts_turns old past up new loses
@@ -213,6 +243,10 @@ module _ (i : ℕ) (around : Circumstances) (told : List Output) (xs ys : List I
 
   pub past_ticks : (moment : ℕ) → Posts moment told old new → ArePast new ys
   past_ticks moment posts = past_posts i told xs ys goes ticks_turns old past moment new posts
+
+  pub reached_ticks : AreReached old xs → (moment : ℕ) → Posts moment told old new → AreReached new ys
+  reached_ticks reached moment posts =
+      reached_posts i told xs ys goes ticks_turns old past reached moment new posts
 
   -- one that is down told nothing
   pub lost_none_ticks : LosesAll told old new → (name : MessageName) → posted_at name new ≡ posted_at name old
@@ -242,6 +276,10 @@ module _ (i : ℕ) (around : Circumstances) (message : Message) (told : List Out
   pub past_receives : (moment : ℕ) → Posts moment told old new → ArePast new ys
   past_receives moment posts = past_posts i told xs ys goes receives_turns old past moment new posts
 
+  pub reached_receives : AreReached old xs → (moment : ℕ) → Posts moment told old new → AreReached new ys
+  reached_receives reached moment posts =
+      reached_posts i told xs ys goes receives_turns old past reached moment new posts
+
   pub lost_none_receives : At i (λ x. x.up ≡ true) xs → LosesAll told old new
       → (name : MessageName) → posted_at name new ≡ posted_at name old
   lost_none_receives up loses = none_lost i told xs ys goes receives_turns old past up new loses
@@ -258,6 +296,10 @@ module _ (i : ℕ) (around : Circumstances) (c : ℕ) (told : List Output) (xs y
   pub past_brings : (moment : ℕ) → Posts moment told old new → ArePast new ys
   past_brings moment posts = past_posts i told xs ys goes brings_turns old past moment new posts
 
+  pub reached_brings : AreReached old xs → (moment : ℕ) → Posts moment told old new → AreReached new ys
+  reached_brings reached moment posts =
+      reached_posts i told xs ys goes brings_turns old past reached moment new posts
+
   pub lost_none_brings : At i (λ x. x.up ≡ true) xs → LosesAll told old new
       → (name : MessageName) → posted_at name new ≡ posted_at name old
   lost_none_brings up loses = none_lost i told xs ys goes brings_turns old past up new loses
@@ -266,5 +308,5 @@ module _ (i : ℕ) (around : Circumstances) (c : ℕ) (told : List Output) (xs y
 pub reads_up : (x : Instance) (c : ℕ) → IsQuiet x → IsSome (bytes_in c x) → x.up ≡ true
 reads_up x c quiet reads = elim (cases_Bool x.up) [
   | inl up ↦ up
-  | inr down ↦ let never = subst IsSome (quiet down c) reads in absurd (cc)
+  | inr down ↦ let never = subst IsSome ((quiet down).unread c) reads in absurd (cc)
 ]

@@ -4,8 +4,9 @@ use Rattle.std.proofs.Common.{refl, sym, ap, arith, if◌then◌else◌}
 use Rattle.std.proofs.lemmas.Bool.{cases_Bool}
 use Rattle.std.proofs.lemmas.Bool.Decides.{nat_tests}
 use Rattle.am_instance.proofs.Growing.{more_nothing, more_then}
-use Rattle.am_instance.specs.Instance.{GoesOn, bytes_in, refused_in}
+use Rattle.am_instance.specs.Instance.{GoesOn, bytes_in, local_in, refused_in}
 use Rattle.am_instance.specs.declared.instance.Instance.{Instance}
+use Rattle.am_instance.specs.Site.{local_of}
 use Rattle.am_world.specs.Places.{AreNumbered, At, ChangesAt, EachIs, IsReadOnce, Turns, bytes_at}
 use Rattle.am_world.specs.Places.{bytes_where, instance_at}
 use Rattle.am_world.specs.Shelves.{IsQuiet}
@@ -199,15 +200,20 @@ begins_elsewhere c n r xs ys zs e f read apart opens change closes once =
     begun_anew c n r xs ys zs once (read_at c r xs read.exists read.reads) apart opens
     (closed r c ys zs f (exists_still r xs ys e f read.exists) change closes)
 
--- ---- who is down reads nothing
+-- ---- who is down reads nothing and has nothing
 
 quiet_up : (x y : Instance) → x.up ≡ true → IsSame x y → IsQuiet y
 quiet_up x y up same down = let never : true ≡ false = sym up ∙ sym same.0.up ∙ down in absurd cc
 
 quiet_less : (c : ℕ) (x y : Instance) → IsQuiet x → IsSame x y × Closes c x y → IsQuiet y
-quiet_less c x y quiet both down d =
-    let was : bytes_in d x ≡ None = quiet (sym both.0.0.up ∙ down) d in
-    both.1 d ∙ elim (cases_Bool (nat_eq d c)) [ inl h ↦ rw h refl | inr h ↦ rw h was ]
+unfolding local_in
+quiet_less c x y quiet both down = record {
+  up = down;
+  unread = λ d.
+      let was : bytes_in d x ≡ None = (quiet (sym both.0.0.up ∙ down)).unread d in
+      both.1 d ∙ elim (cases_Bool (nat_eq d c)) [ inl h ↦ rw h refl | inr h ↦ rw h was ];
+  lost = λ t. ap (local_of t) both.0.1 ∙ (quiet (sym both.0.0.up ∙ down)).lost t;
+}
 
 pub quiet_opened : (n : ℕ) (xs ys : List Instance) → AreNumbered xs → ChangesAt n xs ys → Turns n IsSame xs ys
     → At n (λ x. x.up ≡ true) xs → (i : ℕ) → At i IsQuiet xs → At i IsQuiet ys

@@ -39,10 +39,11 @@ use Rattle.am_world.specs.Places.{AreNumbered, Turns, bytes_at, instance_at, loc
 use Rattle.am_world.specs.Posting.{posted_over}
 use Rattle.am_world.specs.Shelves.{IsQuiet}
 use Rattle.am_world.specs.Simulation.{AreAsked, Follows, Stands, limits_in, roster_of}
-use Rattle.am_world.specs.Steps.{IsAsAlone, Kept, Later, Premises}
+use Rattle.am_world.specs.Steps.{Later}
 use Rattle.am_world.specs.Turning.{Does, Feeds}
 use Rattle.am_world.specs.declared.common.Common.{Common}
 use Rattle.am_world.specs.declared.state.State.{State}
+use Rattle.am_world.proofs.Beside.{IsAsAlone, Kept, Premises}
 use Rattle.am_world.proofs.Alone.{Acts, Behaves, Over, up_alike}
 use Rattle.am_world.proofs.AloneKept.{adds_none, clock_before, effective_later, kept_nothing}
 use Rattle.am_world.proofs.AloneOwn.{start_own}
@@ -356,7 +357,7 @@ up_where_read c before x quiet read = by_up x.up refl
   where
     by_up : (b : Bool) → x.up ≡ b → x.up ≡ true
     by_up true e = e
-    by_up false e = let never : None ≡ Some before = sym (quiet e c) ∙ read in absurd cc
+    by_up false e = let never : None ≡ Some before = sym ((quiet e).unread c) ∙ read in absurd cc
 
 pub kept_bytes : (w w' : State) (i c moment : ℕ) (before piece : List ℕ) (x : Instance) → is_too_late moment ≡ false
     → instance_at i w.instances ≡ Some x → bytes_in c x ≡ Some before → IsConsistent w

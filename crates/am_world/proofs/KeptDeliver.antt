@@ -41,13 +41,14 @@ use Rattle.am_instance.specs.declared.instance.Instance.{Instance}
 use Rattle.am_world.specs.Consistent.{IsConsistent, around_at}
 use Rattle.am_world.specs.Places.{Turns, instance_at, up_at}
 use Rattle.am_world.specs.Simulation.{AreAsked, Stands, fault_count, put_out, refused_by}
-use Rattle.am_world.specs.Steps.{IsAsAlone, IsRefusedAlone, KeepsBuilds, Kept, Premises, RefusesBuild}
+use Rattle.am_world.specs.Steps.{KeepsBuilds, RefusesBuild}
 use Rattle.am_world.specs.Turning.{Does}
 use Rattle.am_world.specs.declared.common.Common.{Common}
 use Rattle.am_world.specs.declared.state.State.{State}
 use Rattle.am_instance.specs.Site.{Given, IsDecided, IsMade, asked_by, decided_by, here_of}
 use Rattle.am_tenant.specs.Names.{same}
 use Rattle.am_tenant.proofs.Same.{same-refl, same_tells}
+use Rattle.am_world.proofs.Beside.{IsAsAlone, IsRefusedAlone, Kept, Premises}
 use Rattle.am_world.proofs.Alone.{Acts, Behaves, Over, here_alike, local_alike, own_fits, own_outputs}
 use Rattle.am_world.proofs.Alone.{own_stands, roster_kept, up_alike}
 use Rattle.am_world.proofs.AloneDecided.{arrive_alike, as_deciding, decided_in}

@@ -27,10 +27,10 @@ use Rattle.am_instance.specs.declared.instance.Instance.{Instance}
 use Rattle.am_world.specs.Consistent.{IsConsistent, around_at}
 use Rattle.am_world.specs.Places.{Turns, awaits_at, incarnation_at, instance_at, local_at, up_at}
 use Rattle.am_world.specs.Simulation.{Stands}
-use Rattle.am_world.specs.Steps.{Kept}
 use Rattle.am_world.specs.Turning.{Does}
 use Rattle.am_world.specs.declared.common.Common.{Common}
 use Rattle.am_world.specs.declared.state.State.{State}
+use Rattle.am_world.proofs.Beside.{Kept}
 use Rattle.am_world.proofs.Alone.{Acts, Behaves, Over, acts_of, roster_kept, up_alike}
 use Rattle.am_world.proofs.AloneKept.{adds_idle, clock_before, effective_later, follows_on, kept_nothing}
 use Rattle.am_world.proofs.AloneOwn.{outcome_own}

@@ -29,10 +29,11 @@ use Rattle.am_world.specs.Places.{incarnation_where, instance_at, known_at, know
 use Rattle.am_world.specs.Places.{refused_at, refused_where, up_at, up_where}
 use Rattle.am_world.specs.Simulation.{Follows, Stands, bytes_read, fault_count, limits_in, put_out}
 use Rattle.am_world.specs.Simulation.{refused_by, roster_of}
-use Rattle.am_world.specs.Steps.{Kept, Premises, clock_after, limits_after}
+use Rattle.am_world.specs.Steps.{clock_after, limits_after}
 use Rattle.am_world.specs.declared.common.Common.{Common}
 use Rattle.am_world.specs.declared.state.State.{State}
 use Rattle.am_tenant.specs.Names.{same}
+use Rattle.am_world.proofs.Beside.{Kept, Premises}
 use Rattle.am_world.proofs.Built.{builds_kept}
 use Rattle.am_world.proofs.RunLater.{asked_later, later_itself, later_watch}
 use Rattle.am_world.proofs.RunPlaces.{turned_here}

@@ -12,18 +12,19 @@ use Rattle.am_instance.specs.Shelves.{IsBacked, Shelf}
 use Rattle.am_instance.specs.declared.instance.Instance.{Instance}
 use Rattle.am_rows.specs.Rows.{stored_in}
 use Rattle.am_instance.specs.Site.{local_of}
-use Rattle.am_world.specs.Consistent.{IsConsistent, around_at}
+use Rattle.am_world.specs.Consistent.{IsConsistent, IsMember, IsRingInOrder, around_at, newest_in}
 use Rattle.am_world.specs.Places.{AreNumbered, At, ChangesAt, EachIs, SameElsewhere, Turns, bytes_at, bytes_where}
 use Rattle.am_world.specs.Places.{instance_at, up_at, up_where}
-use Rattle.am_world.specs.Posting.{AreFiled, ArePast}
+use Rattle.am_world.specs.Posting.{AreFiled, ArePast, AreReached}
 use Rattle.am_world.specs.Shelves.{AreBacked, AreBackedBut, IsQuiet, shelf_at}
 use Rattle.am_world.specs.declared.common.Common.{Common}
 use Rattle.am_world.specs.declared.state.State.{State}
 use Rattle.am_world.proofs.FreshKept.{past_still}
 use Rattle.am_world.proofs.KeptQuiet.{Rests, SameBesideLimits}
 use Rattle.am_world.proofs.Placed.{also_there, each_after}
+use Rattle.am_world.proofs.Reached.{reached_later}
 use Rattle.am_world.proofs.RunPlaces.{turned_here}
-use Rattle.am_world.proofs.Turned.{whole_at}
+use Rattle.am_world.proofs.Turned.{member_on, whole_at}
 pub use Rattle.am_world.proofs.Stopped.{backed_stopped, cause_here, consistent_stopped, exists_at, quiet_stopped}
 
 -- ---- by number
@@ -87,13 +88,18 @@ still_none false o none = none
 
 pub closed_quiet : (n c : ℕ) (xs ys : List Instance) → AreNumbered xs → ChangesAt n xs ys → Turns n Rests xs ys
     → Turns n (Closes c) xs ys → EachIs IsQuiet xs → EachIs IsQuiet ys
+unfolding local_in
 closed_quiet n c xs ys numbered change rests closes quiet =
     each_after IsQuiet n xs ys change.others quiet
-    (λ x' there down d.
+    (λ x' there down.
     let x = also_there n ys xs change.numbered numbered x' there in
-    closes x.0 x' x.1 there d
-    ∙ still_none (d == c) (bytes_in d x.0)
-    (quiet n x.0 x.1 (sym (rests x.0 x' x.1 there).0.up ∙ down) d))
+    let rest = rests x.0 x' x.1 there in
+    let was = quiet n x.0 x.1 (sym rest.0.up ∙ down) in
+    record {
+      up = down;
+      unread = λ d. closes x.0 x' x.1 there d ∙ still_none (d == c) (bytes_in d x.0) (was.unread d);
+      lost = λ t. ap (local_of t) rest.1 ∙ was.lost t;
+    })
 
 -- ---- where each instance rests
 
@@ -118,9 +124,18 @@ consistent_rest w w' was clock common messages numbered rests quiet = record {
       (whole_at (around_at w.clock w) (around_at w'.clock w') x.0 (ap (λ (c : Common). c.rings.items) common)
       (ap (λ (c : Common). c.first) common) (was.whole i x.0 x.1));
   quiet = quiet;
+  ring = subst (λ (c : Common). IsRingInOrder (newest_in c)) (sym common) was.ring;
+  members = λ i x' there.
+      let x = also_there i w'.instances w.instances numbered was.numbered x' there in
+      let rest = rests i x.0 x' x.1 there in
+      subst (λ (c : Common). IsMember (newest_in c) x') (sym common)
+      (member_on x.0 x' rest.0.up rest.0.number (newest_in w.common) (was.members i x.0 x.1));
   filed = subst AreFiled (sym messages) was.filed;
   past = subst (λ post. ArePast post w'.instances) (sym messages)
       (past_still w.messages w.instances w'.instances was.numbered numbered rests was.past);
+  fresh = subst (λ post. AreReached post w'.instances) (sym messages)
+      (reached_later w.messages w.instances w'.instances was.numbered numbered
+      (λ j x x' here there. let same = (rests j x x' here there).0.incarnation in omega (arith, same)) was.fresh);
 }
 
 backed_rests : (x x' : Instance) (shelf : Shelf) → Rests x x' → IsBacked x shelf → IsBacked x' shelf
@@ -165,6 +180,9 @@ consistent_limits w w' same was = record {
       whole_at (around_at w.clock w) (around_at w'.clock w') x (rw same.rings refl) same.first
       (was.whole i x (sym (ap (instance_at i) same.instances) ∙ there));
   quiet = rw same.instances was.quiet;
+  ring = rw same.rings was.ring;
+  members = rw (same.instances, same.rings) was.members;
   filed = rw same.messages was.filed;
   past = rw (same.messages, same.instances) was.past;
+  fresh = rw (same.messages, same.instances) was.fresh;
 }

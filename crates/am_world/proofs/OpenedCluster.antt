@@ -1,6 +1,6 @@
 -- A tenant's cluster as its instances open their stores, one after the other.
 use Rattle.std.proofs.Common.{◌≡◌, ◌∙◌, ℕ, Bool, true, false, not, List, [], ◌∷◌, ap, refl, sym}
-use Rattle.std.proofs.Common.{if◌then◌else◌}
+use Rattle.std.proofs.Common.{◌||◌, if◌then◌else◌}
 use Rattle.std.specs.Prelude.{◌==◌, ◌||◌}
 use Rattle.std.proofs.lemmas.Bool.{and_parts, eqb-true, false≢true}
 use Rattle.am_item.specs.declared.item.Item.{Item}
@@ -85,11 +85,26 @@ all_opened (i ∷ is) p j differ =
     once : not (is_among i is) ≡ true → j ≡ i → is_among j is ≡ false
     once e same = ap (λ k. is_among k is) same ∙ denied (is_among i is) e
 
+-- .. and of the others the rows stay
+left_out : (b c : Bool) → (b || c) ≡ false → (b ≡ false) × (c ≡ false)
+left_out true c e = absurd (false≢true (sym e))
+left_out false c e = (refl, e)
+
+all_rows : (is : List ℕ) (p : PrivateCluster) (j : ℕ) → is_among j is ≡ false
+    → (with_all_opened is p).rows j ≡ p.rows j
+all_rows [] p j out = refl
+all_rows (i ∷ is) p j out =
+    let parts = left_out (j == i) (is_among j is) out in
+    all_rows is (with_opened i p) j parts.1 ∙ rw parts.0 refl
+
 -- ---- the cluster as it is opened
 
 module _ (origin : Origin) (t : List ℕ) (rows : ℕ → List Item) where
   pub opened_same : IsSameBesideStores (unopened (replicas t) origin t rows) (opened origin t rows)
   opened_same = all_same origin.setting.ring (unopened (replicas t) origin t rows)
+
+  pub opened_rows : (j : ℕ) → is_among j origin.setting.ring ≡ false → (opened origin t rows).rows j ≡ rows j
+  opened_rows j out = all_rows origin.setting.ring (unopened (replicas t) origin t rows) j out
 
   pub opened_at : (j : ℕ) → all_differ origin.setting.ring ≡ true → (opened origin t rows).at j
       ≡ (if is_among j origin.setting.ring then has_opened (unopened (replicas t) origin t rows) j else blank)

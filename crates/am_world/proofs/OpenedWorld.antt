@@ -14,6 +14,7 @@ use Rattle.am_ring.specs.Instances.{all_differ, flags_of, is_among, is_instance}
 use Rattle.am_ring.specs.Replicas.{replicas}
 use Rattle.am_ring.proofs.Flags.{flagged-flags_of, stranger}
 use Rattle.am_rows.specs.Refusing.{IsJudged, MayRefuse}
+use Rattle.am_rows.specs.Rows.{rows_of}
 use Rattle.am_rows.specs.declared.rows.Rows.{Ghosts}
 use Rattle.am_rows.specs.declared.refusal.StoreRefusal.{StoreRefusal}
 use Rattle.am_setup.specs.Setup.{Origin as Setting}
@@ -27,25 +28,28 @@ use Rattle.am_cluster.specs.Operations.{Operation}
 use Rattle.am_cluster.specs.Origins.{TenantLimits}
 use Rattle.am_cluster.specs.PrivateCluster.{here_at, opened, unopened}
 use Rattle.am_cluster.specs.RingChanges.{opened as opened_with}
+use Rattle.am_cluster.specs.Rings.{Rings, newest_ring}
 use Rattle.am_cluster.specs.Roster.{IsSameRoster, Roster, opened_roster}
 use Rattle.am_cluster.specs.Sent.{Sent, is_named}
 use Rattle.am_cluster.specs.View.{first_watch}
 use Rattle.am_cluster.proofs.Named.{first_kept}
-use Rattle.am_instance.specs.Shelves.{shelf_of}
+use Rattle.am_instance.specs.Shelves.{Shelf, shelf_of}
 use Rattle.am_instance.specs.declared.instance.Instance.{Instance}
-use Rattle.am_world.specs.Consistent.{IsConsistent}
+use Rattle.am_world.specs.Consistent.{IsConsistent, IsRingInOrder, newest_in, over}
 use Rattle.am_world.specs.Opening.{FailsToOpen, FailsWith, Opens, origin_of, refusal_for, store_at}
 use Rattle.am_world.specs.Places.{bytes_at, bytes_where, incarnation_at, incarnation_where, instance_at, known_at}
 use Rattle.am_world.specs.Places.{known_where, local_at, local_where, refused_at, refused_where, up_at, up_where}
-use Rattle.am_world.specs.Posting.{ArePast, unlost_sent}
+use Rattle.am_world.specs.Posting.{ArePast, AreReached, unlost_sent}
 use Rattle.am_world.specs.Shelves.{AreBacked, AreClean, rows_in, shelves_of}
-use Rattle.am_world.specs.Simulation.{IsAskerOf, IsPostedAlike, Stands, limits_in, roster_of}
+use Rattle.am_world.specs.Simulation.{IsAskerOf, IsPostedAlike, KeepsRows, Stands, limits_in, roster_of}
 use Rattle.am_world.specs.declared.opening.OpenRefusal.{OpenRefusal}
 use Rattle.am_world.specs.declared.state.State.{State}
+use Rattle.am_world.proofs.AlonePlaces.{number_of}
 use Rattle.am_world.proofs.FreshKept.{past_none}
 use Rattle.am_world.proofs.Opened.{AreOpenedTo, here_first, is_open_by}
-use Rattle.am_world.proofs.OpenedCluster.{IsSameBesideStores, has_opened, opened_at, opened_same}
+use Rattle.am_world.proofs.OpenedCluster.{IsSameBesideStores, has_opened, opened_at, opened_rows, opened_same}
 use Rattle.am_world.proofs.OpenedFound.{exists_at, missing_at}
+use Rattle.am_world.proofs.Reached.{reached_none}
 use Rattle.am_world.proofs.RunOpened.{instances_up}
 
 -- an instance has no operation as it is opened
@@ -68,11 +72,11 @@ not_some None a P none some = absurd cc
 not_some (Some b) a P none some = absurd cc
 
 -- all eight had their turn
-module _ {R : Type 0} (g : Ghosts R) (setting : Setting) (k : ℕ) (old now : List R) (w : State) (over : 8 ≤ k)
+module _ {R : Type 0} (g : Ghosts R) (setting : Setting) (k : ℕ) (old now : List R) (w : State) (end : 8 ≤ k)
     (low : k ≤ 8) (so : AreOpenedTo g setting k old now w) where
   done : AreOpenedTo g setting 8 old now w
   done =
-      let all : k ≡ 8 = omega (arith, over, low) in
+      let all : k ≡ 8 = omega (arith, end, low) in
       subst (λ n. AreOpenedTo g setting n old now w) all so
 
   abbrev rows : List ℕ → ℕ → List Item
@@ -198,14 +202,21 @@ module _ {R : Type 0} (g : Ghosts R) (setting : Setting) (k : ℕ) (old now : Li
       named = first_kept (origin_of setting) t (rows t);
     }
 
-  pub opens : AreClean (shelves_of g now) → Opens (origin_of setting) (rows_in (shelves_of g old)) w
+    keeps : KeepsRows t (over w (shelves_of g now)) (opened (origin_of setting) t (rows t))
+    keeps i down clean_there =
+        let out = sym (up i) ∙ down in
+        ap (λ (s : Shelf). rows_of t s.pairs) (done.left i out)
+        ∙ sym (opened_rows (origin_of setting) t (rows t) i out)
+
+  pub opens : AreClean (shelves_of g now)
+      → Opens (origin_of setting) (rows_in (shelves_of g old)) (over w (shelves_of g now))
   opens clean = record {
     follows = record { reading = unread; roster = roster };
     asked = λ t i.
         subst (All (λ (o : Operation). IsAskerOf (first_watch (origin_of setting)) t o.connection))
         (sym (none_open clean t i))
         (All-nil (λ (o : Operation). IsAskerOf (first_watch (origin_of setting)) t o.connection));
-    stands = stands clean;
+    stands = λ t. record { stands = stands clean t; keeps = keeps clean t };
     outputs = done.begun.outputs;
     up = instances_up w done.numbered;
     faults = done.begun.faults;
@@ -217,10 +228,23 @@ module _ {R : Type 0} (g : Ghosts R) (setting : Setting) (k : ℕ) (old now : Li
     clock = subst (λ n. n ≤ last_moment) (sym done.begun.clock) (omega arith);
     numbered = done.numbered;
     whole = done.whole;
-    quiet = λ i x found down c. (done.reached i x found).unread c;
+    quiet = λ i x found down. record {
+      up = down;
+      unread = (done.reached i x found).unread;
+      lost = (done.reached i x found).lost (sym (done.reached i x found).up ∙ down);
+    };
+    ring = subst (λ (rings : Rings). IsRingInOrder (newest_ring rings)) (sym done.begun.rings)
+        done.order;
+    members = λ i x found is.
+        ap (λ (n : ℕ). is_among n (newest_in w.common)) (number_of i w.instances x found)
+        ∙ ap (λ (rings : Rings). is_among i (newest_ring rings)) done.begun.rings
+        ∙ sym (all_by_now i (exists_at i w.instances x done.numbered found))
+        ∙ sym (done.reached i x found).up
+        ∙ is;
     filed = λ name posted found.
         not_some (posted_at name w.messages) posted _ (ap (posted_at name) done.begun.messages) found;
     past = subst (λ post. ArePast post w.instances) (sym done.begun.messages) (past_none w.instances);
+    fresh = subst (λ post. AreReached post w.instances) (sym done.begun.messages) (reached_none w.instances);
   }
 
   pub backed : AreBacked w.instances (shelves_of g now)

@@ -1,6 +1,6 @@
 -- Which instances there are, and what is so of each of them where one has changed.
 use Rattle.std.proofs.Common.{◌≡◌, ℕ, ◌<◌, ◌≤◌, Bool, true, false, ◌||◌, List, [], ◌∷◌, length, map, Option, Some, None}
-use Rattle.std.proofs.Common.{is_some, IsSome, cond, find, inl, inr, ap, refl, sym, subst, ◌∙◌}
+use Rattle.std.proofs.Common.{is_some, IsSome, arith, cond, find, inl, inr, ap, refl, sym, subst, ◌∙◌}
 use Rattle.std.specs.Prelude.{◌==◌}
 use Rattle.std.specs.List.{list_any}
 use Rattle.std.proofs.lemmas.Bool.{cases_eq, ne_eqb}
@@ -18,18 +18,20 @@ use Rattle.am_instance.specs.Receiving.{brought_on}
 use Rattle.am_instance.specs.Shelves.{Shelf}
 use Rattle.am_instance.specs.Whole.{IsWhole}
 use Rattle.am_instance.specs.declared.instance.Instance.{Instance}
-use Rattle.am_world.specs.Consistent.{IsConsistent, IsConsistentBut, around_at}
+use Rattle.am_world.specs.Consistent.{IsConsistent, IsConsistentBut, IsMember, IsRingInOrder, around_at, newest_in}
 use Rattle.am_world.specs.Leaving.{stored_of, stored_where}
 use Rattle.am_world.specs.Places.{AreNumbered, At, ChangesAt, EachIs, SameElsewhere, Turns, bytes_at, bytes_where}
 use Rattle.am_world.specs.Places.{instance_at}
-use Rattle.am_world.specs.Posting.{AreFiled, ArePast, ArePastBut}
+use Rattle.am_world.specs.Posting.{AreFiled, ArePast, AreReached, IsSamePost}
 use Rattle.am_instance.specs.Shelves.{IsBacked, Shelf}
 use Rattle.am_world.specs.Shelves.{AreBacked, IsQuiet, StaysBacked, shelf_at}
 use Rattle.am_world.specs.Simulation.{IsSameBeside}
 use Rattle.am_world.specs.declared.state.State.{State}
 use Rattle.am_instance.specs.Site.{IsRejected, with_brought}
+use Rattle.am_world.proofs.FreshKept.{past_but, past_but_any}
+use Rattle.am_world.proofs.Reached.{reached_alike, reached_at}
 use Rattle.am_world.proofs.Shelved.{left_as}
-use Rattle.am_world.proofs.Turned.{whole_at}
+use Rattle.am_world.proofs.Turned.{StaysMember, whole_at}
 
 -- ---- which there are
 
@@ -105,20 +107,34 @@ module _ (i : ℕ) (w w' : State) (was : IsConsistent w) (changes : ChangesAt i 
   clock : w'.clock ≤ last_moment
   clock = subst (λ n. n ≤ last_moment) (sym beside.clock) was.clock
 
+  ring : newest_in w'.common ≡ newest_in w.common
+  ring = ap newest_in beside.common
+
+  ring_still : IsRingInOrder (newest_in w'.common)
+  ring_still = subst IsRingInOrder (sym ring) was.ring
+
+  each_member : EachIs (IsMember (newest_in w'.common)) w.instances
+  each_member = subst (λ (r : List ℕ). EachIs (IsMember r) w.instances) (sym ring) was.members
+
   each_whole : EachIs (IsWhole (around_at w'.clock w')) w.instances
   each_whole j x found = whole_at (around_at w.clock w) (around_at w'.clock w') x rings first (was.whole j x found)
 
-  -- .. but for the instance that changed
-  pub consistent_but : Turns i IsSameNode w.instances w'.instances → ArePastBut i w'.messages w'.instances
+  -- .. but for the instance that changed, where all messages are as they were
+  pub consistent_but : Turns i IsSameNode w.instances w'.instances → IsSamePost w.messages w'.messages
       → IsConsistentBut i w'
-  consistent_but stays past = record {
+  consistent_but stays alike = record {
     clock = clock;
     numbered = changes.numbered;
     whole = each_but (IsWhole (around_at w'.clock w')) i w.instances w'.instances changes.others each_whole;
     quiet = each_but IsQuiet i w.instances w'.instances changes.others was.quiet;
     known = known_still;
+    ring = ring_still;
+    members = each_but (IsMember (newest_in w'.common)) i w.instances w'.instances changes.others each_member;
     filed = filed;
-    past = past;
+    past = past_but i w.messages w'.messages w.instances w'.instances changes.others alike was.past;
+    fresh = reached_alike w.messages w'.messages w'.instances alike
+        (reached_at i w.messages w.instances w'.instances was.numbered changes
+        (λ x x' from to. let same = (stays x x' from to).incarnation in omega (arith, same)) was.fresh);
   }
     where
       known_still : At i (λ x. x.known < length w'.common.rings.items) w'.instances
@@ -129,15 +145,39 @@ module _ (i : ℕ) (w w' : State) (was : IsConsistent w) (changes : ChangesAt i 
 
   -- .. all of it, where that is whole
   pub consistent_still : At i (IsWhole (around_at w'.clock w')) w'.instances → At i IsQuiet w'.instances
-      → ArePast w'.messages w'.instances → IsConsistent w'
-  consistent_still whole quiet past = record {
+      → Turns i StaysMember w.instances w'.instances → ArePast w'.messages w'.instances
+      → AreReached w'.messages w'.instances → IsConsistent w'
+  consistent_still whole quiet member past fresh = record {
     clock = clock;
     numbered = changes.numbered;
     whole = each_after (IsWhole (around_at w'.clock w')) i w.instances w'.instances changes.others each_whole whole;
     quiet = each_after IsQuiet i w.instances w'.instances changes.others was.quiet quiet;
+    ring = ring_still;
+    members = each_after (IsMember (newest_in w'.common)) i w.instances w'.instances changes.others each_member here;
     filed = filed;
     past = past;
+    fresh = fresh;
   }
+    where
+      here : At i (IsMember (newest_in w'.common)) w'.instances
+      here x' found =
+          let x = also_there i w'.instances w.instances changes.numbered was.numbered x' found in
+          member x.0 x' x.1 found (newest_in w'.common) (each_member i x.0 x.1)
+
+-- a consistent world is so but for any instance
+pub consistent_but_all : (i : ℕ) (w : State) → IsConsistent w → IsConsistentBut i w
+consistent_but_all i w was = record {
+  clock = was.clock;
+  numbered = was.numbered;
+  whole = λ j apart. was.whole j;
+  quiet = λ j apart. was.quiet j;
+  known = λ x found. (was.whole i x found).known;
+  ring = was.ring;
+  members = λ j apart. was.members j;
+  filed = was.filed;
+  past = past_but_any i w.messages w.instances was.past;
+  fresh = was.fresh;
+}
 
 -- ---- stores
 

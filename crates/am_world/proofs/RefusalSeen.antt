@@ -4,11 +4,14 @@ use Rattle.std.proofs.Common.{◌≡◌, ◌∙◌, inl, inr, ℕ, ◌==◌, Lis
 use Rattle.std.proofs.Common.{find, Option, None, Some, option_map, refl, sym, ap, if◌then◌else◌}
 use Rattle.std.proofs.lemmas.Bool.{cases_Bool}
 use Rattle.am_cluster.specs.Courses.{awaits, posted_in, refusal_of, refused_unless}
+use Rattle.am_cluster.proofs.Watched.{refused_same}
 use Rattle.am_cluster.specs.Events.{AttemptName, Event, Open, Bytes, Close, Limits, Tick, Outcome, Deliver, Lose}
+use Rattle.am_cluster.specs.Events.{Join, Leave, Crash, Restart, Learn, Force}
 use Rattle.am_cluster.specs.Happening.{Delivered, Lost, Tried}
 use Rattle.am_cluster.specs.Moments.{is_too_late}
 use Rattle.am_cluster.specs.PrivateCluster.{PrivateCluster}
 use Rattle.am_cluster.specs.Refused.{MomentRefused, NotAwaited, NotSent}
+use Rattle.am_cluster.specs.Roster.{Crashes, Joins, Learns, Leaves, Restarts}
 use Rattle.am_cluster.specs.Sent.{Sent, is_lost, is_named, posted, unlost}
 use Rattle.am_cluster.specs.View.{AskedAs, FrontAnswered, Reading, Seen, Shut, Watch, look}
 use Rattle.am_messages.specs.Posted.{posted_at}
@@ -19,7 +22,7 @@ use Rattle.am_world.specs.Consistent.{IsConsistent}
 use Rattle.am_world.specs.Places.{AreNumbered, awaits_at, bytes_at, bytes_where, instance_at, reader_of}
 use Rattle.am_world.specs.Posting.{unlost_sent}
 use Rattle.am_world.specs.Refusal.{StandsFor, is_read, refusal, refusal_seen}
-use Rattle.am_world.specs.Simulation.{Follows, Stands, bytes_read}
+use Rattle.am_world.specs.Simulation.{Follows, Stands, bytes_read, roster_of}
 use Rattle.am_world.specs.declared.state.State.{State}
 use Rattle.am_world.proofs.RunPlaces.{found_at, passed_over, passes, same_number}
 
@@ -132,3 +135,9 @@ refusal_follows v w alone (Outcome a tries moment status) whole f s =
 refusal_follows v w alone (Deliver name moment) whole f s =
     deliver_same w name moment (alone name.tenant) s
 refusal_follows v w alone (Lose name) whole f s = lose_same w name (alone name.tenant) s
+refusal_follows v w alone (Join i) whole f s = refused_same (Joins i) (roster_of w) v.roster f.roster
+refusal_follows v w alone (Leave i) whole f s = refused_same (Leaves i) (roster_of w) v.roster f.roster
+refusal_follows v w alone (Crash i) whole f s = refused_same (Crashes i) (roster_of w) v.roster f.roster
+refusal_follows v w alone (Restart i) whole f s = refused_same (Restarts i) (roster_of w) v.roster f.roster
+refusal_follows v w alone (Learn i) whole f s = refused_same (Learns i) (roster_of w) v.roster f.roster
+refusal_follows v w alone (Force tenant) whole f s = refl

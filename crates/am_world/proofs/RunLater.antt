@@ -1,13 +1,18 @@
 -- What was decided of a connection stays decided.
 use Rattle.std.proofs.Common.{IsTrue, ◌≡◌, ◌≢◌, ◌∙◌, ℕ, Bool, true, false, List, [], ◌∷◌, Option, None, Some}
-use Rattle.std.proofs.Common.{refl, sym, ap, arith, if◌then◌else◌, nat_eq}
+use Rattle.std.proofs.Common.{is_some, option_map, refl, sym, ap, arith, if◌then◌else◌, nat_eq}
 use Rattle.std.proofs.lemmas.Bool.Decides.{nat_tests}
 use Rattle.std.proofs.lemmas.List.Elements.{All-weaker}
+use Rattle.am_cluster.proofs.Watched.{look-shut_at}
 use Rattle.am_cluster.specs.Events.{Event, Open, Bytes, Close, Limits, Tick, Outcome, Deliver, Lose}
+use Rattle.am_cluster.specs.Events.{Join, Leave, Crash, Restart, Learn, Force}
 use Rattle.am_cluster.specs.Moments.{is_too_late}
 use Rattle.am_cluster.specs.Operations.{Operation}
+use Rattle.am_cluster.specs.Roster.{Crashes, Joins, Learns, Leaves, Restarts, RingEvent, ring_event_refusal}
+use Rattle.am_cluster.specs.Roster.{roster_after}
 use Rattle.am_cluster.specs.View.{AskedAs, FrontAnswered, Reading, Seen, Shut, Table, Watch, closed, look, names_once}
-use Rattle.am_cluster.specs.View.{noted, opens_new, watch, watch_all, with_table}
+use Rattle.am_cluster.specs.View.{noted, opens_new, shut_at, shut_by, shut_in, watch, watch_all, watch_change}
+use Rattle.am_cluster.specs.View.{with_table}
 use Rattle.am_world.specs.Places.{local_at}
 use Rattle.am_world.specs.Simulation.{AreAsked, IsAskerOf}
 use Rattle.am_world.specs.Steps.{Later}
@@ -57,6 +62,31 @@ later_noted v c piece (Some (AskedAs tenant)) e = table_itself v
 later_noted v c piece (Some FrontAnswered) e = table_itself v
 later_noted v c piece (Some Shut) e = table_itself v
 
+-- an instance that shuts what it reads
+later_shut : (i : ℕ) (v : Table) → LaterTable v (shut_at i v)
+later_shut i v = record {
+  asked = λ c t e. look-shut_at c i v ∙ ap (option_map (shut_by i)) e;
+  answered = λ c e. look-shut_at c i v ∙ ap (option_map (shut_by i)) e;
+}
+
+later_shut_in : (change : RingEvent) (v : Table) → LaterTable v (shut_in change v)
+later_shut_in (Joins i) v = table_itself v
+later_shut_in (Leaves i) v = later_shut i v
+later_shut_in (Crashes i) v = later_shut i v
+later_shut_in (Restarts i) v = table_itself v
+later_shut_in (Learns i) v = table_itself v
+
+later_change : (change : RingEvent) (v : Watch) → Later v (watch_change change v)
+unfolding watch_change
+later_change change v = by_refusal (is_some (ring_event_refusal change v.roster))
+  where
+    by_refusal : (b : Bool) → Later v (if b then v
+        else record { table = shut_in change v.table; roster = roster_after change v.roster })
+    by_refusal true = later_itself v
+    by_refusal false =
+        let later = later_shut_in change v.table in
+        record { asked = later.asked; answered = later.answered }
+
 later_closed : (v : Table) (c : ℕ) (s : Option Seen) → look c v ≡ s → LaterTable v (closed c s v)
 later_closed v c None e = table_itself v
 later_closed v c (Some (Reading i before)) e = later_entry v c _ (Some (Reading i before)) e (λ t h. cc) (λ h. cc)
@@ -88,6 +118,12 @@ later_watch v (Tick moment) new = later_itself v
 later_watch v (Outcome attempt tries moment status) new = later_itself v
 later_watch v (Deliver name moment) new = later_itself v
 later_watch v (Lose name) new = later_itself v
+later_watch v (Join i) new = later_change (Joins i) v
+later_watch v (Leave i) new = later_change (Leaves i) v
+later_watch v (Crash i) new = later_change (Crashes i) v
+later_watch v (Restart i) new = later_change (Restarts i) v
+later_watch v (Learn i) new = later_change (Learns i) v
+later_watch v (Force tenant) new = later_itself v
 
 pub later_all : (v : Watch) (es : List Event) → names_once v es → Later v (watch_all v es)
 later_all v [] once = later_itself v

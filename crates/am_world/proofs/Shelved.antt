@@ -19,8 +19,8 @@ use Rattle.am_instance.specs.Leaving.{LeavesShelf, stop_for}
 use Rattle.am_instance.specs.Shelves.{IsBacked, Shelf}
 use Rattle.am_instance.specs.declared.instance.Instance.{Instance}
 use Rattle.am_instance.specs.Site.{local_of as local_in_site}
-use Rattle.am_world.specs.Leaving.{LeavesShelves, RejectedBy, stop_at, stored_after, stored_of, stored_where}
-use Rattle.am_world.specs.Leaving.{writes}
+use Rattle.am_world.specs.Leaving.{LeavesShelves, LeavesOpenedOrDropped, RejectedBy, stop_at, stored_after, stored_of}
+use Rattle.am_world.specs.Leaving.{stored_where, opens_or_drops, writes}
 use Rattle.am_world.specs.Places.{At, SameElsewhere, cause_at, cause_where, instance_at, up_at, up_where}
 use Rattle.am_world.specs.Shelves.{AreBacked, AreBackedBut, AreClean, NeverCleaner, shelf_at, shelf_where}
 use Rattle.am_world.specs.declared.state.State.{State}
@@ -159,21 +159,25 @@ rows_there w shelves i backed up clean t = by (instance_at i w.instances) refl u
 -- an event changed no store
 pub shelves_alone : (Rejects : List ℕ → List Item → Type 0) (w : State) (e : Event) (w' : State) (shelves : List Shelf)
     → AreBacked w.instances shelves → ((i : ℕ) → writes w e i ≡ true → up_at i w.instances ≡ true)
+    → ((i : ℕ) → opens_or_drops w e i ≡ false)
     → ((i : ℕ) → up_at i w.instances ≡ true → stop_at i w'.instances ≡ Some StoreRefused → ⊥)
     → LeavesShelves Rejects w e w' shelves shelves
-shelves_alone Rejects w e w' shelves backed up unrefused = record {
+shelves_alone Rejects w e w' shelves backed up unturned unrefused = record {
   each = λ i some clean.
       left_alone (stored_of w i) (stored_after w e i) (RejectedBy Rejects w e i) (stop_at i w'.instances)
       (shelf_at i shelves) (rows_there w shelves i backed (up i some) clean) (unrefused i (up i some));
-  others = λ i idle. refl;
+  turned = λ i some. absurd (true≢false (sym some ∙ unturned i));
+  others = λ i idle apart. refl;
 }
 
 -- nothing is written
 pub shelves_unwritten : (Rejects : List ℕ → List Item → Type 0) (w : State) (e : Event) (w' : State)
-    (shelves : List Shelf) → ((i : ℕ) → writes w e i ≡ false) → LeavesShelves Rejects w e w' shelves shelves
-shelves_unwritten Rejects w e w' shelves none = record {
+    (shelves : List Shelf) → ((i : ℕ) → writes w e i ≡ false) → ((i : ℕ) → opens_or_drops w e i ≡ false)
+    → LeavesShelves Rejects w e w' shelves shelves
+shelves_unwritten Rejects w e w' shelves none unturned = record {
   each = λ i some. absurd (true≢false (sym some ∙ none i));
-  others = λ i idle. refl;
+  turned = λ i some. absurd (true≢false (sym some ∙ unturned i));
+  others = λ i idle apart. refl;
 }
 
 -- ---- one store changed
@@ -248,10 +252,14 @@ module _ {R : Type 0} (f : R → Shelf) (stores : List R) (p n : ℕ) (next : p 
   -- an event that writes to this store alone
   pub left_put : (Rejects : List ℕ → List Item → Type 0) (w : State) (e : Event) (w' : State) (x y : R)
       → p < length stores → slice_get stores p ≡ Some x → writes w e n ≡ true
-      → ((j : ℕ) → (j == n) ≡ false → writes w e j ≡ false)
+      → ((j : ℕ) → (j == n) ≡ false → writes w e j ≡ false) → ((j : ℕ) → opens_or_drops w e j ≡ false)
       → LeavesShelf (stored_of w n) (stored_after w e n) (RejectedBy Rejects w e n) (stop_at n w'.instances) (f x) (f y)
       → LeavesShelves Rejects w e w' (map f stores) (map f (slice_set stores p y))
-  left_put Rejects w e w' x y less found written alone left = record { each = each; others = others }
+  left_put Rejects w e w' x y less found written alone unturned left = record {
+    each = each;
+    turned = λ j some. absurd (true≢false (sym some ∙ unturned j));
+    others = others;
+  }
     where
       own : LeavesAt Rejects w e w' n (shelf_at n (map f stores)) (shelf_at n (map f (slice_set stores p y)))
       own =
@@ -269,11 +277,54 @@ module _ {R : Type 0} (f : R → Shelf) (stores : List R) (p n : ℕ) (next : p 
         | inr apart ↦ absurd (true≢false (sym some ∙ alone j apart))
       ]
 
-      others : (j : ℕ) → writes w e j ≡ false
+      others : (j : ℕ) → writes w e j ≡ false → opens_or_drops w e j ≡ false
           → shelf_at j (map f (slice_set stores p y)) ≡ shelf_at j (map f stores)
-      others j idle = elim (cases_Bool (j == n)) [
+      others j idle apart = elim (cases_Bool (j == n)) [
         | inl same ↦
             let is : j ≡ n = grind (arith, nat_tests) in
             absurd (true≢false (sym written ∙ sym (ap (writes w e) is) ∙ idle))
+        | inr apart ↦ shelf_other j y less apart
+      ]
+
+  -- an event that turns over this store alone
+  pub turned_put : (Rejects : List ℕ → List Item → Type 0) (w : State) (e : Event) (w' : State) (x y : R)
+      → p < length stores → slice_get stores p ≡ Some x → ((j : ℕ) → writes w e j ≡ false)
+      → ((j : ℕ) → (j == n) ≡ false → opens_or_drops w e j ≡ false)
+      → (opens_or_drops w e n ≡ true → LeavesOpenedOrDropped w e w' n (f x) (f y))
+      → (opens_or_drops w e n ≡ false → f y ≡ f x)
+      → LeavesShelves Rejects w e w' (map f stores) (map f (slice_set stores p y))
+  turned_put Rejects w e w' x y less found unwritten alone left idle = record {
+    each = λ j some. absurd (true≢false (sym some ∙ unwritten j));
+    turned = turned;
+    others = others;
+  }
+    where
+      own : opens_or_drops w e n ≡ true
+          → LeavesOpenedOrDropped w e w' n (shelf_at n (map f stores)) (shelf_at n (map f (slice_set stores p y)))
+      own some =
+          subst (λ old. LeavesOpenedOrDropped w e w' n old (shelf_at n (map f (slice_set stores p y))))
+          (sym (shelf_is x found))
+          (subst (λ new. LeavesOpenedOrDropped w e w' n (f x) new) (sym (shelf_put y less)) (left some))
+
+      stays : opens_or_drops w e n ≡ false → shelf_at n (map f (slice_set stores p y)) ≡ shelf_at n (map f stores)
+      stays out = shelf_put y less ∙ idle out ∙ sym (shelf_is x found)
+
+      turned : (j : ℕ) → opens_or_drops w e j ≡ true
+          → LeavesOpenedOrDropped w e w' j (shelf_at j (map f stores)) (shelf_at j (map f (slice_set stores p y)))
+      turned j some = elim (cases_Bool (j == n)) [
+        | inl same ↦
+            let is : n ≡ j = grind (arith, nat_tests) in
+            subst (λ k. LeavesOpenedOrDropped w e w' k (shelf_at k (map f stores))
+            (shelf_at k (map f (slice_set stores p y)))) is (own (ap (opens_or_drops w e) is ∙ some))
+        | inr apart ↦ absurd (true≢false (sym some ∙ alone j apart))
+      ]
+
+      others : (j : ℕ) → writes w e j ≡ false → opens_or_drops w e j ≡ false
+          → shelf_at j (map f (slice_set stores p y)) ≡ shelf_at j (map f stores)
+      others j unwrites out = elim (cases_Bool (j == n)) [
+        | inl same ↦
+            let is : n ≡ j = grind (arith, nat_tests) in
+            subst (λ k. shelf_at k (map f (slice_set stores p y)) ≡ shelf_at k (map f stores)) is
+            (stays (ap (opens_or_drops w e) is ∙ out))
         | inr apart ↦ shelf_other j y less apart
       ]

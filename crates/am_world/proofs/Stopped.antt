@@ -12,14 +12,15 @@ use Rattle.am_instance.specs.Instance.{IsDown}
 use Rattle.am_instance.specs.Shelves.{IsBacked, Shelf}
 use Rattle.am_instance.specs.Whole.{IsWhole}
 use Rattle.am_instance.specs.declared.instance.Instance.{Instance}
-use Rattle.am_world.specs.Consistent.{IsConsistent, IsConsistentBut, around_at}
+use Rattle.am_world.specs.Consistent.{IsConsistent, IsConsistentBut, IsMember, IsRingInOrder, around_at, newest_in}
 use Rattle.am_world.specs.Places.{AreNumbered, At, ChangesAt, EachIs, Turns, cause_at, cause_where, instance_at}
-use Rattle.am_world.specs.Posting.{AreFiled, ArePast}
+use Rattle.am_world.specs.Posting.{AreFiled, ArePast, AreReached}
 use Rattle.am_world.specs.Shelves.{AreBacked, AreBackedBut, IsQuiet, shelf_at}
 use Rattle.am_world.specs.declared.common.Common.{Common}
 use Rattle.am_world.specs.declared.state.State.{State}
 use Rattle.am_world.proofs.FreshKept.{past_stopped}
 use Rattle.am_world.proofs.Placed.{also_there, is_there}
+use Rattle.am_world.proofs.Reached.{NotEarlier, reached_at}
 use Rattle.am_world.proofs.Turned.{whole_at}
 
 -- each of the instances is there
@@ -67,7 +68,7 @@ module _ (i : ℕ) (xs ys : List Instance) (change : ChangesAt i xs ys) (down : 
   quiet_stopped quiet j x there = elim (cases_Bool (nat_eq j i)) [
     | inl h ↦
         let here : j ≡ i = grind (arith, nat_tests) in
-        λ off. (down x (sym (ap (λ k. instance_at k ys) here) ∙ there)).unread
+        λ off. down x (sym (ap (λ k. instance_at k ys) here) ∙ there)
     | inr h ↦ quiet j h x (sym (change.others j h) ∙ there)
   ]
 
@@ -75,17 +76,32 @@ pub consistent_stopped : (i : ℕ) (w w' : State) → IsConsistentBut i w → Ch
     → At i IsDown w'.instances → w'.clock ≡ w.clock → w'.common ≡ w.common → w'.messages ≡ w.messages
     → Turns i (λ x x'. x.known < length w'.common.rings.items → IsWhole (around_at w'.clock w') x') w.instances
     w'.instances
-    → IsConsistent w'
-consistent_stopped i w w' was change down clock common messages wholes = record {
+    → Turns i NotEarlier w.instances w'.instances → IsConsistent w'
+consistent_stopped i w w' was change down clock common messages wholes later = record {
   clock = subst (λ n. n ≤ last_moment) (sym clock) was.clock;
   numbered = change.numbered;
   whole = whole;
   quiet = quiet_stopped i w.instances w'.instances change down was.quiet;
+  ring = subst (λ (c : Common). IsRingInOrder (newest_in c)) (sym common) was.ring;
+  members = members;
   filed = subst AreFiled (sym messages) was.filed;
   past = subst (λ post. ArePast post w'.instances) (sym messages)
       (past_stopped i w.messages w.instances w'.instances was.past down change.others);
+  fresh = subst (λ post. AreReached post w'.instances) (sym messages)
+      (reached_at i w.messages w.instances w'.instances was.numbered change later was.fresh);
 }
   where
+    members : EachIs (IsMember (newest_in w'.common)) w'.instances
+    members j x' there = elim (cases_Bool (nat_eq j i)) [
+      | inl h ↦
+          let here : j ≡ i = grind (arith, nat_tests) in
+          let is = down x' (sym (ap (λ k. instance_at k w'.instances) here) ∙ there) in
+          λ up. absurd (true≢false (sym up ∙ is.up))
+      | inr h ↦
+          subst (λ (c : Common). IsMember (newest_in c) x') (sym common)
+          (was.members j h x' (sym (change.others j h) ∙ there))
+    ]
+
     whole : EachIs (IsWhole (around_at w'.clock w')) w'.instances
     whole j x' there = elim (cases_Bool (nat_eq j i)) [
       | inl h ↦

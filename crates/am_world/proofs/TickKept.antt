@@ -47,9 +47,10 @@ use Rattle.am_world.specs.Places.{refused_where, up_at, up_where}
 use Rattle.am_world.specs.Posting.{Post, posted_over, unlost_sent}
 use Rattle.am_world.specs.Simulation.{AreAsked, IsAskerOf, IsPostedAlike, Stands, fault_count, limits_in, put_out}
 use Rattle.am_world.specs.Simulation.{roster_of}
-use Rattle.am_world.specs.Steps.{IsAsAlone, Kept, Later}
+use Rattle.am_world.specs.Steps.{Later}
 use Rattle.am_world.specs.declared.common.Common.{Common}
 use Rattle.am_world.specs.declared.state.State.{State}
+use Rattle.am_world.proofs.Beside.{IsAsAlone, Kept}
 use Rattle.am_world.proofs.Alone.{own_messages}
 use Rattle.am_world.proofs.AloneOwn.{AreOf, IsOf, ticked_own}
 use Rattle.am_world.proofs.AlonePlaces.{local_here, roster_then, same_again}

@@ -58,7 +58,7 @@ SaidBy i (Replies connection bytes) = Unit {0}
 SaidBy i (Sends message) = message.from ≡ i
 SaidBy i (Tells sending) = Unit {0}
 
-said_by : (i k a b : ℕ) (said : List Said) → Counts i k a (messages_in said) b → All (SaidBy i) said
+pub said_by : (i k a b : ℕ) (said : List Said) → Counts i k a (messages_in said) b → All (SaidBy i) said
 said_by i k a b [] counts = All-nil (SaidBy i)
 said_by i k a b (Replies c bytes ∷ said) counts =
     All-cons (SaidBy i) (Replies c bytes) said tt (said_by i k a b said counts)
@@ -67,7 +67,7 @@ said_by i k a b (Sends m ∷ said) counts =
 said_by i k a b (Tells s ∷ said) counts = All-cons (SaidBy i) (Tells s) said tt (said_by i k a b said counts)
 
 -- .. as it is put out
-out_from : (i k : ℕ) (t : List ℕ) (word : Said) → SaidBy i word → IsFrom i (output_of t i k word)
+pub out_from : (i k : ℕ) (t : List ℕ) (word : Said) → SaidBy i word → IsFrom i (output_of t i k word)
 out_from i k t (Replies c bytes) by = tt
 out_from i k t (Sends m) by = by
 out_from i k t (Tells s) by = tt
@@ -114,7 +114,7 @@ Owns u t (Replies c bytes) = look c u.table ≡ Some (AskedAs t)
 Owns u t (Sends message) = message.tenant ≡ t
 Owns u t (Tells sending) = Unit {0}
 
-owns : (v u : Watch) (t : List ℕ) (said : List Said) → Later v u → ReplyOver (λ c request. IsAskerOf v t c) said
+pub owns : (v u : Watch) (t : List ℕ) (said : List Said) → Later v u → ReplyOver (λ c request. IsAskerOf v t c) said
     → AreOf t said → All (Owns u t) said
 owns v u t [] later over own = All-nil (Owns u t)
 owns v u t (Replies c bytes ∷ said) later over own =

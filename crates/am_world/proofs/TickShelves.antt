@@ -106,7 +106,11 @@ module _ {R : Type 0} (f : R → Shelf) (m p n : ℕ) (next : p + 1 ≡ n) (w mi
 pub turned_all : {R : Type 0} (f : R → Shelf) (Rejects : List ℕ → List Item → Type 0) (m upto : ℕ) (w w' : State)
     (before after : List R) → 8 ≤ upto → AreNumbered w.instances
     → ((i : ℕ) → Turned f m upto w w' before after i) → LeavesShelves Rejects w (Tick m) w' (map f before) (map f after)
-turned_all f Rejects m upto w w' before after enough numbered turned = record { each = each; others = others }
+turned_all f Rejects m upto w w' before after enough numbered turned = record {
+  each = each;
+  turned = λ i never. absurd (true≢false (sym never));
+  others = λ i down apart. others i down;
+}
   where
     past_all : (i : ℕ) → nat_le i upto ≡ false → is_among i all_instances ≡ false
     past_all i past =
@@ -133,7 +137,11 @@ pub left_at : (Rejects : List ℕ → List Item → Type 0) (w : State) (k m : �
     → LeavesShelves Rejects w (Tick m) w' old new
 unfolding stored_of
 left_at Rejects w k m post w' old new is left =
-    subst (λ n. LeavesShelves Rejects w (Tick n) w' old new) is (record { each = left.each; others = left.others })
+    subst (λ n. LeavesShelves Rejects w (Tick n) w' old new) is (record {
+      each = left.each;
+      turned = λ i never. absurd (true≢false (sym never));
+      others = left.others;
+    })
 
 -- ---- the numbers of all instances
 

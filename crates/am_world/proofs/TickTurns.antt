@@ -155,7 +155,7 @@ count_more : (cap before mid after more : ℕ) → mid ≡ min (before + 1) cap 
     → after ≡ min (before + suc (suc more)) cap
 count_more cap before mid after more first next = omega (arith, first, next)
 
-counts_more : (b : Bool) (before mid after more : ℕ) → CountsUp (if b then 1 else 0) before mid
+pub counts_more : (b : Bool) (before mid after more : ℕ) → CountsUp (if b then 1 else 0) before mid
     → CountsUp more mid after → CountsUp (if b then suc more else more) before after
 counts_more true before mid after zero first next = next ∙ first
 counts_more true before mid after (suc more) first next = count_more (2 ^ 64 - 1) before mid after more first next
@@ -163,19 +163,19 @@ counts_more false before mid after zero first next = next ∙ first
 counts_more false before mid after (suc more) first next =
     next ∙ ap (λ k. min (k + suc more) (2 ^ 64 - 1)) first
 
-length_first : (b : Bool) (n : ℕ) (ns : List ℕ) → (if b then suc (length ns) else length ns)
+pub length_first : (b : Bool) (n : ℕ) (ns : List ℕ) → (if b then suc (length ns) else length ns)
     ≡ length (if b then n ∷ ns else ns)
 length_first true n ns = refl
 length_first false n ns = refl
 
-filter_later : (n m : ℕ) (b : Bool) (f : ℕ → Bool) (ns : List ℕ) → CountsFrom m ns → n < m
+pub filter_later : (n m : ℕ) (b : Bool) (f : ℕ → Bool) (ns : List ℕ) → CountsFrom m ns → n < m
     → filter (λ i. if i == n then b else f i) ns ≡ filter f ns
 filter_later n m b f [] counts less = refl
 filter_later n m b f (i ∷ ns) (first, rest) less =
     let apart : nat_eq i n ≡ false = grind (arith, nat_tests) in
     rw (apart, filter_later n (suc m) b f ns rest (omega arith)) refl
 
-told_later : (n m : ℕ) (os : List Output) (f : ℕ → List Output) (ns : List ℕ) → CountsFrom m ns → n < m
+pub told_later : (n m : ℕ) (os : List Output) (f : ℕ → List Output) (ns : List ℕ) → CountsFrom m ns → n < m
     → flat_map (λ i. if i == n then os else f i) ns ≡ flat_map f ns
 told_later n m os f [] counts less = refl
 told_later n m os f (i ∷ ns) (first, rest) less =

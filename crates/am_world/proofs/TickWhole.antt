@@ -1,6 +1,6 @@
 -- What is so between events is so at a later moment.
-use Rattle.std.proofs.Common.{◌≡◌, ◌∙◌, ℕ, ◌<◌, ◌≤◌, Bool, true, false, length, List, Option, None, Some, if◌then◌else◌}
-use Rattle.std.proofs.Common.{max, refl, sym, arith, subst}
+use Rattle.std.proofs.Common.{◌≡◌, ◌∙◌, ℕ, ◌≤◌, Bool, true, false, Option, None, Some, if◌then◌else◌}
+use Rattle.std.proofs.Common.{max, refl, sym, arith}
 use Rattle.std.specs.Prelude.{nat_le}
 use Rattle.am_cluster.specs.Moments.{last_moment}
 use Rattle.am_messages.specs.Posted.{lost_at, posted_at, unlost}
@@ -11,6 +11,7 @@ use Rattle.am_world.specs.Posting.{AreFiled, Post}
 use Rattle.am_world.specs.declared.state.State.{State}
 use Rattle.am_world.proofs.FreshKept.{past_unlost}
 use Rattle.am_world.proofs.Turned.{whole_at}
+use Rattle.am_world.proofs.Reached.{reached_fewer}
 
 -- a message that is left was there
 was_there : (m : ℕ) (o : Option Posted) (posted : Posted) → unlost m o ≡ Some posted → o ≡ Some posted
@@ -35,8 +36,12 @@ consistent_at w m post allowed lost was = record {
   numbered = was.numbered;
   whole = λ i x at. whole_at (around_at w.clock w) (around_at m w) x refl refl (was.whole i x at);
   quiet = was.quiet;
+  ring = was.ring;
+  members = was.members;
   filed = filed_left m w.messages post lost was.filed;
   past = past_unlost m w.messages post w.instances lost was.past;
+  fresh = reached_fewer w.messages post w.instances
+      (λ name posted is. was_there m (posted_at name w.messages) posted (sym (lost name) ∙ is)) was.fresh;
 }
 
 -- the later of two moments

@@ -2,6 +2,8 @@
 pub mod Places
 -- the stores of all of them
 pub mod Shelves
+-- events by which the ring or its instances change
+pub mod Changes
 -- what is so of a world between events
 pub mod Consistent
 -- the messages between instances
@@ -20,6 +22,8 @@ pub mod Stopping
 pub mod Leaving
 -- ticks
 pub mod Ticks
+-- what instances do where the ring or one of them changes
+pub mod Changing
 -- how a world is opened
 pub mod Opening
 -- whole runs

@@ -12,10 +12,10 @@ use Rattle.am_instance.specs.Instance.{IsDown, IsSameNode, ReadsAlike, Starts, l
 use Rattle.am_instance.specs.Shelves.{IsBacked, Shelf}
 use Rattle.am_instance.specs.Whole.{IsWhole}
 use Rattle.am_instance.specs.declared.instance.Instance.{Instance}
-use Rattle.am_world.specs.Consistent.{around_at}
+use Rattle.am_world.specs.Consistent.{Contents, around_at}
 use Rattle.am_world.specs.Places.{AreNumbered, ChangesAt, EachIs, Turns}
 use Rattle.am_world.specs.Shelves.{shelf_at}
-use Rattle.am_world.specs.Simulation.{AreAsked, Follows, Stands, fault_count, put_out, refused_by, roster_of}
+use Rattle.am_world.specs.Simulation.{AreAsked, Follows, StandsOver, fault_count, put_out, refused_by, roster_of}
 use Rattle.am_world.specs.declared.opening.OpenRefusal.{OpenRefusal}
 use Rattle.am_world.specs.declared.opening.OpenRefusal.TheVariants.{OutOfMemory, Store}
 use Rattle.am_world.specs.declared.state.State.{State}
@@ -33,15 +33,15 @@ use Rattle.am_text.specs.declared.failure.Failure.TheVariants as failure
 abbrev pub origin_of : Setting → Origin
 origin_of setting = record { setting = setting; limits = unset_limits }
 
--- a world as it is opened, where stores have these rows of each tenant, by the number of the instance
-pub record Opens (origin : Origin) (rows : List ℕ → ℕ → List Item) (w : State) : Type 0 where
-  pub follows : Follows (first_watch origin) w
-  pub asked : AreAsked (first_watch origin) w
-  pub stands : (t : List ℕ) → Stands t w (opened origin t (rows t))
-  pub up : AreInstancesUp (roster_of w)
-  pub outputs : put_out w ≡ []
-  pub faults : fault_count w ≡ 0
-  pub refused : (i : ℕ) → refused_by w i ≡ []
+-- a world as it is opened, where stores had these rows of each tenant, by the number of the instance
+pub record Opens (origin : Origin) (rows : List ℕ → ℕ → List Item) (c : Contents) : Type 0 where
+  pub follows : Follows (first_watch origin) c.state
+  pub asked : AreAsked (first_watch origin) c.state
+  pub stands : (t : List ℕ) → StandsOver t c (opened origin t (rows t))
+  pub up : AreInstancesUp (roster_of c.state)
+  pub outputs : put_out c.state ≡ []
+  pub faults : fault_count c.state ≡ 0
+  pub refused : (i : ℕ) → refused_by c.state i ≡ []
 
 -- the stores of instances that aren't in the ring are as they were
 abbrev pub StayOutside : (ring : List ℕ) → (old new : List Shelf) → Type 0

@@ -39,6 +39,17 @@ ArePastBut i post instances =
     (name : MessageName) (posted : Posted) → (name.from ≡ i → ⊥) → posted_at name post ≡ Some posted →
     At name.from (HasCounted name) instances
 
+-- an instance is in the incarnation in which a message of the name was sent, or in a later one
+abbrev pub HasReached : MessageName → Instance → Type 0
+HasReached name x = name.incarnation ≤ x.incarnation
+
+-- the sender of each message that is there is, so that in its next incarnation no message that it sends is of a name
+-- that is there
+abbrev pub AreReached : Post → List Instance → Type 0
+AreReached post instances =
+    (name : MessageName) (posted : Posted) → posted_at name post ≡ Some posted →
+    At name.from (HasReached name) instances
+
 -- ---- what is posted
 
 -- what stands under a name once this is put out at a moment: a message of that name, or what stood there

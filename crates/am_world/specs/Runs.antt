@@ -11,20 +11,24 @@ use Rattle.am_cluster.specs.PrivateCluster.{PrivateCluster, opened}
 pub use Rattle.am_cluster.specs.View.{first_watch, names_once}
 use Rattle.am_cluster.specs.View.{Watch, view, watch_all}
 use Rattle.am_item.specs.declared.item.Item.{Item}
+use Rattle.am_world.specs.Changes.{AreOpenedClean}
+use Rattle.am_world.specs.Consistent.{Contents}
 use Rattle.am_world.specs.Opening.{Opens}
 use Rattle.am_world.specs.Places.{AreBuilt}
-use Rattle.am_world.specs.Simulation.{AreAsked, Follows, IsSameBeside, Stands, fault_count, put_out, refused_by}
+use Rattle.am_world.specs.Shelves.{NeverCleaner}
+use Rattle.am_world.specs.Simulation.{AreAsked, Follows, IsSameBeside, StandsOver, fault_count, put_out, refused_by}
+use Rattle.am_world.specs.Simulation.{roster_of}
 use Rattle.am_world.specs.Stopping.{Faulted, Step}
 use Rattle.am_world.specs.declared.state.State.{State}
 
 -- one step for each event
-abbrev pub Run : State → List Event → State → Type 0
-Run w [] w' = w' ≡ w
-Run w (e ∷ es) w' = (mid : State) × Step w e mid × Run mid es w'
+abbrev pub Run : Contents → List Event → Contents → Type 0
+Run c [] c' = c' ≡ c
+Run c (e ∷ es) c' = (mid : Contents) × Step c e mid × Run mid es c'
 
 -- one step for each event, from an opening on
-abbrev pub RunsFrom : Origin → (rows : List ℕ → ℕ → List Item) → List Event → State → Type 0
-RunsFrom origin rows es w' = (w : State) × Opens origin rows w × Run w es w'
+abbrev pub RunsFrom : Origin → (rows : List ℕ → ℕ → List Item) → List Event → Contents → Type 0
+RunsFrom origin rows es c' = (c : Contents) × Opens origin rows c × Run c es c'
 
 -- the outputs that a run added
 abbrev pub added : State → State → List Output
@@ -37,52 +41,55 @@ patterns_asked happenings = flat_map patterns_brought happenings
 -- what a run needs, of a tenant: what is known is so, who waits for a reply had asked, the cluster has what the world
 -- has, no name is used twice, and no pattern of the tenant's, of requests that wait or come, was refused a build by its
 -- end
-pub record RunPremises (t : List ℕ) (v : Watch) (p : PrivateCluster) (w : State) (es : List Event) (w' : State) :
+pub record RunPremises (t : List ℕ) (v : Watch) (p : PrivateCluster) (c : Contents) (es : List Event) (c' : Contents) :
     Type 0 where
-  pub follows : Follows v w
-  pub asked : AreAsked v w
-  pub stands : Stands t w p
+  pub follows : Follows v c.state
+  pub asked : AreAsked v c.state
+  pub stands : StandsOver t c p
   pub once : names_once v es
-  pub built : AreBuilt (refused_by w') (patterns_open p ++ patterns_asked (view t v es))
+  pub built : AreBuilt (refused_by c'.state) (patterns_open p ++ patterns_asked (view t v es))
 
 -- what the tenant has of a run: of the outputs that were added its own are the private cluster's, the others are other
 -- tenants' or the front's, no count of the tenant's passed the greatest and no message of its was too long, and a
 -- further run can go on from here
-pub record Isolated (t : List ℕ) (v : Watch) (p : PrivateCluster) (w : State) (es : List Event) (w' : State) :
+pub record Isolated (t : List ℕ) (v : Watch) (p : PrivateCluster) (c : Contents) (es : List Event) (c' : Contents) :
     Type 0 where
-  pub told : outputs_of t (watch_all v es) (added w w') ≡ told_all p (view t v es)
-  pub front : front_outputs (watch_all v es) (added w w') ≡ front_told_all v es
-  pub owned : are_owned (watch_all v es) (added w w') ≡ true
-  pub stay : take (length (put_out w)) (put_out w') ≡ put_out w
+  pub told : outputs_of t (watch_all v es) (added c.state c'.state) ≡ told_all p (view t v es)
+  pub front : front_outputs (watch_all v es) (added c.state c'.state) ≡ front_told_all v es
+  pub owned : are_owned (watch_all v es) (added c.state c'.state) ≡ true
+  pub stay : take (length (put_out c.state)) (put_out c'.state) ≡ put_out c.state
   pub fits : fits_all p (view t v es) ≡ true
-  pub follows : Follows (watch_all v es) w'
-  pub asked : AreAsked (watch_all v es) w'
-  pub stands : Stands t w' (after_all p (view t v es))
+  pub follows : Follows (watch_all v es) c'.state
+  pub asked : AreAsked (watch_all v es) c'.state
+  pub stands : StandsOver t c' (after_all p (view t v es))
 
--- whatever the other tenants do, each tenant is as if alone
-abbrev pub Headline : State → List Event → State → Type 0
-Headline w es w' = fault_count w' ≡ 0 → (t : List ℕ) (v : Watch) (p : PrivateCluster) →
-    RunPremises t v p w es w' → Isolated t v p w es w'
+-- whatever the other tenants do, each tenant is as if alone, where each store that was opened on the way is in memory
+-- or its disk has returned what was written
+abbrev pub Headline : Contents → List Event → Contents → Type 0
+Headline c es c' = fault_count c'.state ≡ 0 → AreOpenedClean (roster_of c.state) es c'.shelves →
+    (t : List ℕ) (v : Watch) (p : PrivateCluster) → RunPremises t v p c es c' → Isolated t v p c es c'
 
--- a run that met a fault: what was put out before its first is each tenant's as if alone, and stays
-pub record Broken (w : State) (es : List Event) (w' : State) : Type 0 where
+-- a run that met a fault: what was put out before its first is each tenant's as if alone, and stays; a store whose disk
+-- has returned what was written by the end had done so before that too
+pub record Broken (c : Contents) (es : List Event) (c' : Contents) : Type 0 where
   pub before : List Event
   pub event : Event
   pub after : List Event
   pub events : es ≡ before ++ event ∷ after
-  pub mid : State
-  pub unbroken : fault_count mid ≡ fault_count w
-  pub run : Run w before mid
-  pub alone : Headline w before mid
-  pub stopped : State
+  pub mid : Contents
+  pub unbroken : fault_count mid.state ≡ fault_count c.state
+  pub run : Run c before mid
+  pub alone : Headline c before mid
+  pub clean : NeverCleaner mid.shelves c'.shelves
+  pub stopped : Contents
   pub fault : Faulted mid event stopped
-  pub rest : Run stopped after w'
+  pub rest : Run stopped after c'
   pub outs : List Output
-  pub appended : put_out w' ≡ put_out mid ++ outs
+  pub appended : put_out c'.state ≡ put_out mid.state ++ outs
 
 -- a run met no fault, or is told up to its first
-abbrev pub Prefixes : State → List Event → State → Type 0
-Prefixes w es w' = (fault_count w' ≡ fault_count w) ⊎ Broken w es w'
+abbrev pub Prefixes : Contents → List Event → Contents → Type 0
+Prefixes c es c' = (fault_count c'.state ≡ fault_count c.state) ⊎ Broken c es c'
 
 -- ---- where what a world put out is taken away event by event
 
@@ -93,6 +100,11 @@ pub record Forgets (w w' : State) : Type 0 where
   pub messages : w'.messages ≡ w.messages
   pub faults : fault_count w' ≡ fault_count w
   pub beside : IsSameBeside w w'
+
+-- .. and its stores are as they were
+pub record ForgetsOver (c c' : Contents) : Type 0 where
+  pub forgets : Forgets c.state c'.state
+  pub shelves : c'.shelves ≡ c.shelves
 
 -- of all that was put out since the opening, each tenant's outputs are those of its private cluster, which begins with
 -- the tenant's rows and sees what the events are to the tenant, unless a pattern of the tenant's is among those that

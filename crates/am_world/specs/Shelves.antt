@@ -5,7 +5,7 @@ use Rattle.am_item.specs.declared.item.Item.{Item}
 use Rattle.am_ring.specs.Instances.{is_instance}
 use Rattle.am_rows.specs.Rows.{rows_of}
 use Rattle.am_rows.specs.declared.rows.Rows.{Ghosts}
-use Rattle.am_instance.specs.Instance.{bytes_in}
+use Rattle.am_instance.specs.Instance.{IsDown}
 pub use Rattle.am_instance.specs.Shelves.{Shelf}
 use Rattle.am_instance.specs.Shelves.{IsBacked, shelf_of}
 use Rattle.am_instance.specs.declared.instance.Instance.{Instance}
@@ -39,9 +39,9 @@ AreClean shelves = (i : ℕ) → is_instance i ≡ true → (shelf_at i shelves)
 abbrev pub NeverCleaner : (old new : List Shelf) → Type 0
 NeverCleaner old new = (i : ℕ) → (shelf_at i new).is_clean ≡ true → (shelf_at i old).is_clean ≡ true
 
--- who is down reads nothing
+-- who is down reads nothing and has nothing
 abbrev pub IsQuiet : Instance → Type 0
-IsQuiet x = x.up ≡ false → (c : ℕ) → bytes_in c x ≡ None
+IsQuiet x = x.up ≡ false → IsDown x
 
 -- every instance that is up has its rows in its store
 pub record AreBacked (xs : List Instance) (shelves : List Shelf) : Type 0 where

@@ -1,5 +1,5 @@
 -- That a world is the private cluster of every tenant at once.
-use Rattle.std.specs.Prelude.{◌≡◌, ℕ, ◌==◌, List, map, Option, None, Some, find, if◌then◌else◌}
+use Rattle.std.specs.Prelude.{◌≡◌, ℕ, ◌==◌, true, false, List, map, Option, None, Some, find, if◌then◌else◌}
 use Rattle.std.specs.Option.{option_map}
 use Rattle.am_cluster.specs.Events.{Output}
 use Rattle.am_cluster.specs.Naming.{NamesOnce}
@@ -14,8 +14,11 @@ use Rattle.am_messages.specs.Posted.{posted_at}
 use Rattle.am_messages.specs.declared.name.MessageName.{MessageName}
 use Rattle.am_ring.specs.Instances.{Members}
 use Rattle.am_ring.specs.Replicas.{replicas}
+use Rattle.am_rows.specs.Rows.{rows_of}
+use Rattle.am_world.specs.Consistent.{Contents}
 use Rattle.am_world.specs.Places.{bytes_at, incarnation_at, known_at, local_at, refused_at, up_at}
 use Rattle.am_world.specs.Posting.{unlost_sent}
+use Rattle.am_world.specs.Shelves.{shelf_at}
 use Rattle.am_wire.specs.declared.message.Message.{Message}
 use Rattle.am_world.specs.declared.state.State.{State}
 
@@ -95,3 +98,15 @@ pub record Stands (t : List ℕ) (w : State) (p : PrivateCluster) : Type 0 where
   pub local : (i : ℕ) → local_at t i w.instances ≡ p.at i
   pub posted : IsPostedAlike t w p
   pub named : NamesOnce p
+
+-- the store of each instance that isn't up has the rows of the tenant that the private cluster keeps there, as long as
+-- its disk has returned what was written
+abbrev pub KeepsRows : (t : List ℕ) → Contents → PrivateCluster → Type 0
+KeepsRows t c p =
+    (i : ℕ) → up_at i c.state.instances ≡ false → (shelf_at i c.shelves).is_clean ≡ true →
+    rows_of t (shelf_at i c.shelves).pairs ≡ p.rows i
+
+-- a world over its stores has what the private cluster has, and keeps what that keeps
+pub record StandsOver (t : List ℕ) (c : Contents) (p : PrivateCluster) : Type 0 where
+  pub stands : Stands t c.state p
+  pub keeps : KeepsRows t c p

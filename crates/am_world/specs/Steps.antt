@@ -23,19 +23,20 @@ use Rattle.am_instance.specs.Here.{IsGiven}
 use Rattle.am_instance.specs.Instance.{local_in}
 use Rattle.am_instance.specs.Reacting.{outputs_at, reaction_on}
 use Rattle.am_instance.specs.declared.instance.Instance.{Instance}
-use Rattle.am_world.specs.Consistent.{around_at}
+use Rattle.am_world.specs.Changes.{OpensClean, roster_then}
+use Rattle.am_world.specs.Consistent.{Contents, around_at}
 use Rattle.am_world.specs.Places.{instance_at}
-use Rattle.am_world.specs.Simulation.{AreAsked, Follows, Stands, fault_count, put_out, refused_by, roster_of}
+use Rattle.am_world.specs.Simulation.{AreAsked, Follows, StandsOver, fault_count, put_out, refused_by, roster_of}
 use Rattle.am_world.specs.declared.state.State.{State}
 use Rattle.am_instance.specs.Site.{Given, asked_on, decided_by}
 use Rattle.am_tenant.specs.Names.{same}
 
 -- what an event needs, of a tenant: what is known is so, who waits for a reply had asked, and the cluster has what the
--- world has
-pub record Premises (t : List ℕ) (v : Watch) (p : PrivateCluster) (w : State) : Type 0 where
-  pub follows : Follows v w
-  pub asked : AreAsked v w
-  pub stands : Stands t w p
+-- world and its stores have
+pub record Premises (t : List ℕ) (v : Watch) (p : PrivateCluster) (c : Contents) : Type 0 where
+  pub follows : Follows v c.state
+  pub asked : AreAsked v c.state
+  pub stands : StandsOver t c p
 
 -- what was decided of connections stays so
 pub record Later (v u : Watch) : Type 0 where
@@ -45,9 +46,9 @@ pub record Later (v u : Watch) : Type 0 where
 -- the tenant gets of an event what its private cluster makes of it: of these outputs its own are the cluster's, the
 -- world has of it what the cluster has, no count passed the greatest and no message was too long, and what was accepted
 -- has only patterns that were built
-pub record IsAsAlone (t : List ℕ) (v : Watch) (p : PrivateCluster) (e : Event) (outs : List Output) (w' : State) :
+pub record IsAsAlone (t : List ℕ) (v : Watch) (p : PrivateCluster) (e : Event) (outs : List Output) (c' : Contents) :
     Type 0 where
-  pub stands : Stands t w' (after_all p (adds t v e))
+  pub stands : StandsOver t c' (after_all p (adds t v e))
   pub told : (u : Watch) → Later (watch v e) u → outputs_of t u outs ≡ told_all p (adds t v e)
   pub fits : fits_all p (adds t v e) ≡ true
   pub built : AreAllBuilt p (adds t v e)
@@ -61,16 +62,16 @@ told_when_decided decision p h = (course_by (λ _ _ _ _. decision) p h).outputs
 
 -- The event decides a request of the tenant, which is refused, since a pattern of its own was refused its build: the
 -- tenant gets what its cluster makes of the event that decides so.
-pub record IsRefusedAlone (t : List ℕ) (v : Watch) (p : PrivateCluster) (w : State) (e : Event) (outs : List Output)
-    (w' : State) : Type 0 where
+pub record IsRefusedAlone (t : List ℕ) (v : Watch) (p : PrivateCluster) (c : Contents) (e : Event)
+    (outs : List Output) (c' : Contents) : Type 0 where
   pub happening : Happening
   pub is_added : adds t v e ≡ happening ∷ []
   pub deciding : Deciding
   pub decides : deciding_at p happening ≡ Some deciding
   pub decision : Decision
-  pub refused : IsRefusedBuild (refused_by w deciding.here.instance) (refused_by w' deciding.here.instance)
-      deciding.operation.request deciding.here.limits.usual decision
-  pub stands : Stands t w' (when_decided decision p happening)
+  pub refused : IsRefusedBuild (refused_by c.state deciding.here.instance)
+      (refused_by c'.state deciding.here.instance) deciding.operation.request deciding.here.limits.usual decision
+  pub stands : StandsOver t c' (when_decided decision p happening)
   pub told : (u : Watch) → Later (watch v e) u → outputs_of t u outs ≡ told_when_decided decision p happening
   pub fits : (course_by (λ _ _ _ _. decision) p happening).fits ≡ true
 
@@ -116,22 +117,26 @@ abbrev pub limits_after : Event → List ℕ → TenantLimits → TenantLimits
 limits_after (Limits tenant new) t limits = if same t tenant then new else limits
 limits_after e t limits = limits
 
--- an event that was handled, or refused: for every tenant at once. What is put out is each tenant's, as its cluster
--- says, or the front's, as the bytes of the connections say, and nobody else's. No build is refused but where a request
--- is refused for it
-pub record Kept (w : State) (e : Event) (w' : State) : Type 0 where
-  pub follows : (v : Watch) → Follows v w → Follows (watch v e) w'
-  pub asked : (v : Watch) → Follows v w → opens_new v e → AreAsked v w → AreAsked (watch v e) w'
+-- An event that was handled, or refused: for every tenant at once. What is put out is each tenant's, as its cluster
+-- says, or the front's, as the bytes of the connections say, and nobody else's; of what an instance found in a store
+-- that it opened this is so where the disk had returned what was written. No build is refused but where a request is
+-- refused for it.
+pub record Kept (c : Contents) (e : Event) (c' : Contents) : Type 0 where
+  pub follows : (v : Watch) → Follows v c.state → Follows (watch v e) c'.state
+  pub asked : OpensClean (roster_of c.state) e c'.shelves → (v : Watch) → Follows v c.state → opens_new v e →
+      AreAsked v c.state → AreAsked (watch v e) c'.state
   pub outs : List Output
-  pub appended : put_out w' ≡ put_out w ++ outs
-  pub tenants : (t : List ℕ) (v : Watch) (p : PrivateCluster) → Premises t v p w →
-      IsAsAlone t v p e outs w' ⊎ IsRefusedAlone t v p w e outs w'
-  pub front : (v : Watch) → Follows v w → AreAsked v w → (u : Watch) → Later (watch v e) u →
+  pub appended : put_out c'.state ≡ put_out c.state ++ outs
+  pub tenants : OpensClean (roster_of c.state) e c'.shelves → (t : List ℕ) (v : Watch) (p : PrivateCluster) →
+      Premises t v p c → IsAsAlone t v p e outs c' ⊎ IsRefusedAlone t v p c e outs c'
+  pub front : (v : Watch) → Follows v c.state → AreAsked v c.state → (u : Watch) → Later (watch v e) u →
       front_outputs u outs ≡ front_told v e
-  pub owned : (v : Watch) → Follows v w → AreAsked v w → (u : Watch) → Later (watch v e) u → are_owned u outs ≡ true
-  pub roster : IsSameRoster (roster_of w') (roster_of w)
-  pub clock : w'.clock ≡ clock_after e w.clock
-  pub limits : (t : List ℕ) → limits_of t w'.common.limits ≡ limits_after e t (limits_of t w.common.limits)
-  pub service_key : w'.common.service_key ≡ w.common.service_key
-  pub refused : (i : ℕ) → KeepsBuilds w e i outs w'
-  pub faults : fault_count w' ≡ fault_count w
+  pub owned : (v : Watch) → Follows v c.state → AreAsked v c.state → (u : Watch) → Later (watch v e) u →
+      are_owned u outs ≡ true
+  pub roster : IsSameRoster (roster_of c'.state) (roster_then e (roster_of c.state))
+  pub clock : c'.state.clock ≡ clock_after e c.state.clock
+  pub limits : (t : List ℕ) →
+      limits_of t c'.state.common.limits ≡ limits_after e t (limits_of t c.state.common.limits)
+  pub service_key : c'.state.common.service_key ≡ c.state.common.service_key
+  pub refused : (i : ℕ) → KeepsBuilds c.state e i outs c'.state
+  pub faults : fault_count c'.state ≡ fault_count c.state

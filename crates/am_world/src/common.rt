@@ -1,8 +1,8 @@
 //! What is the same for all instances.
 
-ghost use Rattle.std.specs.Prelude.{◌≡◌};
+ghost use Rattle.std.specs.Prelude.{◌≡◌, ◌-◌, ◌<◌, length};
 ghost use Rattle.am_instance.specs.Here.{circumstances};
-ghost use Rattle.am_world.specs.Consistent.{around};
+ghost use Rattle.am_world.specs.Consistent.{around, newest_in};
 
 use am_instance::Occasion;
 use am_limit::LimitBook;
@@ -45,5 +45,21 @@ impl Common {
             first: self.first,
             incarnations,
         }
+    }
+
+    /// The newest ring.
+    pub fn newest(&self) -> &Ring
+        requires { 0 < length self.now.rings.items }
+        ensures { result.now.instances ≡ newest_in self.now }
+    {
+        &self.rings[self.rings.len() - 1]
+    }
+
+    /// The epoch of the newest ring.
+    pub fn newest_epoch(&self) -> u64
+        requires { 0 < length self.now.rings.items }
+        ensures { result ≡ length self.now.rings.items - 1 }
+    {
+        self.rings.len() as u64 - 1
     }
 }

@@ -21,7 +21,7 @@ use std::alloc::Global;
 
 impl State {
     ghost use Rattle.am_instance.specs.Shelves.{Shelf};
-    ghost use Rattle.am_world.specs.Consistent.{IsConsistent};
+    ghost use Rattle.am_world.specs.Consistent.{IsConsistent, over};
     ghost use Rattle.am_world.specs.Leaving.{LeavesShelves};
     ghost use Rattle.am_world.specs.Refusal.{refusal};
     ghost use Rattle.am_world.specs.Shelves.{AreBacked, NeverCleaner, shelves_of};
@@ -35,7 +35,8 @@ impl State {
         instance: u8,
     ) -> Result<(), Refused>
         requires { IsConsistent self.old }
-        ensures step { Step self.old (Event.Open connection instance) self.new }
+        ensures step { (shelves : List Shelf) →
+            Step (over self.old shelves) (Event.Open connection instance) (over self.new shelves) }
         ensures refused { MatchOption (refusal self.old (Event.Open connection instance))
             (IsOk result) (λ r. result ≡ Err r) }
         ensures err { OnErr result (self.new ≡ self.old) }
@@ -63,7 +64,8 @@ impl State {
         piece: &Octets,
     ) -> Result<(), Refused>
         requires { IsConsistent self.old }
-        ensures step { Step self.old (Event.Bytes connection moment piece.now) self.new }
+        ensures step { (shelves : List Shelf) →
+            Step (over self.old shelves) (Event.Bytes connection moment piece.now) (over self.new shelves) }
         ensures refused { MatchOption (refusal self.old (Event.Bytes connection moment piece.now))
             (IsOk result) (λ r. result ≡ Err r) }
         ensures err { OnErr result (self.new ≡ self.old) }
@@ -91,7 +93,8 @@ impl State {
 
     pub(crate) fn on_close(&mut self, connection: ConnectionId) -> Result<(), Refused>
         requires { IsConsistent self.old }
-        ensures step { Step self.old (Event.Close connection) self.new }
+        ensures step { (shelves : List Shelf) →
+            Step (over self.old shelves) (Event.Close connection) (over self.new shelves) }
         ensures refused { MatchOption (refusal self.old (Event.Close connection)) (IsOk result) (λ r. result ≡ Err r) }
         ensures err { OnErr result (self.new ≡ self.old) }
         ensures consistent { IsConsistent self.new }
@@ -108,7 +111,8 @@ impl State {
     // No instance has work of it: where memory is refused, nothing has changed, and a fault is counted.
     pub(crate) fn on_limits(&mut self, alloc: Global, tenant: &TenantName, limits: Limits)
         requires { IsConsistent self.old }
-        ensures step { Step self.old (Event.Limits tenant.now limits) self.new }
+        ensures step { (shelves : List Shelf) →
+            Step (over self.old shelves) (Event.Limits tenant.now limits) (over self.new shelves) }
         ensures consistent { IsConsistent self.new }
         ensures backed { self.new.instances ≡ self.old.instances }
     {
@@ -126,11 +130,11 @@ impl State {
     ) -> Result<(), Refused>
         requires consistent { IsConsistent self.old }
         requires backed { AreBacked self.old.instances (shelves_of R.Rows stores.old) }
-        ensures step { Step self.old (Event.Tick moment) self.new }
+        ensures step { Step (over self.old (shelves_of R.Rows stores.old)) (Event.Tick moment)
+            (over self.new (shelves_of R.Rows stores.new)) }
         ensures refused { MatchOption (refusal self.old (Event.Tick moment)) (IsOk result) (λ r. result ≡ Err r) }
         ensures err { OnErr result ((self.new ≡ self.old) × (stores.new ≡ stores.old)) }
         ensures consistent { IsConsistent self.new }
-        ensures clean { NeverCleaner (shelves_of R.Rows stores.old) (shelves_of R.Rows stores.new) }
         ensures backed { AreBacked self.new.instances (shelves_of R.Rows stores.new) }
         ensures left { LeavesShelves R.rejects self.old (Event.Tick moment) self.new
             (shelves_of R.Rows stores.old) (shelves_of R.Rows stores.new) }
@@ -152,7 +156,8 @@ impl State {
         moment: u64,
     ) -> Result<(), Refused>
         requires { IsConsistent self.old }
-        ensures step { Step self.old (Event.Outcome attempt.now ended.tries moment ended.status) self.new }
+        ensures step { (shelves : List Shelf) → Step (over self.old shelves)
+            (Event.Outcome attempt.now ended.tries moment ended.status) (over self.new shelves) }
         ensures refused { MatchOption (refusal self.old (Event.Outcome attempt.now ended.tries moment ended.status))
             (IsOk result) (λ r. result ≡ Err r) }
         ensures err { OnErr result (self.new ≡ self.old) }
@@ -185,12 +190,12 @@ impl State {
     ) -> Result<(), Refused>
         requires consistent { IsConsistent self.old }
         requires backed { AreBacked self.old.instances (shelves_of R.Rows stores.old) }
-        ensures step { Step self.old (Event.Deliver name.now moment) self.new }
+        ensures step { Step (over self.old (shelves_of R.Rows stores.old)) (Event.Deliver name.now moment)
+            (over self.new (shelves_of R.Rows stores.new)) }
         ensures refused { MatchOption (refusal self.old (Event.Deliver name.now moment))
             (IsOk result) (λ r. result ≡ Err r) }
         ensures err { OnErr result ((self.new ≡ self.old) × (stores.new ≡ stores.old)) }
         ensures consistent { IsConsistent self.new }
-        ensures clean { NeverCleaner (shelves_of R.Rows stores.old) (shelves_of R.Rows stores.new) }
         ensures backed { AreBacked self.new.instances (shelves_of R.Rows stores.new) }
         ensures left { LeavesShelves R.rejects self.old (Event.Deliver name.now moment) self.new
             (shelves_of R.Rows stores.old) (shelves_of R.Rows stores.new) }
@@ -221,7 +226,8 @@ impl State {
 
     pub(crate) fn on_lose(&mut self, name: &MessageName) -> Result<(), Refused>
         requires { IsConsistent self.old }
-        ensures step { Step self.old (Event.Lose name.now) self.new }
+        ensures step { (shelves : List Shelf) →
+            Step (over self.old shelves) (Event.Lose name.now) (over self.new shelves) }
         ensures refused { MatchOption (refusal self.old (Event.Lose name.now)) (IsOk result) (λ r. result ≡ Err r) }
         ensures err { OnErr result (self.new ≡ self.old) }
         ensures consistent { IsConsistent self.new }

@@ -26,7 +26,7 @@ pub(crate) const NUMBERS: [u8; 8] = [1, 2, 3, 4, 5, 6, 7, 8];
 /// All instances, in order of number.
 #[derive(Drop)]
 pub struct Instances {
-    list: Vec<Instance>,
+    pub(crate) list: Vec<Instance>,
 }
 
 impl Model for Instances {
@@ -131,6 +131,17 @@ impl Instances {
         }
     }
 
+    /// Whether an instance is up.
+    #[tactic(auto, unfolding(crate::specs::Places::up_at))]
+    pub fn is_up(&self, number: u8) -> bool
+        ensures { result ≡ up_at number self.now }
+    {
+        match self.at(number) {
+            Some(instance) => instance.is_up(),
+            None => false,
+        }
+    }
+
     /// The fault that stopped an instance, where one did.
     #[tactic(auto, unfolding(crate::specs::Places::cause_at))]
     pub fn cause(&self, number: u8) -> Option<Fault>
@@ -181,7 +192,7 @@ impl Instances {
 
     // The instance of a number.
     #[tactic(auto, unfolding(crate::specs::Places::instance_at))]
-    fn at(&self, number: u8) -> Option<&Instance>
+    pub(crate) fn at(&self, number: u8) -> Option<&Instance>
         ensures { option_copied result ≡ instance_at number self.now }
     {
         for instance in &self.list {

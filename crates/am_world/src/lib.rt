@@ -1,11 +1,14 @@
 //! Eight instances, the messages between them, and the theorem: every tenant as if alone.
 #![tactic(auto)]
 
+mod changing;
 mod common;
 mod handling;
 mod instances;
 mod opening;
 mod posting;
+mod ring_calls;
+mod ring_turns;
 mod state;
 pub mod theorem;
 mod turning;

@@ -49,11 +49,11 @@ impl Drop for State {
 }
 
 impl State {
-    ghost use Rattle.am_world.specs.Consistent.{IsConsistent, around_at};
+    ghost use Rattle.am_world.specs.Consistent.{IsConsistent, around_at, over};
     ghost use Rattle.am_world.specs.Leaving.{LeavesShelves};
     ghost use Rattle.am_world.specs.Opening.{FailsToOpen, FailsWith, IsSameBesideInstances, IsUnopened, Opens};
     ghost use Rattle.am_world.specs.Opening.{OpensAt, StayOutside, first_ring, origin_of};
-    ghost use Rattle.am_world.specs.Places.{AreNumbered, At, cause_at};
+    ghost use Rattle.am_world.specs.Places.{AreNumbered, At, cause_at, up_at};
     ghost use Rattle.am_world.specs.Refusal.{refusal};
     ghost use Rattle.am_world.specs.Runs.{Forgets, Headline, Prefixes, Run};
     ghost use Rattle.am_world.specs.Shelves.{AreBacked, AreClean, NeverCleaner, rows_in, shelf_at, shelves_of};
@@ -75,7 +75,8 @@ impl State {
     ) -> Result<State, OpenRefusal>
         requires { length stores.old ≡ 8 }
         ensures opens { AreClean (shelves_of R.Rows stores.new) → IfOk result
-            (Opens (origin_of setup.origin) (rows_in (shelves_of R.Rows stores.old))) }
+            (λ state. Opens (origin_of setup.origin) (rows_in (shelves_of R.Rows stores.old))
+            (over state (shelves_of R.Rows stores.new))) }
         ensures clean { NeverCleaner (shelves_of R.Rows stores.old) (shelves_of R.Rows stores.new) }
         ensures consistent { IfOk result IsConsistent }
         ensures backed { IfOk result (λ state. AreBacked state.instances (shelves_of R.Rows stores.new)) }
@@ -119,6 +120,13 @@ impl State {
         self.faults
     }
 
+    /// Whether an instance is up.
+    pub fn is_up(&self, instance: u8) -> bool
+        ensures { result ≡ up_at instance self.now.instances }
+    {
+        self.instances.is_up(instance)
+    }
+
     /// The fault that stopped an instance, where one did.
     pub fn cause(&self, instance: u8) -> Option<Fault>
         ensures { result ≡ cause_at instance self.now.instances }
@@ -135,7 +143,8 @@ impl State {
 
     /// Handles one event. A refused one changes nothing. Where the system refuses memory, a store refuses a call, a
     /// count passes its greatest number, a message its greatest length, or a pattern that is in use gives no answer,
-    /// the instance that was handling it stops, puts nothing out, and one fault more is counted.
+    /// each instance that met this stops, puts nothing out, and is counted as a fault, while the others that handle the
+    /// event go on. Where there is no memory for a tenant's limits or for a ring, nothing changes but the count.
     pub fn step<R: Rows>(
         &mut self,
         alloc: Global,
@@ -144,11 +153,11 @@ impl State {
     ) -> Result<(), Refused>
         requires consistent { IsConsistent self.old }
         requires backed { AreBacked self.old.instances (shelves_of R.Rows stores.old) }
-        ensures step { Step self.old event.now self.new }
+        ensures step { Step (over self.old (shelves_of R.Rows stores.old)) event.now
+            (over self.new (shelves_of R.Rows stores.new)) }
         ensures refused { MatchOption (refusal self.old event.now) (IsOk result) (λ r. result ≡ Err r) }
         ensures err { OnErr result ((self.new ≡ self.old) × (stores.new ≡ stores.old)) }
         ensures consistent { IsConsistent self.new }
-        ensures clean { NeverCleaner (shelves_of R.Rows stores.old) (shelves_of R.Rows stores.new) }
         ensures backed { AreBacked self.new.instances (shelves_of R.Rows stores.new) }
         ensures left { LeavesShelves R.rejects self.old event.now self.new
             (shelves_of R.Rows stores.old) (shelves_of R.Rows stores.new) }
@@ -183,6 +192,15 @@ impl State {
             }
             Event::Deliver { message, moment } => self.on_deliver(alloc, message, *moment, stores),
             Event::Lose { message } => self.on_lose(message),
+            Event::Join { instance } => self.on_join(alloc, *instance, stores),
+            Event::Leave { instance } => self.on_leave(alloc, *instance, stores),
+            Event::Crash { instance } => self.on_crash(alloc, *instance),
+            Event::Restart { instance } => self.on_restart(alloc, *instance, stores),
+            Event::Learn { instance } => self.on_learn(alloc, *instance, stores),
+            Event::Force { tenant } => {
+                self.on_force(alloc, tenant);
+                Ok(())
+            }
         }
     }
 
@@ -191,9 +209,12 @@ impl State {
     pub fn run<R: Rows>(&mut self, alloc: Global, events: &[Event], stores: &mut [R])
         requires consistent { IsConsistent self.old }
         requires backed { AreBacked self.old.instances (shelves_of R.Rows stores.old) }
-        ensures steps { Run self.old events.now self.new }
-        ensures headline { Headline self.old events.now self.new }
-        ensures prefixes { Prefixes self.old events.now self.new }
+        ensures steps { Run (over self.old (shelves_of R.Rows stores.old)) events.now
+            (over self.new (shelves_of R.Rows stores.new)) }
+        ensures headline { Headline (over self.old (shelves_of R.Rows stores.old)) events.now
+            (over self.new (shelves_of R.Rows stores.new)) }
+        ensures prefixes { Prefixes (over self.old (shelves_of R.Rows stores.old)) events.now
+            (over self.new (shelves_of R.Rows stores.new)) }
         ensures consistent { IsConsistent self.new }
         ensures clean { NeverCleaner (shelves_of R.Rows stores.old) (shelves_of R.Rows stores.new) }
         ensures backed { AreBacked self.new.instances (shelves_of R.Rows stores.new) }

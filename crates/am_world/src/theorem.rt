@@ -35,7 +35,7 @@ pub fn run_alone<R: Rows + Drop>(
 ) -> Result<World<R>, OpenRefusal>
     requires { length stores.items ≡ 8 }
     ensures steps { IfOk result (λ world. AreClean world.shelves →
-        RunsFrom (origin_of setup.origin) (rows_in (shelves_of R.Rows stores.items)) events.now world.state) }
+        RunsFrom (origin_of setup.origin) (rows_in (shelves_of R.Rows stores.items)) events.now world) }
     ensures alone { IfOk result (λ world. fault_count world.state ≡ 0 → AreClean world.shelves →
         names_once (first_watch (origin_of setup.origin)) events.now →
         Alone (origin_of setup.origin) (rows_in (shelves_of R.Rows stores.items)) events.now
@@ -64,10 +64,10 @@ pub fn run_both<R: Rows + Drop>(
     requires one { length stores.items ≡ 8 }
     requires two { length other_stores.items ≡ 8 }
     ensures steps { IfOk result (λ worlds. AreClean worlds.0.shelves →
-        RunsFrom (origin_of setup.origin) (rows_in (shelves_of R.Rows stores.items)) events.now worlds.0.state) }
+        RunsFrom (origin_of setup.origin) (rows_in (shelves_of R.Rows stores.items)) events.now worlds.0) }
     ensures other_steps { IfOk result (λ worlds. AreClean worlds.1.shelves →
         RunsFrom (origin_of other_setup.origin) (rows_in (shelves_of R.Rows other_stores.items)) other_events.now
-        worlds.1.state) }
+        worlds.1) }
     ensures equal { IfOk result (λ worlds. fault_count worlds.0.state ≡ 0 → fault_count worlds.1.state ≡ 0 →
         AreClean worlds.0.shelves → AreClean worlds.1.shelves → setup.origin ≡ other_setup.origin →
         names_once (first_watch (origin_of setup.origin)) events.now →

@@ -1,7 +1,8 @@
 //! The world: one way in, one way out.
 
-ghost use Rattle.std.specs.Prelude.{◌≡◌, IfErr, IfOk, IsOk, MatchOption, OnErr, Err, length};
+ghost use Rattle.std.specs.Prelude.{◌≡◌, IfErr, IfOk, IsOk, MatchOption, OnErr, Err, is_none, length};
 ghost use Rattle.std.specs.Option.{option_copied};
+ghost use Rattle.am_event.specs.declared.event.Event.{Event};
 
 use crate::opening::OpenRefusal;
 use crate::state::State;
@@ -56,7 +57,7 @@ impl<R: Rows + Drop> World<R> {
     pub fn open(alloc: Global, setup: Setup, mut stores: Vec<R>) -> Result<World<R>, OpenRefusal>
         requires { length stores.items ≡ 8 }
         ensures opens { IfOk result (λ world. AreClean world.shelves →
-            Opens (origin_of setup.origin) (rows_in (shelves_of R.Rows stores.items)) world.state) }
+            Opens (origin_of setup.origin) (rows_in (shelves_of R.Rows stores.items)) world) }
         ensures clean { IfOk result (λ world. NeverCleaner (shelves_of R.Rows stores.items) world.shelves) }
         ensures left { IfOk result (λ world.
             StayOutside setup.origin.ring (shelves_of R.Rows stores.items) world.shelves) }
@@ -69,7 +70,7 @@ impl<R: Rows + Drop> World<R> {
 
 impl<R: Rows> World<R> {
     ghost use Rattle.am_world.specs.Leaving.{LeavesShelves};
-    ghost use Rattle.am_world.specs.Places.{cause_at};
+    ghost use Rattle.am_world.specs.Places.{cause_at, up_at};
     ghost use Rattle.am_world.specs.Refusal.{refusal};
     ghost use Rattle.am_world.specs.Runs.{Forgets, Headline, Prefixes, Run};
     ghost use Rattle.am_world.specs.Shelves.{NeverCleaner, shelves_of};
@@ -117,6 +118,13 @@ impl<R: Rows> World<R> {
         self.state.faults()
     }
 
+    /// Whether an instance is up.
+    pub fn is_up(&self, instance: u8) -> bool
+        ensures { result ≡ up_at instance self.now.state.instances }
+    {
+        self.state.is_up(instance)
+    }
+
     /// The fault that stopped an instance, where one did.
     pub fn cause(&self, instance: u8) -> Option<Fault>
         ensures { result ≡ cause_at instance self.now.state.instances }
@@ -131,15 +139,24 @@ impl<R: Rows> World<R> {
         self.state.message(name)
     }
 
+    /// Whether an instance is up, and knows a ring that isn't the newest.
+    pub fn is_behind(&self, instance: u8) -> bool
+        ensures { result ≡ is_none (refusal self.now.state (Event.Learn instance)) }
+    {
+        // From here on it is known what holds of each world.
+        let _ = &self.stores;
+        self.state.is_behind(instance)
+    }
+
     /// Handles one event. A refused one changes nothing. Where the system refuses memory, a store refuses a call, a
     /// count passes its greatest number, a message its greatest length, or a pattern that is in use gives no answer,
-    /// the instance that was handling it stops, puts nothing out, and one fault more is counted; its store stays at its
-    /// last commit, which may have been the event's own.
+    /// each instance that met this stops, puts nothing out, and is counted as a fault, while the others that handle the
+    /// event go on; its store stays at its last commit, which may have been the event's own. Where there is no memory
+    /// for a tenant's limits or for a ring, nothing changes but the count.
     pub fn step(&mut self, alloc: Global, event: &Event) -> Result<(), Refused>
-        ensures step { Step self.old.state event.now self.new.state }
+        ensures step { Step self.old event.now self.new }
         ensures refused { MatchOption (refusal self.old.state event.now) (IsOk result) (λ r. result ≡ Err r) }
         ensures err { OnErr result (self.new ≡ self.old) }
-        ensures clean { NeverCleaner self.old.shelves self.new.shelves }
         ensures left { LeavesShelves R.rejects self.old.state event.now self.new.state
             self.old.shelves self.new.shelves }
     {
@@ -149,9 +166,9 @@ impl<R: Rows> World<R> {
     /// Handles events one after the other, and goes on after a refused one. Each tenant's outputs are those of its
     /// private cluster, also on a further run, and what was put out before a first fault is so too.
     pub fn run(&mut self, alloc: Global, events: &[Event])
-        ensures steps { Run self.old.state events.now self.new.state }
-        ensures headline { Headline self.old.state events.now self.new.state }
-        ensures prefixes { Prefixes self.old.state events.now self.new.state }
+        ensures steps { Run self.old events.now self.new }
+        ensures headline { Headline self.old events.now self.new }
+        ensures prefixes { Prefixes self.old events.now self.new }
         ensures clean { NeverCleaner self.old.shelves self.new.shelves }
     {
         self.state.run(alloc, events, &mut self.stores);

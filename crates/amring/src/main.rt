@@ -1,4 +1,10 @@
 //! `amring`: plays a scenario of events against a world, or serves connections, as its command line says.
+//!
+//! It ends with the status
+//! - 0 where all was played or served, or help or the version was asked for;
+//! - 1 where a stream, a socket or the clock failed, or the instance stopped that serves;
+//! - 2 where the command line, a store or a line of a scenario was refused, or the port can't be had;
+//! - 3 where it is out of memory.
 #![tactic(auto)]
 
 mod serve;
@@ -7,13 +13,11 @@ mod stores;
 ghost use Rattle.std.specs.Prelude.{◌≡◌, length};
 
 use am_options::{CommandLine, Running, options};
-use am_play::lines::LineReader;
-use am_play::loopback::Loopback;
-use am_play::streams::Sink;
-use am_play::writing::WholeWriter;
-use am_play::{ending, play};
+use am_play::play;
+use am_report::ending;
 use am_rows::Rows;
 use am_setup::Setup;
+use am_stream::{LineReader, Link, Loopback, Sink, WholeWriter};
 use am_world::World;
 use std::io::{BufReader, BufWriter, Write};
 use std::net::Net;
@@ -40,6 +44,9 @@ fn main(rt: HostRuntime) -> io::Result<ExitCode> {
 }
 
 /// Reads the command line and does what it asks for.
+///
+/// # Errors
+/// Those of what it asks for, of the words of the command line and of what is printed; out of memory.
 fn start<E: Sink>(rt: &HostRuntime, errors: &mut E) -> io::Result<ExitCode> {
     let words: Vec<String> = match env::args(rt) {
         Ok(words) => words.collect(rt.alloc())?,
@@ -60,6 +67,9 @@ fn start<E: Sink>(rt: &HostRuntime, errors: &mut E) -> io::Result<ExitCode> {
 }
 
 /// Plays the scenario on standard input over the stores that the command line says.
+///
+/// # Errors
+/// Those of the sockets and of what is read and printed; out of memory.
 fn run<E: Sink>(rt: &HostRuntime, running: Running, errors: &mut E) -> io::Result<ExitCode> {
     let Running { setup, store } = running;
     match store {
@@ -72,6 +82,9 @@ fn run<E: Sink>(rt: &HostRuntime, running: Running, errors: &mut E) -> io::Resul
 }
 
 /// Plays the scenario on standard input over loopback sockets, against a world over these stores.
+///
+/// # Errors
+/// Those of the sockets and of what is read and printed; out of memory.
 fn run_over<S: Rows + Drop, R: Input + Print + AllocGlobal + Net, E: Sink>(
     rt: &R,
     setup: Setup,
@@ -85,8 +98,21 @@ fn run_over<S: Rows + Drop, R: Input + Print + AllocGlobal + Net, E: Sink>(
         Err(refusal) => return stores::refuse(rt.alloc(), errors, refusal),
     };
     let mut link = Loopback::open(rt)?;
+    play_world(rt, world, &mut link, errors)
+}
+
+/// Plays the scenario on standard input against a world, over a link.
+///
+/// # Errors
+/// Those of what is read and printed; out of memory.
+fn play_world<S: Rows + Drop, R: Input + Print + AllocGlobal, L: Link, E: Sink>(
+    rt: &R,
+    world: World<S>,
+    link: &mut L,
+    errors: &mut E,
+) -> io::Result<ExitCode> {
     let source = LineReader::new(rt.alloc(), BufReader::new(rt.alloc(), rt.reader())?);
     let mut writer = WholeWriter(BufWriter::new(rt.alloc(), io::writer(rt))?);
-    let (played, _stores) = play::play(rt.alloc(), world, &mut link, source, &mut writer, errors)?;
+    let (played, _stores) = play::play(rt.alloc(), world, link, source, &mut writer, errors)?;
     ending::tell(errors, played)
 }

@@ -5,15 +5,16 @@ ghost use Rattle.std.specs.Prelude.{◌≡◌, length};
 use crate::stores::{self, NUMBERS};
 use am_gateway::Gateway;
 use am_options::Serving;
-use am_play::ending;
 use am_play::stops::Stops;
-use am_play::streams::Sink;
+use am_report::ending;
 use am_ring::Ring;
 use am_rows::Rows;
 use am_server::{Server, listen};
 use am_setup::Setup;
+use am_stream::Sink;
 use am_world::World;
 use mio::net::TcpListener;
+use std::alloc::Global;
 use std::net::{Net, SocketAddr};
 use std::process::ExitCode;
 use std::time::Clock;
@@ -96,30 +97,48 @@ fn serve_over<S: Rows + Drop, R: Net + Clock + Print + AllocGlobal, E: Sink>(
     requires { length stores.items ≡ 8 }
 {
     let serving = lowest(&setup.ring());
-    let mut world = match World::open(rt.alloc(), setup, stores) {
-        Ok(world) => world,
-        Err(refusal) => return stores::refuse(rt.alloc(), errors, refusal),
-    };
+    match World::open(rt.alloc(), setup, stores) {
+        Ok(mut world) => {
+            let served = serve_world(rt, &mut world, serving, site, errors);
+            // The process ends: what the world holds need not be given back piece by piece, and each store is at its last
+            // commit.
+            mem::forget(world);
+            served
+        }
+        Err(refusal) => stores::refuse(rt.alloc(), errors, refusal),
+    }
+}
+
+/// Serves a world, says where, and says at the end what became of it.
+fn serve_world<S: Rows + Drop, R: Net + Clock + Print + AllocGlobal, E: Sink>(
+    rt: &R,
+    world: &mut World<S>,
+    serving: u8,
+    site: Site,
+    errors: &mut E,
+) -> io::Result<ExitCode> {
     let Site {
         listener,
         address,
         count,
     } = site;
-    let ready = format!(in rt.alloc();
-        "amring: serves http://{address}; GET /ready tells it the time, once a second or so\n"
-    )?;
-    errors.write_whole(ready.as_bytes())?;
-    attend(rt, listener, &mut world, serving, count, errors)?;
-    Stops::none().tell(rt.alloc(), &world, errors)?;
+    announce(rt.alloc(), address, errors)?;
+    attend(rt, listener, world, serving, count, errors)?;
+    Stops::none().tell(rt.alloc(), world, errors)?;
     let faults = world.faults();
     print!(rt; "faults {faults}\n")?;
-    let status = match world.cause(serving) {
+    Ok(match world.cause(serving) {
         None => ExitCode::SUCCESS,
         Some(_) => ExitCode::FAILURE,
-    };
-    // The process ends: what the world holds need not be given back piece by piece, and each store is at its last commit.
-    mem::forget(world);
-    Ok(status)
+    })
+}
+
+/// Tells where connections are taken.
+fn announce<E: Sink>(alloc: Global, address: SocketAddr, errors: &mut E) -> io::Result<()> {
+    let ready = format!(in alloc;
+        "amring: serves http://{address}; GET /ready tells it the time, once a second or so\n"
+    )?;
+    errors.write_whole(ready.as_bytes())
 }
 
 /// The lowest instance of the ring, to which all connections are opened.
@@ -132,7 +151,7 @@ fn lowest(ring: &Ring) -> u8 {
     NUMBERS[0]
 }
 
-/// Serves the clients of a listener until all is done, or the instance stopped; tells where the clock is off.
+/// Serves the clients of a listener until all is done, or the instance stopped.
 fn attend<S: Rows + Drop, R: Net + Clock + AllocGlobal, E: Sink>(
     rt: &R,
     listener: TcpListener,
@@ -143,14 +162,35 @@ fn attend<S: Rows + Drop, R: Net + Clock + AllocGlobal, E: Sink>(
 ) -> io::Result<()> {
     let mut gateway = Gateway::new(rt.alloc(), world, serving)?;
     let mut server = Server::open(rt, rt.alloc(), listener, &mut gateway, count)?;
+    take_turns(rt, &mut server, errors)
+}
+
+/// Has a server work, turn by turn, until all is done, or the instance stopped.
+fn take_turns<S: Rows + Drop, R: Net + Clock + AllocGlobal, E: Sink>(
+    rt: &R,
+    server: &mut Server<'_, Gateway<'_, S>>,
+    errors: &mut E,
+) -> io::Result<()> {
     for _ in 0..u64::MAX {
         if server.is_done() || !server.is_up() {
             break;
         }
-        if let Some(news) = server.turn(rt)? {
-            let text = format!(in rt.alloc(); "amring: {news}\n")?;
-            errors.write_whole(text.as_bytes())?;
-        }
+        take_turn(rt, server, errors)?;
     }
     Ok(())
+}
+
+/// Has a server work for a turn, and tells where the clock is off.
+fn take_turn<S: Rows + Drop, R: Net + Clock + AllocGlobal, E: Sink>(
+    rt: &R,
+    server: &mut Server<'_, Gateway<'_, S>>,
+    errors: &mut E,
+) -> io::Result<()> {
+    match server.turn(rt)? {
+        Some(news) => {
+            let text = format!(in rt.alloc(); "amring: {news}\n")?;
+            errors.write_whole(text.as_bytes())
+        }
+        None => Ok(()),
+    }
 }

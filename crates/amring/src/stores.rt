@@ -3,9 +3,9 @@
 ghost use Rattle.std.specs.Prelude.{◌≡◌, ◌<◌, IfOk, IfSome, length};
 
 use am_incarnation::greatest_incarnation;
-use am_play::streams::Sink;
 use am_rows::{Rows, StoreRefusal};
-use am_store::{FileShelf, MemoryShelf, Shelf};
+use am_store::{AnyShelf, EitherShelf, Shelf};
+use am_stream::Sink;
 use am_text::Failure;
 use am_world::OpenRefusal;
 use std::alloc::{AllocError, Global};
@@ -19,12 +19,12 @@ pub const NUMBERS: [u8; 8] = [1, 2, 3, 4, 5, 6, 7, 8];
 const REFUSED: u8 = 2;
 
 /// Stores in memory, which are gone when the program ends.
-pub fn in_memory(alloc: Global) -> Result<Vec<MemoryShelf>, AllocError>
+pub fn in_memory(alloc: Global) -> Result<Vec<AnyShelf>, AllocError>
     ensures { IfOk result (λ stores. length stores.items ≡ 8) }
 {
     let mut stores = Vec::with_capacity(alloc, NUMBERS.len())?;
     for _number in NUMBERS {
-        stores.push(Shelf::in_memory(alloc)?)?;
+        stores.push(EitherShelf::First(Shelf::in_memory(alloc)?))?;
     }
     Ok(stores)
 }
@@ -33,7 +33,7 @@ pub fn in_memory(alloc: Global) -> Result<Vec<MemoryShelf>, AllocError>
 ///
 /// # Errors
 /// `F2` of the first store whose file can't be opened, or out of memory.
-pub fn in_folder(rt: &HostRuntime, folder: &str) -> Result<Vec<FileShelf>, OpenRefusal>
+pub fn in_folder(rt: &HostRuntime, folder: &str) -> Result<Vec<AnyShelf>, OpenRefusal>
     ensures { IfOk result (λ stores. length stores.items ≡ 8) }
 {
     let alloc = rt.alloc();
@@ -44,7 +44,9 @@ pub fn in_folder(rt: &HostRuntime, folder: &str) -> Result<Vec<FileShelf>, OpenR
             Ok(store) => store,
             Err(failure) => return Err(refusal_of(instance, failure)),
         };
-        stores.push(store).map_err(AllocError::from)?;
+        stores
+            .push(EitherShelf::Second(store))
+            .map_err(AllocError::from)?;
     }
     Ok(stores)
 }

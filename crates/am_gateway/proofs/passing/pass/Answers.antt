@@ -6,8 +6,8 @@ use Rattle.am_gateway.proofs.passing.pass.Goals as goal
 
 pub returns-in-Some-clause-passed : goal.returns-in-Some-clause-passed
 returns-in-Some-clause-passed g c =
-    subst (λ message. Run c.args.world.now.state (passes_at c.args.place c.args.moment message) c.lose.new.world.state)
+    subst (λ message. Run c.args.world.now (passes_at c.args.place c.args.moment message) c.lose.new.world)
     (sym c.in-Some.is ∙ c.message_at.ensures ∙ ap (message_at c.args.place) c.outputs.ensures)
-    (run_both c.args.world.now.state c.deliver.new.world.state c.lose.new.world.state
+    (run_both c.args.world.now c.deliver.new.world c.lose.new.world
     (deliveries_at c.args.place c.args.moment (Some c.in-Some.name)) (losses (Some c.in-Some.name))
     c.deliver.ensures.delivered c.lose.ensures.lost)

@@ -8,3 +8,9 @@ returns-clause-sorted g c = sorts c.sort.result _ _ _ _ (rw c.take_outputs-outpu
 pub returns-clause-err : goal.returns-clause-err
 returns-clause-err g c = sorts_some c.sort.result _ _ _ _ (rw c.take_outputs-outputs.ensures.taken at c.sort.ensures.err)
     (rw c.take_outputs-outputs.ensures.taken at c.sort.ensures.err_kept)
+
+pub returns-clause-forgets : goal.returns-clause-forgets
+returns-clause-forgets g c = record {
+  forgets = c.take_outputs-outputs.ensures.forgets;
+  shelves = c.take_outputs-outputs.ensures.shelves;
+}

@@ -3,7 +3,7 @@ use Rattle.std.proofs.lemmas.List.{nil_from_length}
 use Rattle.std.specs.Slice.Iter.{chunks_rest, chunks_size}
 use Rattle.am_world.specs.Simulation.{put_out}
 use Rattle.am_event.specs.declared.event.Event.TheVariants as event
-use Rattle.am_play.specs.Output.{is_answered}
+use Rattle.am_report.specs.Output.{is_answered}
 use Rattle.am_play.specs.Playing.{Happens, goes_on, is_piece}
 use Rattle.am_play.proofs.PlayingLemmas.{grows_more, gives_nothing, gives_lost, gives_more, gives_last, piece_fits}
 use Rattle.am_play.proofs.play.Player.give.Goals as goal

@@ -1,5 +1,5 @@
 use Rattle.std.proofs.Common.{◌≡◌, Some, ◌∙◌}
-use Rattle.am_play.specs.Names.{place_of, with_name}
+use Rattle.am_report.specs.Names.{place_of, with_name}
 use Rattle.am_scenario.specs.Request.{request_text}
 use Rattle.am_play.proofs.play.Player.obey.Goals as goal
 
@@ -9,6 +9,14 @@ returns-in_ok-deliver-in-Deliver g c =
       delivered.0,
       delivered.1,
       rw c.in-Deliver.is (rw c.name_said.ensures at delivered.2),
+    )
+
+pub returns-in_ok-bring-in-Change : goal.returns-in_ok-bring-in-Change
+returns-in_ok-bring-in-Change g c =
+    let brought = c.in_ok-bring-in-Change.ensures in (
+      brought.0,
+      brought.1,
+      rw c.in-Change.is (rw c.event_of.ensures at brought.2),
     )
 
 pub returns-in_ok-call-in-Call : goal.returns-in_ok-call-in-Call

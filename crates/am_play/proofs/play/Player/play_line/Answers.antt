@@ -2,8 +2,8 @@ use Rattle.std.proofs.Common.{◌≡◌, ◌∙◌, [], ◌++◌, ap, refl}
 use Rattle.std.specs.Global.{Vec}
 use Rattle.am_play.proofs.PlayingLemmas.{printed_more}
 use Rattle.am_play.specs.Trace.{outputs, printed}
-use Rattle.am_play.specs.Tries.{tries_in}
-use Rattle.am_play.specs.declared.report.Try.{Try}
+use Rattle.am_report.specs.Tries.{tries_in}
+use Rattle.am_report.specs.declared.report.Try.{Try}
 use Rattle.am_play.proofs.play.Player.play_line.Goals as goal
 
 pub returns : goal.returns

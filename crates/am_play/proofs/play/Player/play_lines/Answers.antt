@@ -4,10 +4,10 @@ use Rattle.std.proofs.KnownBytes.{Appends-kept, Appends-trans, Keeps-refl}
 use Rattle.std.specs.Io.Iter.{u64_saturate}
 use Rattle.am_play.proofs.BreakLemmas.{course_breaks, trace_later, upto_breaks}
 use Rattle.am_play.proofs.ScenarioLemmas.{upto_first, upto_more, upto_bad, upto_end}
-use Rattle.am_play.proofs.WritingLemmas.{none_written, on_err, part_later, whole}
+use Rattle.am_stream.proofs.WritingLemmas.{none_written, on_err, part_later, whole}
 use Rattle.am_scenario.specs.Line.{command_of}
 use Rattle.am_play.specs.Trace.{text_of, printed}
-use Rattle.am_play.specs.declared.play.Played.TheVariants.{All}
+use Rattle.am_report.specs.declared.ending.Played.TheVariants.{All}
 use Rattle.am_play.proofs.play.Player.play_lines.Goals as goal
 
 pub loop-source-init : goal.loop-source-init

@@ -1,6 +1,6 @@
 use Rattle.std.proofs.Common.{◌≡◌, ◌∙◌, ◌+◌, ◌++◌, ◌∷◌, ◌≤◌, [], ap, arith, length, inl, inr, length-append, refl, sym}
 use Rattle.std.proofs.lemmas.Result.{on_ok_weaker}
-use Rattle.am_play.specs.Mail.{kept_of}
+use Rattle.am_report.specs.Mail.{kept_of}
 use Rattle.am_play.proofs.MailLemmas.{hands_more, kept_done, kept_more, pumped}
 use Rattle.am_play.proofs.PlayingLemmas.{grows_more, grows_nothing}
 use Rattle.am_play.proofs.play.Player.pump.Goals as goal

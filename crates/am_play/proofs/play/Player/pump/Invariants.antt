@@ -1,8 +1,8 @@
 use Rattle.std.proofs.Common.{◌≡◌, Bool, List, length}
-use Rattle.am_play.specs.Mail.{kept_of}
+use Rattle.am_report.specs.Mail.{kept_of}
 use Rattle.am_play.specs.Playing.{Hands}
 use Rattle.am_play.specs.Trace.{Happened, Grows}
-use Rattle.am_play.specs.declared.mail.Letter.{Letter}
+use Rattle.am_report.specs.declared.mail.Letter.{Letter}
 use Rattle.am_play.proofs.play.Player.pump.Given as goal
 
 -- the letters that were handed over so far, and what that brought

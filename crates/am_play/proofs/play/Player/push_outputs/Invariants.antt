@@ -1,7 +1,7 @@
 use Rattle.std.proofs.Common.{◌≡◌, ◌++◌, take, string_bytes}
 use Rattle.std.specs.List.{flat_map}
 use Rattle.am_play.specs.Trace.{output_line}
-use Rattle.am_play.specs.Tries.{tries_in}
+use Rattle.am_report.specs.Tries.{tries_in}
 use Rattle.am_play.proofs.play.Player.push_outputs.Given as goal
 
 abbrev pub invariant-loop-output : goal.invariant-loop-output

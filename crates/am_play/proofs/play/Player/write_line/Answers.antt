@@ -1,6 +1,6 @@
 use Rattle.std.proofs.Common.{inl, inr}
 use Rattle.std.proofs.KnownBytes.{Keeps-refl}
-use Rattle.am_play.proofs.WritingLemmas.{on_err}
+use Rattle.am_stream.proofs.WritingLemmas.{on_err}
 use Rattle.am_play.proofs.play.Player.write_line.Goals as goal
 
 pub returns-in_err-lines-clause-breaks : goal.returns-in_err-lines-clause-breaks

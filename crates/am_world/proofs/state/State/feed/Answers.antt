@@ -6,10 +6,9 @@ use Rattle.am_instance.specs.Bringing.{Brings}
 use Rattle.am_instance.specs.Here.{Circumstances, circumstances}
 use Rattle.am_world.specs.Consistent.{around_at}
 use Rattle.am_world.specs.Places.{At, Turns}
-use Rattle.am_world.proofs.FreshKept.{past_but, past_but_any}
-use Rattle.am_world.proofs.FreshPast.{going_on, lost_none_brings, past_brings, reads_up}
-use Rattle.am_world.proofs.Placed.{also_there, bytes_there, consistent_but, consistent_still}
-use Rattle.am_world.proofs.Turned.{quiet_reader, same_node, whole_at}
+use Rattle.am_world.proofs.FreshPast.{going_on, lost_none_brings, past_brings, reached_brings, reads_up}
+use Rattle.am_world.proofs.Placed.{also_there, bytes_there, consistent_but, consistent_but_all, consistent_still}
+use Rattle.am_world.proofs.Turned.{member_on, quiet_reader, same_node, whole_at}
 use Rattle.am_world.proofs.state.State.feed.Goals as goal
 
 pub feed-requires-clause-whole : goal.feed-requires-clause-whole
@@ -25,8 +24,7 @@ returns-in_err-feed-clause-but c =
     let i = c.args.reader in
     consistent_but i w _ c.requires.consistent c.feed.ensures.at (record { clock = refl; common = refl })
     c.requires.consistent.filed (λ x x' was is. same_node x x' (c.feed.ensures.stays x x' was is).0)
-    (past_but i w.messages w.messages w.instances c.feed.new.self c.feed.ensures.at.others (λ name. refl)
-    c.requires.consistent.past)
+    (λ name. refl)
 
 pub returns-in_err-send_out-clause-fails : goal.returns-in_err-send_out-clause-fails
 returns-in_err-send_out-clause-fails c =
@@ -77,10 +75,8 @@ returns-in_err-send_out-clause-but c =
     consistent_but i w _ c.requires.consistent c.feed.ensures.at (record { clock = refl; common = refl })
     (c.send_out.ensures.filed c.requires.consistent.filed)
     (λ x x' was is. same_node x x' (c.feed.ensures.stays x x' was is).0)
-    (past_but i w.messages _ w.instances c.feed.new.self c.feed.ensures.at.others
     (lost_none_brings i around_it conn told w.instances c.feed.new.self goes brings w.messages _
     c.requires.consistent.past up c.in_err-send_out.ensures.lost)
-    c.requires.consistent.past)
 
 pub returns-clause-consistent : goal.returns-clause-consistent
 returns-clause-consistent c =
@@ -106,27 +102,11 @@ returns-clause-consistent c =
     let x = also_there i c.feed.new.self w.instances c.feed.ensures.at.numbered c.requires.consistent.numbered x' is in
     quiet_reader x.0 x' conn (c.requires.consistent.quiet i x.0 x.1) (c.requires.reads x.0 x.1)
     (c.feed.ensures.stays x.0 x' x.1 is).0.up)
+    (λ x x' was is. let on = (c.feed.ensures.stays x x' was is).0 in member_on x x' on.up on.number)
     (past_brings i around_it conn told w.instances c.feed.new.self goes brings w.messages _ c.requires.consistent.past
     c.args.moment c.in_ok-send_out.ensures.posts)
+    (reached_brings i around_it conn told w.instances c.feed.new.self goes brings w.messages _
+    c.requires.consistent.past c.requires.consistent.fresh c.args.moment c.in_ok-send_out.ensures.posts)
 
 pub returns-clause-but : goal.returns-clause-but
-returns-clause-but c =
-    let w = c.args.self.now in
-    let i = c.args.reader in
-    let conn = c.args.piece.now.connection in
-    let told = c.feed.new.outputs.items in
-    let around_it = circumstances c.occasion-occasion.result in
-    let goes = going_on i w.instances c.feed.new.self c.requires.consistent.numbered c.requires.exists
-    (λ x x' was is. (c.feed.ensures.stays x x' was is).0) c.feed.ensures.at in
-    let brings : Turns i (λ x x'. (f : Fed) × Brings f conn around_it x x' [] told) w.instances c.feed.new.self =
-    λ x x' was is.
-    let before = bytes_there conn x (c.requires.reads x was) in (
-      verdict (before.0 ++ c.args.piece.now.bytes.now),
-      rw c.new-told.ensures.items at (c.in_ok-feed.ensures.brings x x' was is before.0 before.1),
-    ) in
-    consistent_but i w _ c.requires.consistent c.feed.ensures.at (record { clock = refl; common = refl })
-    (c.send_out.ensures.filed c.requires.consistent.filed)
-    (λ x x' was is. same_node x x' (c.feed.ensures.stays x x' was is).0)
-    (past_but_any i _ c.feed.new.self
-    (past_brings i around_it conn told w.instances c.feed.new.self goes brings w.messages _ c.requires.consistent.past
-    c.args.moment c.in_ok-send_out.ensures.posts))
+returns-clause-but c = consistent_but_all c.args.reader _ (returns-clause-consistent c)

@@ -1,12 +1,15 @@
-use Rattle.std.proofs.Common.{◌≡◌, ◌∙◌, true, false, is_some, Option, None, Some, option_map, ap, inl, refl, sym}
+use Rattle.std.proofs.Common.{◌≡◌, ◌∙◌, true, false, is_some, Option, None, Some, option_map, ap, refl, sym}
 use Rattle.std.proofs.Common.{Bor}
 use Rattle.std.specs.Option.{option_copied}
+use Rattle.am_cluster.specs.Events.{Lose}
 use Rattle.am_messages.specs.declared.messages.Posted.{Posted}
 use Rattle.am_messages.specs.Posted.{posted_at}
 use Rattle.am_wire.specs.declared.message.Message.{Message}
 use Rattle.am_world.proofs.AloneLost.{kept_lose, kept_lost_unsent}
+use Rattle.am_world.proofs.Beside.{step_beside}
 use Rattle.am_world.proofs.FreshKept.{past_lost}
 use Rattle.am_world.proofs.PostingLemmas.{filed_lost}
+use Rattle.am_world.proofs.Reached.{reached_lost}
 use Rattle.am_world.proofs.state.State.on_lose.Goals as goal
 
 -- a message that is found was posted
@@ -26,7 +29,8 @@ borrowed (Some b) = refl
 
 pub returns-then-is_none-clause-step : goal.returns-then-is_none-clause-step
 returns-then-is_none-clause-step c =
-    inl (kept_lost_unsent c.args.self.now c.args.name.now
+    step_beside c.args.self.now (Lose c.args.name.now) c.args.self.now refl
+    (kept_lost_unsent c.args.self.now c.args.name.now
     (none_found (posted_at c.args.name.now c.args.self.now.messages) (option_copied c.find.result) c.find.ensures
     (borrowed c.find.result ∙ c.if-is_none.ensures)))
 
@@ -36,16 +40,20 @@ returns-clause-consistent c = record {
   numbered = c.requires.numbered;
   whole = c.requires.whole;
   quiet = c.requires.quiet;
+  ring = c.requires.ring;
+  members = c.requires.members;
   filed = filed_lost c.args.name.now c.args.self.now.messages c.lose.new.self c.lose.ensures c.requires.filed;
   past = past_lost c.args.name.now c.args.self.now.messages c.lose.new.self c.args.self.now.instances c.lose.ensures
       c.requires.past;
+  fresh = reached_lost c.args.name.now c.args.self.now.messages c.lose.new.self c.args.self.now.instances
+      c.lose.ensures c.requires.fresh;
 }
 
 pub returns-clause-step : goal.returns-clause-step
 returns-clause-step c =
     let found = posted_found (posted_at c.args.name.now c.args.self.now.messages) (option_copied c.find.result)
     c.find.ensures (borrowed c.find.result ∙ c.if-is_none.ensures) in
-    inl (kept_lose c.args.self.now _ c.args.name.now (record {
+    step_beside c.args.self.now (Lose c.args.name.now) _ refl (kept_lose c.args.self.now _ c.args.name.now (record {
       loses = c.lose.ensures;
       instances = refl;
       beside = record { clock = refl; common = refl };

@@ -3,7 +3,8 @@ use Rattle.std.proofs.lemmas.Bool.Decides.{nat_tests}
 use Rattle.am_cluster.specs.Events.{Outcome}
 use Rattle.am_cluster.specs.Moments.{is_too_late}
 use Rattle.am_world.specs.Places.{up_at}
-use Rattle.am_world.proofs.Faults.{faulted_at}
+use Rattle.am_world.proofs.Beside.{step_beside}
+use Rattle.am_world.proofs.Faults.{faulted_at, step_faulted}
 use Rattle.am_world.proofs.KeptOutcome.{awaits_up, kept_outcome, kept_unawaited}
 use Rattle.am_world.proofs.KeptQuietWhole.{backed_but, up_here}
 use Rattle.am_world.proofs.Placed.{backed_after}
@@ -11,12 +12,16 @@ use Rattle.am_world.proofs.state.State.on_outcome.Goals as goal
 
 pub returns-then-moment-gt-LAST_MOMENT-clause-step : goal.returns-then-moment-gt-LAST_MOMENT-clause-step
 returns-then-moment-gt-LAST_MOMENT-clause-step c =
-    inl (kept_unawaited c.args.self.now c.args.attempt.now c.args.ended.tries c.args.moment c.args.ended.status
+    step_beside c.args.self.now (Outcome c.args.attempt.now c.args.ended.tries c.args.moment c.args.ended.status)
+    c.args.self.now refl
+    (kept_unawaited c.args.self.now c.args.attempt.now c.args.ended.tries c.args.moment c.args.ended.status
     (inl (grind (arith, nat_tests))))
 
 pub returns-in_default-clause-step : goal.returns-in_default-clause-step
 returns-in_default-clause-step c =
-    inl (kept_unawaited c.args.self.now c.args.attempt.now c.args.ended.tries c.args.moment c.args.ended.status
+    step_beside c.args.self.now (Outcome c.args.attempt.now c.args.ended.tries c.args.moment c.args.ended.status)
+    c.args.self.now refl
+    (kept_unawaited c.args.self.now c.args.attempt.now c.args.ended.tries c.args.moment c.args.ended.status
     (inr c.in_default.ensures.none))
 
 pub take_outcome-requires-clause-up : goal.take_outcome-requires-clause-up
@@ -27,7 +32,8 @@ take_outcome-requires-clause-up c =
 
 pub returns-in-Ok-clause-step : goal.returns-in-Ok-clause-step
 returns-in-Ok-clause-step c =
-    inl (kept_outcome c.args.self.now c.take_outcome.new.self c.args.attempt.now c.args.ended.tries c.args.moment
+    step_beside c.args.self.now (Outcome c.args.attempt.now c.args.ended.tries c.args.moment c.args.ended.status) _ refl
+    (kept_outcome c.args.self.now c.take_outcome.new.self c.args.attempt.now c.args.ended.tries c.args.moment
     c.args.ended.status (grind (arith, nat_tests)) c.in-Some.ensures.awaits c.requires
     (rw (c.in-Some.ensures.at, c.effective-at.ensures) at c.in-Ok.ensures.does)
     (rw c.in-Some.ensures.at at c.take_outcome.ensures.stays))
@@ -35,9 +41,10 @@ returns-in-Ok-clause-step c =
 pub returns-in-Err-clause-step : goal.returns-in-Err-clause-step
 returns-in-Err-clause-step c =
     let allowed : is_too_late c.args.moment ≡ false = grind (arith, nat_tests) in
-    inr (faulted_at c.args.self.now c.take_outcome.new.self c.stop.new.self
+    step_faulted c.args.self.now (Outcome c.args.attempt.now c.args.ended.tries c.args.moment c.args.ended.status)
+    c.stop.new.self (λ shelves. faulted_at c.args.self.now c.take_outcome.new.self c.stop.new.self shelves shelves
     (Outcome c.args.attempt.now c.args.ended.tries c.args.moment c.args.ended.status) c.in-Some.instance c.in-Err.fault
-    (rw (allowed, c.in-Some.ensures.awaits) refl)
+    (rw (allowed, c.in-Some.ensures.awaits) refl) refl
     (λ j. ap (λ k. j == k) (sym c.in-Some.ensures.at)) refl (λ posted. refl) c.requires.numbered
     c.in-Err.ensures.fails c.stop.ensures.stopped (rw c.effective-at.ensures at c.in-Err.ensures.cause))
 

@@ -6,10 +6,9 @@ use Rattle.am_instance.specs.Receiving.{Receives}
 use Rattle.am_instance.specs.Shelves.{shelf_of}
 use Rattle.am_world.specs.Consistent.{around, around_at}
 use Rattle.am_world.specs.Places.{Turns}
-use Rattle.am_world.proofs.FreshKept.{past_but, past_but_any}
-use Rattle.am_world.proofs.FreshPast.{going_on, lost_none_receives, past_receives}
-use Rattle.am_world.proofs.Placed.{also_there, consistent_but, consistent_still, left_of}
-use Rattle.am_world.proofs.Turned.{quiet_alike, same_node, whole_at}
+use Rattle.am_world.proofs.FreshPast.{going_on, lost_none_receives, past_receives, reached_receives}
+use Rattle.am_world.proofs.Placed.{also_there, consistent_but, consistent_but_all, consistent_still, left_of}
+use Rattle.am_world.proofs.Turned.{member_on, quiet_up, same_node, whole_at}
 use Rattle.am_world.proofs.state.State.receive.Goals as goal
 
 pub receive-requires-clause-whole : goal.receive-requires-clause-whole
@@ -29,8 +28,7 @@ returns-in_err-receive-clause-consistent g c =
       consistent_but i w _ c.requires.consistent c.receive.ensures.at
           (record { clock = refl; common = refl }) c.requires.consistent.filed
           (λ x x' was is. same_node x x' (c.receive.ensures.stays x x' was is).goes)
-          (past_but i w.messages w.messages w.instances c.receive.new.self c.receive.ensures.at.others
-          (λ name. refl) c.requires.consistent.past),
+          (λ name. refl),
     )
 
 pub returns-in_err-send_out-clause-fails : goal.returns-in_err-send_out-clause-fails
@@ -74,9 +72,8 @@ returns-in_err-send_out-clause-consistent g c =
       consistent_but i w _ c.requires.consistent c.receive.ensures.at
           (record { clock = refl; common = refl }) (c.send_out.ensures.filed c.requires.consistent.filed)
           (λ x x' was is. same_node x x' (c.receive.ensures.stays x x' was is).goes)
-          (past_but i w.messages _ w.instances ys c.receive.ensures.at.others
           (lost_none_receives i around_it c.args.message told w.instances ys goes receives w.messages _
-          c.requires.consistent.past c.requires.up c.in_err-send_out.ensures.lost) c.requires.consistent.past),
+          c.requires.consistent.past c.requires.up c.in_err-send_out.ensures.lost),
     )
 
 pub returns-clause-does : goal.returns-clause-does
@@ -107,23 +104,22 @@ returns-clause-consistent g c =
     let around_it = circumstances c.occasion-occasion.result in
     let receives : Turns i (λ x x'. Receives around_it c.args.message x x' [] told) w.instances ys =
     λ x x' was is. rw c.new-told.ensures.items at (c.in_ok-receive.ensures.receives x x' was is) in
-    let past = past_receives i around_it c.args.message told w.instances ys goes receives w.messages _
-    c.requires.consistent.past c.args.moment c.in_ok-send_out.ensures.posts in (
-      consistent_still i w _ c.requires.consistent c.receive.ensures.at
-          (record { clock = refl; common = refl }) (c.send_out.ensures.filed c.requires.consistent.filed)
-          (λ x' is.
-          whole_at around_it _ x'
-          (sym (ap (λ (a : Circumstances). a.rings) c.occasion-occasion.ensures))
-          (sym (ap (λ (a : Circumstances). a.first) c.occasion-occasion.ensures))
-          (c.in_ok-receive.ensures.whole x' is))
-          (λ x' is.
-          let x = also_there i ys w.instances c.receive.ensures.at.numbered c.requires.consistent.numbered x' is in
-          let on = c.receive.ensures.stays x.0 x' x.1 is in
-          quiet_alike x.0 x' (c.requires.consistent.quiet i x.0 x.1) on.goes.up on.front) past,
-      consistent_but i w _ c.requires.consistent c.receive.ensures.at
-          (record { clock = refl; common = refl }) (c.send_out.ensures.filed c.requires.consistent.filed)
-          (λ x x' was is. same_node x x' (c.receive.ensures.stays x x' was is).goes) (past_but_any i _ ys past),
-    )
+    let kept = consistent_still i w _ c.requires.consistent c.receive.ensures.at
+    (record { clock = refl; common = refl }) (c.send_out.ensures.filed c.requires.consistent.filed)
+    (λ x' is.
+    whole_at around_it _ x'
+    (sym (ap (λ (a : Circumstances). a.rings) c.occasion-occasion.ensures))
+    (sym (ap (λ (a : Circumstances). a.first) c.occasion-occasion.ensures))
+    (c.in_ok-receive.ensures.whole x' is))
+    (λ x' is.
+    let x = also_there i ys w.instances c.receive.ensures.at.numbered c.requires.consistent.numbered x' is in
+    quiet_up x' ((c.receive.ensures.stays x.0 x' x.1 is).goes.up ∙ c.requires.up x.0 x.1))
+    (λ x x' was is. let on = (c.receive.ensures.stays x x' was is).goes in member_on x x' on.up on.number)
+    (past_receives i around_it c.args.message told w.instances ys goes receives w.messages _
+    c.requires.consistent.past c.args.moment c.in_ok-send_out.ensures.posts)
+    (reached_receives i around_it c.args.message told w.instances ys goes receives w.messages _
+    c.requires.consistent.past c.requires.consistent.fresh c.args.moment c.in_ok-send_out.ensures.posts) in
+    (kept, consistent_but_all i _ kept)
 
 pub returns-in_err-receive-clause-fails : goal.returns-in_err-receive-clause-fails
 returns-in_err-receive-clause-fails g c =

@@ -1,4 +1,4 @@
-use Rattle.std.proofs.Common.{refl}
+use Rattle.std.proofs.Common.{arith, refl}
 use Rattle.am_world.proofs.Stopped.{backed_stopped, cause_here, consistent_stopped, exists_at}
 use Rattle.am_world.proofs.state.State.stop.Goals as goal
 
@@ -19,7 +19,8 @@ returns-clause-stopped c = rw c.count_fault.ensures (record {
 pub returns-clause-consistent : goal.returns-clause-consistent
 returns-clause-consistent c = rw c.count_fault.ensures
     (consistent_stopped c.args.number c.args.self.now _ c.requires c.stop.ensures.at c.stop.ensures.down refl refl
-    refl (c.stop.ensures.whole _))
+    refl (c.stop.ensures.whole _)
+    (λ x x' was is. let same = (c.stop.ensures.stays x x' was is).0.incarnation in omega (arith, same)))
 
 pub returns-clause-backed : goal.returns-clause-backed
 returns-clause-backed c = rw c.count_fault.ensures

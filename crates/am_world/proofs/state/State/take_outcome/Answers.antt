@@ -10,10 +10,9 @@ use Rattle.am_instance.specs.Reacting.{Reacts}
 use Rattle.am_world.specs.Consistent.{around, around_at}
 use Rattle.am_world.specs.Places.{Turns}
 use Rattle.am_world.proofs.AloneOwn.{SaysOwn, outcome_own}
-use Rattle.am_world.proofs.FreshKept.{past_but, past_but_any}
-use Rattle.am_world.proofs.FreshPast.{going_on, lost_none_reacts, past_reacts}
-use Rattle.am_world.proofs.Placed.{also_there, consistent_but, consistent_still}
-use Rattle.am_world.proofs.Turned.{quiet_alike, same_node, whole_at}
+use Rattle.am_world.proofs.FreshPast.{going_on, lost_none_reacts, past_reacts, reached_reacts}
+use Rattle.am_world.proofs.Placed.{also_there, consistent_but, consistent_but_all, consistent_still}
+use Rattle.am_world.proofs.Turned.{member_on, quiet_up, same_node, whole_at}
 use Rattle.am_world.proofs.state.State.take_outcome.Goals as goal
 
 pub take_outcome-requires : goal.take_outcome-requires
@@ -30,8 +29,7 @@ returns-in_err-take_outcome-clause-but c =
     consistent_but i w _ c.requires.consistent c.take_outcome.ensures.at
     (record { clock = refl; common = refl }) c.requires.consistent.filed
     (λ x x' was is. same_node x x' (c.take_outcome.ensures.stays x x' was is).0.goes)
-    (past_but i w.messages w.messages w.instances c.take_outcome.new.self c.take_outcome.ensures.at.others
-    (λ name. refl) c.requires.consistent.past)
+    (λ name. refl)
 
 pub returns-in_err-send_out-clause-fails : goal.returns-in_err-send_out-clause-fails
 returns-in_err-send_out-clause-fails c =
@@ -85,9 +83,8 @@ returns-in_err-send_out-clause-but c =
     consistent_but i w _ c.requires.consistent c.take_outcome.ensures.at
     (record { clock = refl; common = refl }) (c.send_out.ensures.filed c.requires.consistent.filed)
     (λ x x' was is. same_node x x' (c.take_outcome.ensures.stays x x' was is).0.goes)
-    (past_but i w.messages _ w.instances ys c.take_outcome.ensures.at.others
     (lost_none_reacts i around_it t f told w.instances ys counted own goes reacts w.messages _
-    c.requires.consistent.past c.requires.up c.in_err-send_out.ensures.lost) c.requires.consistent.past)
+    c.requires.consistent.past c.requires.up c.in_err-send_out.ensures.lost)
 
 pub returns-clause-does : goal.returns-clause-does
 returns-clause-does c = record {
@@ -135,32 +132,12 @@ returns-clause-consistent c =
     (c.in_ok-take_outcome.ensures.whole x' is))
     (λ x' is.
     let x = also_there i ys w.instances c.take_outcome.ensures.at.numbered c.requires.consistent.numbered x' is in
-    let on = (c.take_outcome.ensures.stays x.0 x' x.1 is).0 in
-    quiet_alike x.0 x' (c.requires.consistent.quiet i x.0 x.1) on.goes.up on.front)
+    quiet_up x' ((c.take_outcome.ensures.stays x.0 x' x.1 is).0.goes.up ∙ c.requires.up x.0 x.1))
+    (λ x x' was is. let on = (c.take_outcome.ensures.stays x x' was is).0.goes in member_on x x' on.up on.number)
     (past_reacts i around_it t f told w.instances ys counted own goes reacts w.messages _
     c.requires.consistent.past c.args.moment c.in_ok-send_out.ensures.posts)
+    (reached_reacts i around_it t f told w.instances ys counted own goes reacts w.messages _
+    c.requires.consistent.past c.requires.consistent.fresh c.args.moment c.in_ok-send_out.ensures.posts)
 
 pub returns-clause-but : goal.returns-clause-but
-returns-clause-but c =
-    let w = c.args.self.now in
-    let i = c.args.instance in
-    let number = c.args.attempt.now.number in
-    let t = c.args.attempt.now.tenant in
-    let told = c.take_outcome.new.outputs.items in
-    let ys = c.take_outcome.new.self in
-    let f : Here → Local → Reaction = λ here. outcome here number c.args.ended.tries c.args.ended.status in
-    let goes = going_on i w.instances ys c.requires.consistent.numbered c.requires.exists
-    (λ x x' was is. (c.take_outcome.ensures.stays x x' was is).0.goes) c.take_outcome.ensures.at in
-    let around_it = circumstances c.occasion-occasion.result in
-    let reacts : Turns i (λ x x'. Reacts around_it t f x x' [] told) w.instances ys =
-    λ x x' was is. rw c.new-told.ensures.items at (c.in_ok-take_outcome.ensures.reacts x x' was is) in
-    let counted : (here : Here) → AreCounted here (f here) =
-    λ here. outcome_counted here number c.args.ended.tries c.args.ended.status in
-    let own : (here : Here) → SaysOwn here (f here) =
-    λ here. outcome_own here number c.args.ended.tries c.args.ended.status in
-    consistent_but i w _ c.requires.consistent c.take_outcome.ensures.at
-    (record { clock = refl; common = refl }) (c.send_out.ensures.filed c.requires.consistent.filed)
-    (λ x x' was is. same_node x x' (c.take_outcome.ensures.stays x x' was is).0.goes)
-    (past_but_any i _ ys
-    (past_reacts i around_it t f told w.instances ys counted own goes reacts w.messages _
-    c.requires.consistent.past c.args.moment c.in_ok-send_out.ensures.posts))
+returns-clause-but c = consistent_but_all c.args.instance _ (returns-clause-consistent c)

@@ -1,4 +1,4 @@
-use Rattle.std.proofs.Common.{◌≡◌, ◌∙◌, [], ap, inr, refl, subst, sym}
+use Rattle.std.proofs.Common.{◌≡◌, ◌∙◌, [], ap, arith, inr, refl, subst, sym}
 use Rattle.am_messages.specs.Posted.{posted_at}
 use Rattle.am_instance.specs.Here.{Circumstances, circumstances}
 use Rattle.am_instance.specs.Instance.{IsDown}
@@ -9,13 +9,14 @@ use Rattle.am_world.specs.Consistent.{around, around_at}
 use Rattle.am_world.specs.Leaving.{stop_at}
 use Rattle.am_world.specs.Places.{At, Turns}
 use Rattle.am_world.specs.Posting.{posted_over}
-use Rattle.am_world.proofs.FreshKept.{past_but, past_but_any, past_stopped}
-use Rattle.am_world.proofs.FreshPast.{GoesOnAt, lost_none_ticks, past_ticks}
+use Rattle.am_world.proofs.FreshKept.{past_but_any, past_stopped}
+use Rattle.am_world.proofs.FreshPast.{GoesOnAt, lost_none_ticks, past_ticks, reached_ticks}
 use Rattle.am_world.proofs.Placed.{also_there, consistent_but, consistent_still, left_ticked, there}
 use Rattle.am_world.proofs.Shelved.{stop_here}
 use Rattle.am_world.proofs.TickTaken.{stopped_turn, stops_at, tells_none, tells_some, unrefused_memory}
 use Rattle.am_world.proofs.TickTaken.{up_found, up_telling, when_err, when_ok}
-use Rattle.am_world.proofs.Turned.{quiet_alike, quiet_down, whole_at}
+use Rattle.am_world.proofs.Turned.{member_down, member_on, quiet_down, quiet_ticked, whole_at}
+use Rattle.am_world.proofs.Reached.{reached_at}
 use Rattle.am_world.proofs.state.State.tick_at.Goals as goal
 
 -- ---- a fault stopped it
@@ -54,9 +55,12 @@ returns-then-not-tick-clause-consistent g c =
     whole_at (circumstances c.occasion-occasion.result) _ x'
     (sym (ap (λ (a : Circumstances). a.rings) c.occasion-occasion.ensures))
     (sym (ap (λ (a : Circumstances). a.first) c.occasion-occasion.ensures)) (c.tick.ensures.whole x' is))
-    (λ x' is. quiet_down x' (down x' is))
+    (λ x' is. quiet_down x' (down x' is)) (λ x x' was is. member_down x x' (down x' is).up)
     (past_stopped i w.messages w.instances ys (past_but_any i w.messages w.instances c.requires.consistent.past) down
-    c.tick.ensures.at.others))
+    c.tick.ensures.at.others)
+    (reached_at i w.messages w.instances ys c.requires.consistent.numbered c.tick.ensures.at
+    (λ x x' was is. let same = (c.tick.ensures.stays x x' was is).incarnation in omega (arith, same))
+    c.requires.consistent.fresh))
 
 pub returns-then-not-tick-clause-left : goal.returns-then-not-tick-clause-left
 returns-then-not-tick-clause-left g c up clean =
@@ -103,9 +107,12 @@ returns-then-is_empty-clause-consistent g c =
     (sym (ap (λ (a : Circumstances). a.first) c.occasion-occasion.ensures)) (c.tick.ensures.whole x' is))
     (λ x' is.
     let x = also_there i ys w.instances c.tick.ensures.at.numbered c.requires.consistent.numbered x' is in
-    let on = ticks x.0 x' x.1 is in
-    quiet_alike x.0 x' (c.requires.consistent.quiet i x.0 x.1) on.up on.front)
+    quiet_ticked around_it x.0 x' told.items (ticks x.0 x' x.1 is) (c.requires.consistent.quiet i x.0 x.1))
+    (λ x x' was is. member_on x x' (ticks x x' was is).up (c.tick.ensures.stays x x' was is).number)
     (past_ticks i around_it told.items w.instances ys goes ticks w.messages _ c.requires.consistent.past w.clock
+    (λ name. ap (λ os. posted_over w.clock os name (posted_at name w.messages)) (sym none)))
+    (reached_ticks i around_it told.items w.instances ys goes ticks w.messages _ c.requires.consistent.past
+    c.requires.consistent.fresh w.clock
     (λ name. ap (λ os. posted_over w.clock os name (posted_at name w.messages)) (sym none)))
 
 pub returns-then-is_empty-clause-left : goal.returns-then-is_empty-clause-left
@@ -146,9 +153,8 @@ stop-requires g c =
     let failed = sym c.is_err.ensures.value ∙ c.if-is_err.true in
     consistent_but i w _ c.requires.consistent c.tick.ensures.at
     (record { clock = refl; common = refl }) (c.send_out.ensures.filed c.requires.consistent.filed) c.tick.ensures.stays
-    (past_but i w.messages _ w.instances ys c.tick.ensures.at.others
     (lost_none_ticks i around_it told.items w.instances ys goes ticks w.messages _ c.requires.consistent.past
-    (when_err c.send_out.result failed c.send_out.ensures.lost)) c.requires.consistent.past)
+    (when_err c.send_out.result failed c.send_out.ensures.lost))
 
 pub returns-then-is_err-clause-turn : goal.returns-then-is_err-clause-turn
 returns-then-is_err-clause-turn g c =
@@ -223,10 +229,12 @@ returns-else-is_err-clause-consistent g c =
     (sym (ap (λ (a : Circumstances). a.first) c.occasion-occasion.ensures)) (c.tick.ensures.whole x' is))
     (λ x' is.
     let x = also_there i ys w.instances c.tick.ensures.at.numbered c.requires.consistent.numbered x' is in
-    let on = ticks x.0 x' x.1 is in
-    quiet_alike x.0 x' (c.requires.consistent.quiet i x.0 x.1) on.up on.front)
+    quiet_ticked around_it x.0 x' told.items (ticks x.0 x' x.1 is) (c.requires.consistent.quiet i x.0 x.1))
+    (λ x x' was is. member_on x x' (ticks x x' was is).up (c.tick.ensures.stays x x' was is).number)
     (past_ticks i around_it told.items w.instances ys goes ticks w.messages _ c.requires.consistent.past w.clock
     (when_ok c.send_out.result went c.send_out.ensures.posts))
+    (reached_ticks i around_it told.items w.instances ys goes ticks w.messages _ c.requires.consistent.past
+    c.requires.consistent.fresh w.clock (when_ok c.send_out.result went c.send_out.ensures.posts))
 
 pub returns-else-is_err-clause-left : goal.returns-else-is_err-clause-left
 returns-else-is_err-clause-left g c up clean =
