@@ -2,8 +2,9 @@
 //!
 //! `prepare TENANTS ITEMS` makes what is held of so many tenants, so many items of each. `change TENANTS ITEMS` does
 //! that, and a ring is learned under which another instance is the tenants' replica: their States begin to be pushed to
-//! it. `state ITEMS` hands a State over, piece by piece, and `ticks TENANTS TICKS` asks so often what is sent again, of
-//! so many tenants whose push runs, where nothing is due.
+//! it. `state ITEMS` hands a State over, piece by piece. These three give nothing back, as what is pushed is kept past
+//! the event. `ticks TENANTS TICKS` asks so often what is sent again, of so many tenants whose push runs, where nothing
+//! is due.
 use crate::number;
 use am_item::{Item, SharedItem, Stamp, Thing};
 use am_ring::Instance;
@@ -12,6 +13,7 @@ use am_text::{Moment, Text};
 use am_transfer::{Peer, Settling, Span};
 use anyhow::{Context, Result, bail};
 use std::alloc::Global;
+use std::mem::forget;
 
 /// The instance whose States are sent, the one that is new among a tenant's three, and the third.
 const SENDER: u8 = 2;
@@ -43,7 +45,7 @@ pub fn run(alloc: Global, words: &[String]) -> Result<usize> {
     };
     let first = number(words, 1)?;
     match task.as_str() {
-        "prepare" => Ok(holdings(alloc, first, number(words, 2)?)?.len()),
+        "prepare" => prepare(alloc, first, number(words, 2)?),
         "change" => change(alloc, first, number(words, 2)?),
         "state" => hand_over(alloc, first),
         "ticks" => tick(alloc, first, number(words, 2)?),
@@ -121,6 +123,14 @@ fn learn(alloc: Global, settling: &mut Settling, holding: &Holding) -> Result<us
     Ok(pieces)
 }
 
+/// Makes what is held of so many tenants, so many items of each. Gives how many tenants.
+fn prepare(alloc: Global, tenants: u32, count: u32) -> Result<usize> {
+    let holdings = holdings(alloc, tenants, count)?;
+    let made = holdings.len();
+    forget(holdings);
+    Ok(made)
+}
+
 /// A ring change of so many tenants. Gives how many pieces the last State has.
 fn change(alloc: Global, tenants: u32, count: u32) -> Result<usize> {
     let holdings = holdings(alloc, tenants, count)?;
@@ -129,6 +139,8 @@ fn change(alloc: Global, tenants: u32, count: u32) -> Result<usize> {
     for holding in &holdings {
         pieces = learn(alloc, &mut settling, holding)?;
     }
+    forget(settling);
+    forget(holdings);
     Ok(pieces)
 }
 
@@ -150,6 +162,8 @@ fn hand_over(alloc: Global, count: u32) -> Result<usize> {
         behind = usize::try_from(told)?;
         sender.got(alloc, &tenant, to, INCARNATION, behind)?;
     }
+    forget((sender, receiver));
+    forget(held);
     Ok(behind)
 }
 
