@@ -1,19 +1,21 @@
-use Rattle.std.proofs.Common.{◌≡◌, ◌++◌, ℕ, Bool, true, false, List, Option, None, Result, Ok, Err, OnErr, OnOk, refl, ap, ◌∙◌}
-use Rattle.std.specs.Prelude.{if◌then◌else◌}
+use Rattle.std.proofs.Common.{◌≡◌, ℕ, Bool, List, Option, None, Some, Result, Ok, Err, OnErr, OnOk, refl, ap, ◌∙◌}
+use Rattle.std.specs.Prelude.{IsOk, MatchOption}
+use Rattle.std.proofs.Common.{Global, Vec}
 use Rattle.std.proofs.lemmas.Result.{on_err_weaker, on_ok_weaker}
 use Rattle.am_event.specs.declared.event.Event.{Event}
 use Rattle.am_event.specs.declared.output.Output.{Output}
 use Rattle.am_serve.specs.Lanes.{waiting_of}
+use Rattle.am_serve.specs.declared.host.Verdict.{Verdict}
 use Rattle.am_serve.specs.declared.host.Verdict.TheVariants.{Later, Undecided}
 use Rattle.am_world.specs.Consistent.{Contents}
 use Rattle.am_world.specs.Runs.{ForgetsOver, Run}
 use Rattle.am_world.specs.Simulation.{put_out}
 use Rattle.am_world.specs.Stopping.{Step}
-use Rattle.am_gateway.specs.Gateway.{GivesReply, Handles, IsVerdictOn, LetsTick, Sorts, SortsSome, TellsWorld}
-use Rattle.am_gateway.specs.Passing.{has_message, passes}
-use Rattle.am_gateway.specs.Sorting.{Keeps, KeepsSome, Queues, QueuesSome, TryLanes, late_replies}
+use Rattle.am_gateway.specs.Gateway.{GivesReply, Handles, IsVerdictOn, LetsTick, RestartsAt, RestartsNext, Settles, Sorts, SortsSome, TellsWorld}
+use Rattle.am_gateway.specs.Passing.{asked_in, passes}
+use Rattle.am_gateway.specs.Restarting.{counted, fallen}
+use Rattle.am_gateway.specs.Sorting.{Keeps, KeepsSome, Queues, QueuesSome}
 use Rattle.am_gateway.specs.declared.gateway.Gateway.{Gateway}
-use Rattle.am_gateway.specs.declared.sorting.LateReply.{LateReply}
 
 -- a step, what its messages came to, and what was taken away then
 pub handles : (w mid ended w' : Contents) (e : Event) (moment : ℕ) → Step w e mid
@@ -43,7 +45,7 @@ replies_with c e reply outs old mid is_tick_due g = record {
   reply_is = g.reply_is;
   sorts = record { queues = g.sorts.queues; keeps = g.sorts.keeps };
   under_way = g.under_way;
-  same = record { instance = g.same.instance; moment = g.same.moment; ready = g.same.ready };
+  same = record { moment = g.same.moment; ready = g.same.ready };
 }
 
 -- whether a tick is due is no part of a reply
@@ -86,8 +88,45 @@ tells_before result e old mid new world moment stay same tells = record {
 }
 
 -- the verdict where there is no reply yet, by whether a message was sent
-pub unreplied_on : {R : Type 0} (c : ℕ) (e : Event) (outs : List Output) (old new : Gateway R) (is_whole : Bool)
-    → has_message outs ≡ is_whole → GivesReply c e None outs old new → new.is_tick_due ≡ old.is_tick_due
-    → IsVerdictOn c e old (if is_whole then Later else Undecided) new
-unreplied_on c e outs old new true whole gives due = (outs, gives, whole, due)
-unreplied_on c e outs old new false whole gives due = (outs, gives, whole, due)
+pub unreplied_on : {R : Type 0} (c : ℕ) (e : Event) (outs : List Output) (old mid new : Gateway R) (given : Verdict)
+    (asked : Option (List ℕ)) → asked_in outs ≡ asked → GivesReply c e None outs old mid
+    → mid.is_tick_due ≡ old.is_tick_due
+    → MatchOption asked ((given ≡ Undecided) × (new ≡ mid)) (λ t. (given ≡ Later) × Settles t mid new)
+    → IsVerdictOn c e old given new
+unreplied_on c e outs old mid new given None asks gives due is =
+    rw is.0 (outs, rw is.1 gives, asks, rw is.1 due)
+unreplied_on c e outs old mid new given (Some t) asks gives due is =
+    rw is.0 (outs, t, mid, gives, asks, due, is.1)
+
+tells_with : {R X E : Type 0} (result : Result X E) (e : Event) (old mid : Gateway R) (vain : Vec ℕ Global)
+    → TellsWorld result e old mid → TellsWorld result e old (record mid { vain = vain })
+tells_with result e old mid vain tells = record {
+  outs = tells.outs;
+  handles = tells.handles;
+  sorts = on_ok_weaker result (λ s. record { queues = s.queues; keeps = s.keeps }) tells.sorts;
+  loses = on_err_weaker result (λ s. record { queues = s.queues; keeps = s.keeps }) tells.loses;
+}
+
+-- which restarts were in vain is no part of what the world was told
+pub tells_still : {R X E : Type 0} (result : Result X E) (e : Event) (old mid new : Gateway R)
+    → new ≡ record mid { vain = new.vain } → TellsWorld result e old mid → TellsWorld result e old new
+tells_still result e old mid new same tells = rw same (tells_with result e old mid new.vain tells)
+
+-- no instance is to be restarted
+pub restarts_none : {R X E : Type 0} (result : Result X E) (old new : Gateway R) (found : Option ℕ)
+    → found ≡ fallen old.vain.items old.world.now.state → found ≡ None → IsOk result → new ≡ old
+    → RestartsNext result old new
+restarts_none result old new found is none ok same = rw (← is, none) (ok, same)
+
+-- this one is
+pub restarts_one : {R X E : Type 0} (result : Result X E) (i : ℕ) (old new : Gateway R) (found : Option ℕ)
+    → found ≡ fallen old.vain.items old.world.now.state → found ≡ Some i → RestartsAt result i old new
+    → RestartsNext result old new
+restarts_one result i old new found is some at = rw (← is, some) at
+
+-- what is counted of a restart, by whether a fault stopped the instance again
+pub counted_then : {X E : Type 0} (result : Result X E) (i : ℕ) (new told old : List ℕ) (is_vain is_stopped : Bool)
+    → told ≡ old → is_vain ≡ is_stopped → OnOk result (new ≡ counted told is_vain i)
+    → OnOk result (new ≡ counted old is_stopped i)
+counted_then result i new told old is_vain is_stopped same is noted =
+    on_ok_weaker result (λ e. e ∙ ap (λ l. counted l is_vain i) same ∙ ap (λ b. counted old b i) is) noted

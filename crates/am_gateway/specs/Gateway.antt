@@ -2,7 +2,8 @@
 -- number and at the gateway's moment; the messages that come of it are passed on at once; and what the world puts out of
 -- all this is what the server is given.
 use Rattle.std.specs.Prelude.{ℕ, ◌≡◌, ◌⊎◌, ◌↔◌, ◌+◌, ◌-◌, Bool, true, false, List, ◌∷◌, Option, None, Some, IsSome}
-use Rattle.std.specs.Prelude.{Result, OnOk, OnErr, IsTrue, length, if◌then◌else◌}
+use Rattle.std.specs.declared.alloc.AllocError.{AllocError}
+use Rattle.std.specs.Prelude.{Result, IsErr, IsOk, OnOk, OnErr, MatchOption, IsTrue, is_some, length, if◌then◌else◌}
 use Rattle.am_event.specs.declared.event.Event.{Event}
 use Rattle.am_event.specs.declared.event.Event.TheVariants as event
 use Rattle.am_event.specs.declared.output.Output.{Output}
@@ -13,11 +14,14 @@ use Rattle.am_serve.specs.declared.host.Verdict.TheVariants.{Undecided, Reply, L
 use Rattle.am_server.specs.declared.service.Notice.{Notice}
 use Rattle.am_tenant.specs.Names.{same}
 use Rattle.am_world.specs.Consistent.{Contents}
+use Rattle.am_world.specs.Places.{cause_at}
 use Rattle.am_world.specs.Refusal.{refusal}
 use Rattle.am_world.specs.Runs.{ForgetsOver, Run}
 use Rattle.am_world.specs.Simulation.{put_out}
 use Rattle.am_world.specs.Stopping.{Step}
-use Rattle.am_gateway.specs.Passing.{has_message, passes}
+use Rattle.am_gateway.specs.Passing.{asked_in, passes}
+use Rattle.am_gateway.specs.Restarting.{counted, fallen}
+use Rattle.am_gateway.specs.Serving.{serving_in}
 use Rattle.am_gateway.specs.Sorting.{reply_on, Keeps, KeepsSome, Queues, QueuesSome}
 use Rattle.am_gateway.specs.declared.gateway.Gateway.{Gateway}
 use Rattle.am_gateway.specs.declared.gateway.Try.{Try}
@@ -30,9 +34,8 @@ pub record Handles (c : Contents) (e : Event) (moment : ℕ) (outs : List Output
   pub outputs : put_out handled.state ≡ outs
   pub taken : ForgetsOver handled c'
 
--- the gateway opens connections to the same instance, at the same moment, and knows the same reply to `GET /ready`
+-- the gateway is at the same moment, and knows the same reply to `GET /ready`
 pub record IsSameGateway {R : Type 0} (old new : Gateway R) : Type 0 where
-  pub instance : new.instance ≡ old.instance
   pub moment : new.moment ≡ old.moment
   pub ready : new.ready ≡ old.ready
 
@@ -96,13 +99,33 @@ pub record ClosesForMemory {R : Type 0} (c : ℕ) (e : Event) (old new : Gateway
 abbrev pub LetsTick : {R : Type 0} → Gateway R → List ℕ → Gateway R → Type 0
 LetsTick old reply new = IsTrue new.is_tick_due ↔ (IsTrue old.is_tick_due ⊎ (reply ≡ old.ready))
 
--- what the server is told of a connection, by what became of an event of it: a request is whole where it has messages
--- sent, and its reply is then still to come
+-- the world handled an event of no connection; what it put out waits, or where memory ran out a first part of it
+pub record TellsWorld {R : Type 0} {X E : Type 0} (result : Result X E) (e : Event) (old new : Gateway R) : Type 0 where
+  pub outs : List Output
+  pub handles : Handles old.world.now e old.moment outs new.world.now
+  pub sorts : OnOk result (Sorts None outs old new)
+  pub loses : OnErr result (SortsSome None outs old new)
+
+-- memory may run out here, so that of what was put out all but a first part was lost
+abbrev pub TellsMostly : {R : Type 0} → Event → Gateway R → Gateway R → Type 0
+TellsMostly e old new = (told : Result (Unit {0}) AllocError) × TellsWorld told e old new
+
+-- a tenant was settled by force; nothing else of the gateway changed
+pub record Settles {R : Type 0} (t : List ℕ) (old new : Gateway R) : Type 0 where
+  pub told : TellsMostly (event.Force t) old new
+  pub is_tick_due : new.is_tick_due ≡ old.is_tick_due
+  pub under_way : SameUnderWay old new
+  pub same : IsSameGateway old new
+
+-- What the server is told of a connection, by what became of an event of it. A request is whole where it has messages
+-- sent. As none gets lost, it has its reply then, unless too few replicas of its tenant are up and settled: the tenant
+-- is settled by force, so that its next request has a reply, and this one's is still to come.
 abbrev pub IsVerdictOn : {R : Type 0} → ℕ → Event → Gateway R → Verdict → Gateway R → Type 0
 IsVerdictOn c e old Undecided new = (outs : List Output) × GivesReply c e None outs old new
-    × (has_message outs ≡ false) × (new.is_tick_due ≡ old.is_tick_due)
-IsVerdictOn c e old Later new = (outs : List Output) × GivesReply c e None outs old new
-    × (has_message outs ≡ true) × (new.is_tick_due ≡ old.is_tick_due)
+    × (asked_in outs ≡ None) × (new.is_tick_due ≡ old.is_tick_due)
+IsVerdictOn {R = R} c e old Later new = (outs : List Output) × (t : List ℕ) × (mid : Gateway R)
+    × GivesReply c e None outs old mid
+    × (asked_in outs ≡ Some t) × (mid.is_tick_due ≡ old.is_tick_due) × Settles t mid new
 IsVerdictOn c e old (Reply bytes) new = (outs : List Output) × GivesReply c e (Some bytes.items) outs old new
     × LetsTick old bytes.items new
 IsVerdictOn c e old Gone new = RefusesEvent e old new ⊎ ClosesForMemory c e old new
@@ -111,21 +134,37 @@ IsVerdictOn c e old Gone new = RefusesEvent e old new ⊎ ClosesForMemory c e ol
 abbrev pub TakesPiece : {R : Type 0} → Gateway R → ℕ → List ℕ → Verdict → Gateway R → Type 0
 TakesPiece old c piece verdict new = IsVerdictOn c (piece_event old c piece) old verdict new
 
--- the world was told that a connection was opened to the gateway's instance, or refused that
-pub record OpensConnection {R : Type 0} (old : Gateway R) (c : ℕ) (result : Bool) (new : Gateway R) : Type 0 where
-  pub step : Step old.world.now (event.Open c old.instance) new.world.now
-  pub result_is : IsTrue result ↔ (refusal old.world.now.state (event.Open c old.instance) ≡ None)
+-- the world was told that a connection was opened to an instance, or refused that
+pub record OpensAt {R : Type 0} (i : ℕ) (old : Gateway R) (c : ℕ) (result : Bool) (new : Gateway R) : Type 0 where
+  pub step : Step old.world.now (event.Open c i) new.world.now
+  pub result_is : IsTrue result ↔ (refusal old.world.now.state (event.Open c i) ≡ None)
   pub refused : result ≡ false → new ≡ old
   pub rest : new ≡ record old { world = new.world }
 
+-- a connection is opened where the gateway's world serves; where no instance is up it isn't, and nothing changed
+abbrev pub OpensConnection : {R : Type 0} → Gateway R → ℕ → Bool → Gateway R → Type 0
+OpensConnection old c result new = MatchOption (serving_in old.world.now.state)
+    ((result ≡ false) × (new ≡ old)) (λ i. OpensAt i old c result new)
+
 -- ---- the clock and the calls
 
--- the world handled an event of no connection; what it put out waits, or where memory ran out a first part of it
-pub record TellsWorld {R : Type 0} {X E : Type 0} (result : Result X E) (e : Event) (old new : Gateway R) : Type 0 where
-  pub outs : List Output
-  pub handles : Handles old.world.now e old.moment outs new.world.now
-  pub sorts : OnOk result (Sorts None outs old new)
-  pub loses : OnErr result (SortsSome None outs old new)
+-- an instance was restarted, and whether that was in vain is counted
+pub record RestartsAt {R : Type 0} {X E : Type 0} (result : Result X E) (i : ℕ) (old new : Gateway R) : Type 0 where
+  pub told : TellsMostly (event.Restart i) old new
+  pub counted : OnOk result (new.vain.items
+      ≡ counted old.vain.items (is_some (cause_at i new.world.now.state.instances)) i)
+
+-- the instance was restarted that is next, where one is
+abbrev pub RestartsNext : {R : Type 0} {X E : Type 0} → Result X E → Gateway R → Gateway R → Type 0
+RestartsNext result old new = MatchOption (fallen old.vain.items old.world.now.state)
+    (IsOk result × (new ≡ old)) (λ i. RestartsAt result i old new)
+
+-- the instance was restarted that is next, where one is, and the world was told the moment; or memory ran out before
+abbrev pub GoesOn : {R : Type 0} {X E : Type 0} → Result X E → Gateway R → Gateway R → Type 0
+GoesOn {R = R} {X = X} {E = E} result old new = (restarted : Result X E) × (mid : Gateway R)
+    × RestartsNext restarted old mid
+    × ((IsErr restarted × IsErr result × (new ≡ mid))
+    ⊎ (IsOk restarted × TellsWorld result (event.Tick mid.moment) mid new))
 
 -- the notice that waited longest of the tenant whose turn it is, which has fewer calls under way than there are places free, is
 -- under way now

@@ -1,3 +1,5 @@
 pub mod Passing
+pub mod Restarting
+pub mod Serving
 pub mod Sorting
 pub mod Gateway

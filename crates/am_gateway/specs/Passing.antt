@@ -1,8 +1,8 @@
 -- The messages that a world puts out, in one process, where none gets lost on its way: each is delivered once, and then
 -- lost, so that the world holds none.
 use Rattle.std.specs.Prelude.{ℕ, ◌≡◌, nat_lt, Bool, true, false, List, [], ◌∷◌, ◌++◌, Option, None, Some}
-use Rattle.std.specs.Prelude.{drop, slice_get, take, if◌then◌else◌}
-use Rattle.std.specs.List.{flat_map, list_any}
+use Rattle.std.specs.Prelude.{drop, find, slice_get, take, if◌then◌else◌}
+use Rattle.std.specs.List.{flat_map}
 use Rattle.am_event.specs.declared.event.Event.{Event}
 use Rattle.am_event.specs.declared.event.Event.TheVariants.{Deliver, Lose}
 use Rattle.am_event.specs.declared.output.Output.{Output}
@@ -16,9 +16,15 @@ is_message (Reply connection bytes) = false
 is_message (Notice attempt tries url bytes) = false
 is_message (Send message) = true
 
--- a message is among outputs
-abbrev pub has_message : List Output → Bool
-has_message outs = list_any is_message outs
+-- the tenant that messages among outputs are about: that of the first
+abbrev pub tenant_in : Option Output → Option (List ℕ)
+tenant_in None = None
+tenant_in (Some (Reply connection bytes)) = None
+tenant_in (Some (Notice attempt tries url bytes)) = None
+tenant_in (Some (Send message)) = Some message.tenant
+
+abbrev pub asked_in : List Output → Option (List ℕ)
+asked_in outs = tenant_in (find is_message outs)
 
 -- the name of a message
 abbrev pub message_in : Output → Option MessageName

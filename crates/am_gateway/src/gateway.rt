@@ -1,20 +1,22 @@
 //! What stands between a server and its world.
-ghost use Rattle.std.specs.Prelude.{◌≡◌, ◌↔◌, ◌∷◌, ℕ, List, [], None, Some, false, true, min, IfOk, IfSome, IfNone, IsOk, IsTrue, OnErr, OnOk, if◌then◌else◌};
+ghost use Rattle.std.specs.Prelude.{◌≡◌, ◌∷◌, ℕ, List, [], Some, false, true, min, IfOk, IfSome, IfNone, IsOk, MatchOption, OnErr, OnOk};
 ghost use Rattle.am_http.specs.Replies.{ready_reply as the_ready_reply};
 ghost use Rattle.am_serve.specs.Lanes.{is_ready, under_way_of, waiting_of};
 ghost use Rattle.am_event.specs.declared.event.Event.TheVariants as event;
-ghost use Rattle.am_serve.specs.declared.host.Verdict.TheVariants as Verdict;
+ghost use Rattle.am_serve.specs.declared.host.Verdict.TheVariants as verdict;
 ghost use Rattle.am_world.specs.Consistent.{last_moment};
-ghost use Rattle.am_world.specs.Places.{cause_at};
 ghost use Rattle.am_world.specs.Runs.{ForgetsOver};
 ghost use Rattle.am_world.specs.Simulation.{put_out};
 
-use crate::passing::{has_message, pass_all};
+use crate::passing::{asked_tenant, pass_all};
+use crate::restarting::{fallen, note};
+use crate::serving::{has_quorum, serving};
 use crate::sorting::{LateReply, sort};
 use am_http::{ConnectionId, ready_reply};
 use am_rows::Rows;
 use am_serve::{Host, Lanes, Verdict};
 use am_server::{Notice, Service};
+use am_tenant::TenantName;
 use am_text::Octets;
 use am_world::{AttemptName, Event, LAST_MOMENT, World};
 use std::alloc::{AllocError, Global};
@@ -31,12 +33,9 @@ pub struct Try {
 
 /// A world, with what it put out and the server hasn't taken yet: notices whose calls weren't begun, and replies that came
 /// later than their requests.
-#[derive(Drop)]
 pub struct Gateway<'w, R: Rows> {
     alloc: Global,
     world: &'w mut World<R>,
-    // The instance that all connections are opened to.
-    instance: u8,
     // The moment of what happens now, in milliseconds since 1970.
     moment: u64,
     // The reply to `GET /ready`, after which the clock is told.
@@ -44,42 +43,67 @@ pub struct Gateway<'w, R: Rows> {
     is_tick_due: bool,
     notices: Lanes<Notice<Try>>,
     replies: VecDeque<LateReply>,
+    // For each restart that was in vain since its instance was last up, the instance's number.
+    vain: Vec<u8>,
+}
+
+// Written out, so that a crate which owns a gateway has no need to prove anew how each of its parts is dropped.
+impl<R: Rows> Drop for Gateway<'_, R> {
+    fn drop(self) {
+        let Gateway {
+            alloc: _alloc,
+            world: _world,
+            moment: _moment,
+            ready,
+            is_tick_due: _is_tick_due,
+            notices,
+            replies,
+            vain,
+        } = self;
+        drop(ready);
+        drop(notices);
+        drop(replies);
+        drop(vain);
+    }
 }
 
 impl<'w, R: Rows> Gateway<'w, R> {
     ghost use Rattle.am_gateway.specs.Gateway.{IsSameGateway, IsVerdictOn, LetsTick, LosesEvent, SameUnderWay, Sorts};
-    ghost use Rattle.am_gateway.specs.Gateway.{SortsSome, TakesPiece, TellsWorld, piece_event};
+    ghost use Rattle.am_gateway.specs.Gateway.{RestartsNext, Settles, SortsSome, TakesPiece, TellsWorld, piece_event};
     ghost use Rattle.am_gateway.specs.Sorting.{reply_on};
 
-    /// A gateway to a world that was just opened, whose connections are all opened to one instance.
+    /// A gateway to a world that was just opened.
     ///
     /// # Errors
     /// Out of memory.
-    pub fn new(
-        alloc: Global,
-        world: &'w mut World<R>,
-        instance: u8,
-    ) -> Result<Gateway<'w, R>, AllocError>
+    pub fn new(alloc: Global, world: &'w mut World<R>) -> Result<Gateway<'w, R>, AllocError>
         ensures world { IfOk result (λ gateway. gateway.world.now ≡ world.old) }
-        ensures instance { IfOk result (λ gateway. gateway.instance ≡ instance) }
         ensures moment { IfOk result (λ gateway. gateway.moment ≡ 0) }
         ensures ready { IfOk result (λ gateway. gateway.ready ≡ the_ready_reply) }
         ensures is_tick_due { IfOk result (λ gateway. gateway.is_tick_due ≡ false) }
         ensures waiting { IfOk result (λ gateway. (t : List ℕ) → waiting_of t gateway.notices.lanes ≡ []) }
         ensures under_way { IfOk result (λ gateway. (t : List ℕ) → under_way_of t gateway.notices.lanes ≡ 0) }
         ensures replies { IfOk result (λ gateway. gateway.replies.items ≡ []) }
+        ensures vain { IfOk result (λ gateway. gateway.vain.items ≡ []) }
     {
         let ready = ready_reply(alloc)?;
         Ok(Gateway {
             alloc,
             world,
-            instance,
             moment: 0,
             ready,
             is_tick_due: false,
             notices: Lanes::new(alloc),
             replies: VecDeque::new(alloc),
+            vain: Vec::new(alloc),
         })
+    }
+
+    /// The world behind it.
+    pub fn world(&self) -> &World<R>
+        ensures { result.now ≡ self.now.world.now }
+    {
+        self.world
     }
 
     // Takes away what the world has put out: its notices wait behind those of their tenants, the first reply on a
@@ -93,6 +117,7 @@ impl<'w, R: Rows> Gateway<'w, R> {
         ensures is_tick_due { self.new.is_tick_due ≡ self.old.is_tick_due }
         ensures under_way { SameUnderWay self.old self.new }
         ensures same { IsSameGateway self.old self.new }
+        ensures vain { self.new.vain ≡ self.old.vain }
     {
         let outputs = self.world.take_outputs(self.alloc);
         sort(&mut self.notices, &mut self.replies, outputs, connection)
@@ -104,6 +129,7 @@ impl<'w, R: Rows> Gateway<'w, R> {
         ensures is_tick_due { self.new.is_tick_due ≡ self.old.is_tick_due }
         ensures under_way { SameUnderWay self.old self.new }
         ensures same { IsSameGateway self.old self.new }
+        ensures vain { self.new.vain ≡ self.old.vain }
     {
         let _ = self.world.step(self.alloc, event);
         pass_all(self.world, self.alloc, self.moment);
@@ -135,15 +161,51 @@ impl<'w, R: Rows> Gateway<'w, R> {
             return Ok(Verdict::Gone);
         }
         pass_all(self.world, self.alloc, self.moment);
-        let is_whole = has_message(self.world.outputs());
+        let asked = asked_tenant(self.world.outputs());
         match self.sort(Some(connection)) {
             Ok(Some(reply)) => {
                 self.note(&reply);
                 Ok(Verdict::Reply(reply.into_vec()))
             }
-            Ok(None) => Ok(unreplied(is_whole)),
+            Ok(None) => Ok(self.unreplied(asked)),
             Err(error) => Err(error),
         }
+    }
+
+    // The verdict on a request that got no reply yet, of a tenant where it is whole.
+    fn unreplied(&mut self, asked: Option<TenantName>) -> Verdict
+        ensures { MatchOption asked ((result ≡ verdict.Undecided) × (self.new ≡ self.old))
+            (λ t. (result ≡ verdict.Later) × Settles t self.old self.new) }
+    {
+        let Some(tenant) = asked else {
+            return Verdict::Undecided;
+        };
+        self.settle(tenant);
+        Verdict::Later
+    }
+
+    // Settles a tenant by force.
+    fn settle(&mut self, tenant: TenantName)
+        ensures { Settles tenant self.old self.new }
+    {
+        let event = Event::Force { tenant };
+        let _ = self.tell(&event);
+    }
+
+    // Restarts the instance that is next, where one is.
+    fn restart_next(&mut self) -> Result<(), AllocError>
+        ensures restarts { RestartsNext result self.old self.new }
+        ensures is_tick_due { self.new.is_tick_due ≡ self.old.is_tick_due }
+        ensures under_way { SameUnderWay self.old self.new }
+        ensures same { IsSameGateway self.old self.new }
+    {
+        let Some(instance) = fallen(self.world, &self.vain) else {
+            return Ok(());
+        };
+        let event = Event::Restart { instance };
+        let _ = self.tell(&event);
+        let is_vain = self.world.cause(instance).is_some();
+        note(&mut self.vain, instance, is_vain)
     }
 
     // A reply to `GET /ready` lets the clock be told.
@@ -157,17 +219,6 @@ impl<'w, R: Rows> Gateway<'w, R> {
     }
 }
 
-// The verdict on a request that got no reply yet.
-fn unreplied(is_whole: bool) -> Verdict
-    ensures { result ≡ (if is_whole then Verdict.Later else Verdict.Undecided) }
-{
-    if is_whole {
-        Verdict::Later
-    } else {
-        Verdict::Undecided
-    }
-}
-
 impl<R: Rows> Host for Gateway<'_, R> {
     ghost use Rattle.am_gateway.specs.Gateway.{ClosesConnection, OpensConnection, TakesPiece};
 
@@ -177,10 +228,14 @@ impl<R: Rows> Host for Gateway<'_, R> {
 
     ghost closes = { ClosesConnection };
 
+    // A connection is opened to the lowest instance that is up.
     fn open(&mut self, connection: u64) -> bool {
+        let Some(instance) = serving(self.world) else {
+            return false;
+        };
         let event = Event::Open {
             connection: ConnectionId::new(connection),
-            instance: self.instance,
+            instance,
         };
         self.world.step(self.alloc, &event).is_ok()
     }
@@ -206,14 +261,16 @@ impl<R: Rows> Host for Gateway<'_, R> {
 
 impl<R: Rows> Service for Gateway<'_, R> {
     ghost use Rattle.am_gateway.specs.Gateway.{BeginsCall, EndsCall, GivesUpCall, IsSameGateway, SameUnderWay};
-    ghost use Rattle.am_gateway.specs.Gateway.{TellsWorld};
+    ghost use Rattle.am_gateway.specs.Gateway.{GoesOn, TellsWorld};
+    ghost use Rattle.am_gateway.specs.Serving.{has_quorum as has_quorum_in};
 
     type Name = Try;
 
+    // As long as two instances are up.
     fn is_up(&self) -> bool
-        ensures { IsTrue result ↔ (cause_at self.now.instance self.now.world.now.state.instances ≡ None) }
+        ensures { result ≡ has_quorum_in self.now.world.now.state }
     {
-        self.world.cause(self.instance).is_none()
+        has_quorum(self.world)
     }
 
     // The world takes no later moment than its last.
@@ -223,10 +280,12 @@ impl<R: Rows> Service for Gateway<'_, R> {
         self.moment = moment.min(LAST_MOMENT);
     }
 
-    // The world is told the moment where `GET /ready` was answered since it was last told.
+    // The world is told the moment where `GET /ready` was answered since it was last told. Before that an instance is
+    // restarted that a fault stopped, where one is.
     fn tick(&mut self) -> Result<(), AllocError>
         ensures not_due { self.old.is_tick_due ≡ false → IsOk result × (self.new ≡ self.old) }
-        ensures told { self.old.is_tick_due ≡ true → TellsWorld result (event.Tick self.old.moment) self.old self.new }
+        ensures told { self.old.is_tick_due ≡ true →
+            GoesOn result (record self.old { is_tick_due = false }) self.new }
         ensures is_tick_due { self.new.is_tick_due ≡ false }
         ensures under_way { SameUnderWay self.old self.new }
         ensures same { IsSameGateway self.old self.new }
@@ -235,6 +294,7 @@ impl<R: Rows> Service for Gateway<'_, R> {
             return Ok(());
         }
         self.is_tick_due = false;
+        self.restart_next()?;
         let event = Event::Tick {
             moment: self.moment,
         };

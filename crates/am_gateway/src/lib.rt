@@ -4,6 +4,9 @@
 
 mod gateway;
 mod passing;
+mod restarting;
+mod serving;
 mod sorting;
 
 pub use gateway::{Gateway, Try};
+pub use serving::has_quorum;

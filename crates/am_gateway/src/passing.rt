@@ -1,12 +1,14 @@
 //! The messages of a world, in one process: none gets lost on its way.
-ghost use Rattle.std.specs.Prelude.{◌≡◌, Some};
-ghost use Rattle.am_gateway.specs.Passing.{AddsTo, deliveries_at, has_message, losses, message_at};
+ghost use Rattle.std.specs.Option.{option_copied};
+ghost use Rattle.std.specs.Prelude.{◌≡◌, Some, find};
+ghost use Rattle.am_gateway.specs.Passing.{AddsTo, asked_in, deliveries_at, is_message, losses, message_at};
 ghost use Rattle.am_gateway.specs.Passing.{passes, passes_at};
 ghost use Rattle.am_world.specs.Runs.{Run};
 ghost use Rattle.am_world.specs.Simulation.{put_out};
 
 use am_messages::MessageName;
 use am_rows::Rows;
+use am_tenant::TenantName;
 use am_world::{Event, Output, World};
 use std::alloc::Global;
 
@@ -25,13 +27,23 @@ pub fn pass_all<R: Rows>(world: &mut World<R>, alloc: Global, moment: u64)
     }
 }
 
-/// Whether a message is among outputs.
-pub fn has_message(outputs: &[Output]) -> bool
-    ensures { result ≡ has_message outputs.now }
+/// The tenant that messages among outputs are about, where one is.
+pub fn asked_tenant(outputs: &[Output]) -> Option<TenantName>
+    ensures { result ≡ asked_in outputs.now }
+{
+    match first_message(outputs) {
+        Some(Output::Send(message)) => Some(message.tenant),
+        _ => None,
+    }
+}
+
+// The first message among outputs.
+fn first_message(outputs: &[Output]) -> Option<&Output>
+    ensures { option_copied result ≡ find is_message outputs.now }
 {
     outputs
         .iter()
-        .any(|output| matches!(output, Output::Send(_)))
+        .find(|output| matches!(output, Output::Send(_)))
 }
 
 // Delivers the message at a place among the outputs, where it is one, and has it lost then.

@@ -1,7 +1,9 @@
-//! Worked examples of what fails while a scenario is played: a call of its link, or of a store. The program itself
-//! plays whole scenarios (`tests/`).
+//! Worked examples of what fails while a scenario is played or clients are served: a call of a link, or of a store. The
+//! program itself plays whole scenarios (`tests/`).
 #![tactic(auto)]
 
+#[cfg(test)]
+mod gateways;
 #[cfg(test)]
 mod links;
 #[cfg(test)]

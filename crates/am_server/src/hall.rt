@@ -54,8 +54,8 @@ impl<'s, V: Service> Hall<'s, V> {
         })
     }
 
-    pub fn is_up(&self) -> bool {
-        self.service.is_up()
+    pub fn service(&self) -> &V {
+        self.service
     }
 
     pub fn calls(&self) -> usize {

@@ -26,7 +26,6 @@ const CROWDED: u64 = 20;
 const LISTENER: Token = Token(usize::MAX);
 
 /// A service behind a listener. Connections are served side by side: none waits for another.
-#[derive(Drop)]
 pub struct Server<'s, V: Service> {
     poll: Poll,
     events: Events<Global>,
@@ -43,6 +42,30 @@ pub struct Server<'s, V: Service> {
     opened: Instant,
     clock: SteadyClock,
     hall: Hall<'s, V>,
+}
+
+// Written out, so that a crate which owns a server has no need to prove anew how each of its parts is dropped.
+impl<V: Service> Drop for Server<'_, V> {
+    fn drop(self) {
+        let Server {
+            poll,
+            events,
+            listener,
+            waiting,
+            is_knocked: _is_knocked,
+            is_refused: _is_refused,
+            is_behind: _is_behind,
+            swept: _swept,
+            opened: _opened,
+            clock: _clock,
+            hall,
+        } = self;
+        drop(poll);
+        drop(events);
+        drop(listener);
+        drop(waiting);
+        drop(hall);
+    }
 }
 
 impl<'s, V: Service> Server<'s, V> {
@@ -87,9 +110,14 @@ impl<'s, V: Service> Server<'s, V> {
         self.hall.is_done()
     }
 
-    /// Whether the service serves: no fault stopped it.
+    /// Who is served.
+    pub fn service(&self) -> &V {
+        self.hall.service()
+    }
+
+    /// Whether the service serves on.
     pub fn is_up(&self) -> bool {
-        self.hall.is_up()
+        self.service().is_up()
     }
 
     /// Waits a quarter of a second at most, and then does what can be done without waiting: accepts connections, moves

@@ -31,7 +31,7 @@ pub trait Service: Host {
     /// What the service knows a call by.
     type Name: Drop;
 
-    /// Whether it serves: no fault stopped it.
+    /// Whether it serves on: no fault stopped it.
     fn is_up(&self) -> bool;
 
     /// All that comes from here on happens at this moment, in milliseconds since 1970.

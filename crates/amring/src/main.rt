@@ -2,7 +2,7 @@
 //!
 //! It ends with the status
 //! - 0 where all was played or served, or help or the version was asked for;
-//! - 1 where a stream, a socket or the clock failed, or the instance stopped that serves;
+//! - 1 where a stream, a socket or the clock failed, or fewer than two instances are left that serve;
 //! - 2 where the command line, a store or a line of a scenario was refused, or the port can't be had;
 //! - 3 where it is out of memory.
 #![tactic(auto)]

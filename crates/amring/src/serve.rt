@@ -2,12 +2,11 @@
 
 ghost use Rattle.std.specs.Prelude.{◌≡◌, length};
 
-use crate::stores::{self, NUMBERS};
-use am_gateway::Gateway;
+use crate::stores;
+use am_gateway::{Gateway, has_quorum};
 use am_options::Serving;
 use am_play::stops::Stops;
 use am_report::ending;
-use am_ring::Ring;
 use am_rows::Rows;
 use am_server::{Server, listen};
 use am_setup::Setup;
@@ -31,8 +30,8 @@ struct Site {
     count: Option<u64>,
 }
 
-/// Serves connections until as many were answered as were asked for, and prints `faults N` then; or until the instance stops,
-/// which is told on standard error and ends the program with a failure.
+/// Serves connections until as many were answered as were asked for, and prints `faults N` then; or until fewer than two
+/// instances are up, which ends the program with a failure. That an instance stops is told on standard error at once.
 ///
 /// # Errors
 /// Those of the system's poll and clocks, and of printing; out of memory.
@@ -96,10 +95,9 @@ fn serve_over<S: Rows + Drop, R: Net + Clock + Print + AllocGlobal, E: Sink>(
 ) -> io::Result<ExitCode>
     requires { length stores.items ≡ 8 }
 {
-    let serving = lowest(&setup.ring());
     match World::open(rt.alloc(), setup, stores) {
         Ok(mut world) => {
-            let served = serve_world(rt, &mut world, serving, site, errors);
+            let served = serve_world(rt, &mut world, site, errors);
             // The process ends: what the world holds need not be given back piece by piece, and each store is at its last
             // commit.
             mem::forget(world);
@@ -113,7 +111,6 @@ fn serve_over<S: Rows + Drop, R: Net + Clock + Print + AllocGlobal, E: Sink>(
 fn serve_world<S: Rows + Drop, R: Net + Clock + Print + AllocGlobal, E: Sink>(
     rt: &R,
     world: &mut World<S>,
-    serving: u8,
     site: Site,
     errors: &mut E,
 ) -> io::Result<ExitCode> {
@@ -123,14 +120,14 @@ fn serve_world<S: Rows + Drop, R: Net + Clock + Print + AllocGlobal, E: Sink>(
         count,
     } = site;
     announce(rt.alloc(), address, errors)?;
-    attend(rt, listener, world, serving, count, errors)?;
-    Stops::none().tell(rt.alloc(), world, errors)?;
+    attend(rt, listener, world, count, errors)?;
     let faults = world.faults();
     print!(rt; "faults {faults}\n")?;
-    Ok(match world.cause(serving) {
-        None => ExitCode::SUCCESS,
-        Some(_) => ExitCode::FAILURE,
-    })
+    if has_quorum(world) {
+        Ok(ExitCode::SUCCESS)
+    } else {
+        Ok(ExitCode::FAILURE)
+    }
 }
 
 /// Tells where connections are taken.
@@ -141,41 +138,32 @@ fn announce<E: Sink>(alloc: Global, address: SocketAddr, errors: &mut E) -> io::
     errors.write_whole(ready.as_bytes())
 }
 
-/// The lowest instance of the ring, to which all connections are opened.
-fn lowest(ring: &Ring) -> u8 {
-    for number in NUMBERS {
-        if ring.contains(number) {
-            return number;
-        }
-    }
-    NUMBERS[0]
-}
-
-/// Serves the clients of a listener until all is done, or the instance stopped.
+/// Serves the clients of a listener until all is done, or too few instances are up.
 fn attend<S: Rows + Drop, R: Net + Clock + AllocGlobal, E: Sink>(
     rt: &R,
     listener: TcpListener,
     world: &mut World<S>,
-    serving: u8,
     count: Option<u64>,
     errors: &mut E,
 ) -> io::Result<()> {
-    let mut gateway = Gateway::new(rt.alloc(), world, serving)?;
+    let mut gateway = Gateway::new(rt.alloc(), world)?;
     let mut server = Server::open(rt, rt.alloc(), listener, &mut gateway, count)?;
     take_turns(rt, &mut server, errors)
 }
 
-/// Has a server work, turn by turn, until all is done, or the instance stopped.
+/// Has a server work, turn by turn, until all is done, or too few instances are up. Tells of each that stops.
 fn take_turns<S: Rows + Drop, R: Net + Clock + AllocGlobal, E: Sink>(
     rt: &R,
     server: &mut Server<'_, Gateway<'_, S>>,
     errors: &mut E,
 ) -> io::Result<()> {
+    let mut stops = Stops::none();
     for _ in 0..u64::MAX {
         if server.is_done() || !server.is_up() {
             break;
         }
         take_turn(rt, server, errors)?;
+        stops.tell(rt.alloc(), server.service().world(), errors)?;
     }
     Ok(())
 }

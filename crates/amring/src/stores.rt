@@ -13,7 +13,7 @@ use std::io;
 use std::process::ExitCode;
 
 /// The numbers of the instances.
-pub const NUMBERS: [u8; 8] = [1, 2, 3, 4, 5, 6, 7, 8];
+const NUMBERS: [u8; 8] = [1, 2, 3, 4, 5, 6, 7, 8];
 
 /// The exit status where a store is refused.
 const REFUSED: u8 = 2;

@@ -1,5 +1,5 @@
 use Rattle.std.proofs.Common.{◌∙◌, ap, inr, sym}
-use Rattle.am_gateway.specs.Passing.{has_message}
+use Rattle.am_gateway.specs.Passing.{asked_in}
 use Rattle.am_gateway.proofs.HearingLemmas.{handles, lets_before, replies_still, unreplied_on}
 use Rattle.am_gateway.proofs.gateway.Gateway.answer.Goals as goal
 
@@ -9,28 +9,22 @@ returns-in-Err-clause-err g c = record {
   is_tick_due = c.sort.ensures.is_tick_due;
   under_way = c.sort.ensures.under_way;
   same = record {
-    instance = c.sort.ensures.same.instance;
     moment = c.sort.ensures.same.moment;
     ready = c.sort.ensures.same.ready;
   };
 }
 
 pub returns-in-Ok-None-clause-verdict : goal.returns-in-Ok-None-clause-verdict
-returns-in-Ok-None-clause-verdict g c = rw c.unreplied.ensures (
-    unreplied_on _ _ _ c.args.self.now c.sort.new.self c.has_message-is_whole.result
-    (sym (c.has_message-is_whole.ensures ∙ ap has_message c.outputs.ensures)) (record {
+returns-in-Ok-None-clause-verdict g c =
+    unreplied_on _ _ _ c.args.self.now c.sort.new.self c.unreplied.new.self _ c.asked_tenant-asked.result
+    (sym (c.asked_tenant-asked.ensures ∙ ap asked_in c.outputs.ensures)) (record {
       handles = handles _ _ _ _ _ _ c.step.ensures.step c.pass_all.ensures c.sort.ensures.forgets;
       reply_is = sym (sym c.in-Ok-None.field-0-is ∙ c.in-Ok-None.ensures.reply);
       sorts = record { queues = c.in-Ok-None.ensures.sorted.queues; keeps = c.in-Ok-None.ensures.sorted.keeps };
       under_way = c.sort.ensures.under_way;
-      same = record {
-        instance = c.sort.ensures.same.instance;
-        moment = c.sort.ensures.same.moment;
-        ready = c.sort.ensures.same.ready;
-      };
+      same = record { moment = c.sort.ensures.same.moment; ready = c.sort.ensures.same.ready };
     })
-    c.sort.ensures.is_tick_due
-    )
+    c.sort.ensures.is_tick_due c.unreplied.ensures
 
 pub returns-in-Ok-Some-clause-verdict : goal.returns-in-Ok-Some-clause-verdict
 returns-in-Ok-Some-clause-verdict g c = rw c.into_vec.ensures (
@@ -41,7 +35,6 @@ returns-in-Ok-Some-clause-verdict g c = rw c.into_vec.ensures (
     sorts = record { queues = c.in-Ok-Some.ensures.sorted.queues; keeps = c.in-Ok-Some.ensures.sorted.keeps };
     under_way = c.sort.ensures.under_way;
     same = record {
-      instance = c.sort.ensures.same.instance;
       moment = c.sort.ensures.same.moment;
       ready = c.sort.ensures.same.ready;
     };
