@@ -1,5 +1,5 @@
-use Rattle.std.proofs.Common.{◌≡◌, ℕ, Bool, List, Option, None, Some, Result, Ok, Err, OnErr, OnOk, refl, ap, ◌∙◌}
-use Rattle.std.specs.Prelude.{IsOk, MatchOption}
+use Rattle.std.proofs.Common.{◌≡◌, ℕ, Bool, true, false, List, Option, None, Some, Result, Ok, Err, OnErr, OnOk, refl, ap, ◌∙◌}
+use Rattle.std.specs.Prelude.{IfOk, IsErr, IsOk, MatchOption, is_none}
 use Rattle.std.proofs.Common.{Global, Vec}
 use Rattle.std.proofs.lemmas.Result.{on_err_weaker, on_ok_weaker}
 use Rattle.am_event.specs.declared.event.Event.{Event}
@@ -11,7 +11,11 @@ use Rattle.am_world.specs.Consistent.{Contents}
 use Rattle.am_world.specs.Runs.{ForgetsOver, Run}
 use Rattle.am_world.specs.Simulation.{put_out}
 use Rattle.am_world.specs.Stopping.{Step}
-use Rattle.am_gateway.specs.Gateway.{GivesReply, Handles, IsVerdictOn, LetsTick, RestartsAt, RestartsNext, Settles, Sorts, SortsSome, TellsWorld}
+use Rattle.am_gateway.specs.Gateway.{GivesReply, Handles, IsVerdictOn, LetsTick, LearnsNext, Operates, RestartsAt, RestartsNext, Settles, SettlesInTime, Sorts, SortsSome, TellsWorld}
+use Rattle.am_event.specs.declared.event.Event.TheVariants as event
+use Rattle.am_event.specs.declared.refused.Refused.{Refused}
+use Rattle.am_world.specs.Refusal.{refusal}
+use Rattle.am_gateway.specs.Learning.{behind}
 use Rattle.am_gateway.specs.Passing.{asked_in, passes}
 use Rattle.am_gateway.specs.Restarting.{counted, fallen}
 use Rattle.am_gateway.specs.Sorting.{Keeps, KeepsSome, Queues, QueuesSome}
@@ -91,7 +95,7 @@ tells_before result e old mid new world moment stay same tells = record {
 pub unreplied_on : {R : Type 0} (c : ℕ) (e : Event) (outs : List Output) (old mid new : Gateway R) (given : Verdict)
     (asked : Option (List ℕ)) → asked_in outs ≡ asked → GivesReply c e None outs old mid
     → mid.is_tick_due ≡ old.is_tick_due
-    → MatchOption asked ((given ≡ Undecided) × (new ≡ mid)) (λ t. (given ≡ Later) × Settles t mid new)
+    → MatchOption asked ((given ≡ Undecided) × (new ≡ mid)) (λ t. (given ≡ Later) × SettlesInTime t mid new)
     → IsVerdictOn c e old given new
 unreplied_on c e outs old mid new given None asks gives due is =
     rw is.0 (outs, rw is.1 gives, asks, rw is.1 due)
@@ -130,3 +134,55 @@ pub counted_then : {X E : Type 0} (result : Result X E) (i : ℕ) (new told old 
     → OnOk result (new ≡ counted old is_stopped i)
 counted_then result i new told old is_vain is_stopped same is noted =
     on_ok_weaker result (λ e. e ∙ ap (λ l. counted l is_vain i) same ∙ ap (λ b. counted old b i) is) noted
+
+-- no instance is behind
+pub learns_none : {R X E : Type 0} (result : Result X E) (old new : Gateway R) (found : Option ℕ)
+    → found ≡ behind old.world.now.state → found ≡ None → IsOk result → new ≡ old → LearnsNext result old new
+learns_none result old new found is none ok same = rw (← is, none) (ok, same)
+
+-- this one is
+pub learns_one : {R X E : Type 0} (result : Result X E) (i : ℕ) (old new : Gateway R) (found : Option ℕ)
+    → found ≡ behind old.world.now.state → found ≡ Some i → TellsWorld result (event.Learn i) old new
+    → LearnsNext result old new
+learns_one result i old new found is some tells = rw (← is, some) tells
+
+settles_where : {R : Type 0} (t : List ℕ) (old new : Gateway R) (found : Option ℕ)
+    → (is_none found ≡ true → Settles t old new) → (is_none found ≡ false → new ≡ old)
+    → MatchOption found (Settles t old new) (λ i. new ≡ old)
+settles_where t old new None settles stays = settles refl
+settles_where t old new (Some i) settles stays = stays refl
+
+-- a tenant is settled where no instance is behind
+pub settles_by : {R : Type 0} (t : List ℕ) (old new : Gateway R) (found : Option ℕ) (none : Bool)
+    → found ≡ behind old.world.now.state → none ≡ is_none found
+    → (none ≡ true → Settles t old new) → (none ≡ false → new ≡ old) → SettlesInTime t old new
+settles_by t old new found none is told settles stays =
+    rw (← is) (settles_where t old new found (λ e. settles (told ∙ e)) (λ e. stays (told ∙ e)))
+
+-- an event that was refused
+pub operates_none : {R E : Type 0} (result : Result (Option Refused) E) (e : Event) (old new : Gateway R) (why : Refused)
+    → refusal old.world.now.state e ≡ Some why → result ≡ Ok (Some why) → new ≡ old → Operates result e old new
+operates_none result e old new why refused is same = rw refused (is, same)
+
+-- .. and one that happened
+pub operates : {R E : Type 0} (result : Result (Option Refused) E) (e : Event) (old new : Gateway R)
+    → refusal old.world.now.state e ≡ None → IfOk result (λ why. why ≡ None) → TellsWorld result e old new
+    → Operates result e old new
+operates result e old new none is tells = rw none (is, tells)
+
+-- a result is no success and failure at once
+pub not_both : {X E : Type 0} (result : Result X E) → IsErr result → IsOk result → ⊥
+not_both (Ok value) err ok = cc
+not_both (Err error) err ok = cc
+
+-- nothing is asked of a failure
+pub only_err : {X E : Type 0} (result : Result X E) (P : Type 0) → IsErr result → OnOk result P
+only_err (Ok value) P err = cc
+only_err (Err error) P err = tt
+
+-- an event that the world took is refused by nothing
+pub unrefused : {X : Type 0} (found : Option Refused) (result : Result X Refused)
+    → MatchOption found (IsOk result) (λ why. result ≡ Err why) → IsOk result → found ≡ None
+unrefused None result is ok = refl
+unrefused (Some why) (Ok value) is ok = cc
+unrefused (Some why) (Err error) is ok = cc

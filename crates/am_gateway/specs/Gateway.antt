@@ -3,10 +3,12 @@
 -- all this is what the server is given.
 use Rattle.std.specs.Prelude.{ℕ, ◌≡◌, ◌⊎◌, ◌↔◌, ◌+◌, ◌-◌, Bool, true, false, List, ◌∷◌, Option, None, Some, IsSome}
 use Rattle.std.specs.declared.alloc.AllocError.{AllocError}
-use Rattle.std.specs.Prelude.{Result, IsErr, IsOk, OnOk, OnErr, MatchOption, IsTrue, is_some, length, if◌then◌else◌}
+use Rattle.std.specs.Prelude.{Result, IfOk, IsErr, IsOk, OnOk, OnErr, Ok, MatchOption, IsTrue, is_some, length}
+use Rattle.std.specs.Prelude.{if◌then◌else◌}
 use Rattle.am_event.specs.declared.event.Event.{Event}
 use Rattle.am_event.specs.declared.event.Event.TheVariants as event
 use Rattle.am_event.specs.declared.output.Output.{Output}
+use Rattle.am_event.specs.declared.refused.Refused.{Refused}
 use Rattle.am_serve.specs.Lanes.{comes_before, is_ready, under_way_of, waiting_of}
 use Rattle.am_serve.specs.Weights.{IsHeaviest}
 use Rattle.am_serve.specs.declared.host.Verdict.{Verdict}
@@ -19,6 +21,7 @@ use Rattle.am_world.specs.Refusal.{refusal}
 use Rattle.am_world.specs.Runs.{ForgetsOver, Run}
 use Rattle.am_world.specs.Simulation.{put_out}
 use Rattle.am_world.specs.Stopping.{Step}
+use Rattle.am_gateway.specs.Learning.{behind}
 use Rattle.am_gateway.specs.Passing.{asked_in, passes}
 use Rattle.am_gateway.specs.Restarting.{counted, fallen}
 use Rattle.am_gateway.specs.Serving.{serving_in}
@@ -117,15 +120,20 @@ pub record Settles {R : Type 0} (t : List ℕ) (old new : Gateway R) : Type 0 wh
   pub under_way : SameUnderWay old new
   pub same : IsSameGateway old new
 
+-- .. unless an instance has yet to learn the newest ring, which may bring what is lacking: nothing changed then
+abbrev pub SettlesInTime : {R : Type 0} → List ℕ → Gateway R → Gateway R → Type 0
+SettlesInTime t old new = MatchOption (behind old.world.now.state) (Settles t old new) (λ i. new ≡ old)
+
 -- What the server is told of a connection, by what became of an event of it. A request is whole where it has messages
--- sent. As none gets lost, it has its reply then, unless too few replicas of its tenant are up and settled: the tenant
--- is settled by force, so that its next request has a reply, and this one's is still to come.
+-- sent. As none gets lost, it has its reply then, unless too few replicas of its tenant are up, settled and by one
+-- ring: once all know the newest, the tenant is settled by force, so that its next request has a reply, and this one's
+-- is still to come.
 abbrev pub IsVerdictOn : {R : Type 0} → ℕ → Event → Gateway R → Verdict → Gateway R → Type 0
 IsVerdictOn c e old Undecided new = (outs : List Output) × GivesReply c e None outs old new
     × (asked_in outs ≡ None) × (new.is_tick_due ≡ old.is_tick_due)
 IsVerdictOn {R = R} c e old Later new = (outs : List Output) × (t : List ℕ) × (mid : Gateway R)
     × GivesReply c e None outs old mid
-    × (asked_in outs ≡ Some t) × (mid.is_tick_due ≡ old.is_tick_due) × Settles t mid new
+    × (asked_in outs ≡ Some t) × (mid.is_tick_due ≡ old.is_tick_due) × SettlesInTime t mid new
 IsVerdictOn c e old (Reply bytes) new = (outs : List Output) × GivesReply c e (Some bytes.items) outs old new
     × LetsTick old bytes.items new
 IsVerdictOn c e old Gone new = RefusesEvent e old new ⊎ ClosesForMemory c e old new
@@ -150,7 +158,7 @@ OpensConnection old c result new = MatchOption (serving_in old.world.now.state)
 
 -- an instance was restarted, and whether that was in vain is counted
 pub record RestartsAt {R : Type 0} {X E : Type 0} (result : Result X E) (i : ℕ) (old new : Gateway R) : Type 0 where
-  pub told : TellsMostly (event.Restart i) old new
+  pub told : (told : Result X E) × TellsWorld told (event.Restart i) old new × (IsOk result → IsOk told)
   pub counted : OnOk result (new.vain.items
       ≡ counted old.vain.items (is_some (cause_at i new.world.now.state.instances)) i)
 
@@ -159,12 +167,30 @@ abbrev pub RestartsNext : {R : Type 0} {X E : Type 0} → Result X E → Gateway
 RestartsNext result old new = MatchOption (fallen old.vain.items old.world.now.state)
     (IsOk result × (new ≡ old)) (λ i. RestartsAt result i old new)
 
--- the instance was restarted that is next, where one is, and the world was told the moment; or memory ran out before
-abbrev pub GoesOn : {R : Type 0} {X E : Type 0} → Result X E → Gateway R → Gateway R → Type 0
-GoesOn {R = R} {X = X} {E = E} result old new = (restarted : Result X E) × (mid : Gateway R)
+-- the instance that is behind and next went on to the ring that follows, where one is
+abbrev pub LearnsNext : {R : Type 0} {X E : Type 0} → Result X E → Gateway R → Gateway R → Type 0
+LearnsNext result old new = MatchOption (behind old.world.now.state)
+    (IsOk result × (new ≡ old)) (λ i. TellsWorld result (event.Learn i) old new)
+
+-- What is done before the world is told a moment: an instance is restarted, one goes on to the next ring, where there
+-- is one; or memory ran out
+abbrev pub MakesReady : {R : Type 0} {X E : Type 0} → Result X E → Gateway R → Gateway R → Type 0
+MakesReady {R = R} {X = X} {E = E} result old new = (restarted : Result X E) × (mid : Gateway R)
     × RestartsNext restarted old mid
-    × ((IsErr restarted × IsErr result × (new ≡ mid))
-    ⊎ (IsOk restarted × TellsWorld result (event.Tick mid.moment) mid new))
+    × ((IsErr restarted × IsErr result × (new ≡ mid)) ⊎ (IsOk restarted × LearnsNext result mid new))
+
+-- that was done, and the world was told the moment; or memory ran out before
+abbrev pub GoesOn : {R : Type 0} {X E : Type 0} → Result X E → Gateway R → Gateway R → Type 0
+GoesOn {R = R} {X = X} {E = E} result old new = (ready : Result X E) × (mid : Gateway R)
+    × MakesReady ready old mid
+    × ((IsErr ready × IsErr result × (new ≡ mid))
+    ⊎ (IsOk ready × TellsWorld result (event.Tick mid.moment) mid new))
+
+-- an event was refused, for this, and nothing changed; or the world handled it
+abbrev pub Operates : {R : Type 0} {E : Type 0} → Result (Option Refused) E → Event → Gateway R → Gateway R → Type 0
+Operates result e old new = MatchOption (refusal old.world.now.state e)
+    (IfOk result (λ refused. refused ≡ None) × TellsWorld result e old new)
+    (λ why. (result ≡ Ok (Some why)) × (new ≡ old))
 
 -- the notice that waited longest of the tenant whose turn it is, which has fewer calls under way than there are places free, is
 -- under way now

@@ -1,3 +1,4 @@
+pub mod Learning
 pub mod Passing
 pub mod Restarting
 pub mod Serving

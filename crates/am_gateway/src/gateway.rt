@@ -8,6 +8,7 @@ ghost use Rattle.am_world.specs.Consistent.{last_moment};
 ghost use Rattle.am_world.specs.Runs.{ForgetsOver};
 ghost use Rattle.am_world.specs.Simulation.{put_out};
 
+use crate::learning::behind;
 use crate::passing::{asked_tenant, pass_all};
 use crate::restarting::{fallen, note};
 use crate::serving::{has_quorum, serving};
@@ -18,7 +19,7 @@ use am_serve::{Host, Lanes, Verdict};
 use am_server::{Notice, Service};
 use am_tenant::TenantName;
 use am_text::Octets;
-use am_world::{AttemptName, Event, LAST_MOMENT, World};
+use am_world::{AttemptName, Event, LAST_MOMENT, Refused, World};
 use std::alloc::{AllocError, Global};
 use std::collections::VecDeque;
 
@@ -68,8 +69,9 @@ impl<R: Rows> Drop for Gateway<'_, R> {
 }
 
 impl<'w, R: Rows> Gateway<'w, R> {
-    ghost use Rattle.am_gateway.specs.Gateway.{IsSameGateway, IsVerdictOn, LetsTick, LosesEvent, SameUnderWay, Sorts};
-    ghost use Rattle.am_gateway.specs.Gateway.{RestartsNext, Settles, SortsSome, TakesPiece, TellsWorld, piece_event};
+    ghost use Rattle.am_gateway.specs.Gateway.{IsSameGateway, IsVerdictOn, LearnsNext, LetsTick, LosesEvent};
+    ghost use Rattle.am_gateway.specs.Gateway.{MakesReady, Operates, RestartsNext, SameUnderWay, Settles};
+    ghost use Rattle.am_gateway.specs.Gateway.{SettlesInTime, Sorts, SortsSome, TakesPiece, TellsWorld, piece_event};
     ghost use Rattle.am_gateway.specs.Sorting.{reply_on};
 
     /// A gateway to a world that was just opened.
@@ -104,6 +106,13 @@ impl<'w, R: Rows> Gateway<'w, R> {
         ensures { result.now ≡ self.now.world.now }
     {
         self.world
+    }
+
+    /// Whether the world is told the moment at the next tick.
+    pub fn is_tick_due(&self) -> bool
+        ensures { result ≡ self.now.is_tick_due }
+    {
+        self.is_tick_due
     }
 
     // Takes away what the world has put out: its notices wait behind those of their tenants, the first reply on a
@@ -175,13 +184,22 @@ impl<'w, R: Rows> Gateway<'w, R> {
     // The verdict on a request that got no reply yet, of a tenant where it is whole.
     fn unreplied(&mut self, asked: Option<TenantName>) -> Verdict
         ensures { MatchOption asked ((result ≡ verdict.Undecided) × (self.new ≡ self.old))
-            (λ t. (result ≡ verdict.Later) × Settles t self.old self.new) }
+            (λ t. (result ≡ verdict.Later) × SettlesInTime t self.old self.new) }
     {
         let Some(tenant) = asked else {
             return Verdict::Undecided;
         };
-        self.settle(tenant);
+        self.settle_in_time(tenant);
         Verdict::Later
+    }
+
+    // Settles a tenant by force, once all instances know the newest ring.
+    fn settle_in_time(&mut self, tenant: TenantName)
+        ensures { SettlesInTime tenant self.old self.new }
+    {
+        if behind(self.world).is_none() {
+            self.settle(tenant);
+        }
     }
 
     // Settles a tenant by force.
@@ -190,6 +208,17 @@ impl<'w, R: Rows> Gateway<'w, R> {
     {
         let event = Event::Force { tenant };
         let _ = self.tell(&event);
+    }
+
+    // Restarts the instance that is next, and has one go on to the next ring, where there is one.
+    fn make_ready(&mut self) -> Result<(), AllocError>
+        ensures ready { MakesReady result self.old self.new }
+        ensures is_tick_due { self.new.is_tick_due ≡ self.old.is_tick_due }
+        ensures under_way { SameUnderWay self.old self.new }
+        ensures same { IsSameGateway self.old self.new }
+    {
+        self.restart_next()?;
+        self.learn_next()
     }
 
     // Restarts the instance that is next, where one is.
@@ -203,9 +232,44 @@ impl<'w, R: Rows> Gateway<'w, R> {
             return Ok(());
         };
         let event = Event::Restart { instance };
-        let _ = self.tell(&event);
+        self.tell(&event)?;
         let is_vain = self.world.cause(instance).is_some();
         note(&mut self.vain, instance, is_vain)
+    }
+
+    // The lowest instance that is behind goes on to the next ring, where one is behind.
+    fn learn_next(&mut self) -> Result<(), AllocError>
+        ensures learns { LearnsNext result self.old self.new }
+        ensures is_tick_due { self.new.is_tick_due ≡ self.old.is_tick_due }
+        ensures under_way { SameUnderWay self.old self.new }
+        ensures same { IsSameGateway self.old self.new }
+    {
+        let Some(instance) = behind(self.world) else {
+            return Ok(());
+        };
+        self.tell(&Event::Learn { instance })
+    }
+
+    /// Has an event happen that an operator asks for: an instance joins the ring or leaves it, goes down or is
+    /// restarted, or a tenant is settled by force. Gives why it is refused, where it is; nothing changed then.
+    ///
+    /// # Errors
+    /// Out of memory: the event happened, and of what was put out all but a first part is lost.
+    pub fn operate(&mut self, event: &Event) -> Result<Option<Refused>, AllocError>
+        ensures operates { Operates result event.now self.old self.new }
+        ensures is_tick_due { self.new.is_tick_due ≡ self.old.is_tick_due }
+        ensures under_way { SameUnderWay self.old self.new }
+        ensures same { IsSameGateway self.old self.new }
+        ensures vain { self.new.vain ≡ self.old.vain }
+    {
+        if let Err(refused) = self.world.step(self.alloc, event) {
+            return Ok(Some(refused));
+        }
+        pass_all(self.world, self.alloc, self.moment);
+        match self.sort(None) {
+            Ok(_) => Ok(None),
+            Err(error) => Err(error),
+        }
     }
 
     // A reply to `GET /ready` lets the clock be told.
@@ -281,7 +345,7 @@ impl<R: Rows> Service for Gateway<'_, R> {
     }
 
     // The world is told the moment where `GET /ready` was answered since it was last told. Before that an instance is
-    // restarted that a fault stopped, where one is.
+    // restarted that a fault stopped, and one goes on to the next ring, where there is one.
     fn tick(&mut self) -> Result<(), AllocError>
         ensures not_due { self.old.is_tick_due ≡ false → IsOk result × (self.new ≡ self.old) }
         ensures told { self.old.is_tick_due ≡ true →
@@ -294,7 +358,7 @@ impl<R: Rows> Service for Gateway<'_, R> {
             return Ok(());
         }
         self.is_tick_due = false;
-        self.restart_next()?;
+        self.make_ready()?;
         let event = Event::Tick {
             moment: self.moment,
         };

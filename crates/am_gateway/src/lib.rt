@@ -3,6 +3,7 @@
 #![tactic(auto)]
 
 mod gateway;
+mod learning;
 mod passing;
 mod restarting;
 mod serving;

@@ -15,6 +15,7 @@ pub mod Opening
 pub mod Reacting
 pub mod Rings
 pub mod Saying
+mod Standings
 mod Ticked
 mod Turning
 mod Turns

@@ -24,3 +24,5 @@ pub mod Changing
 pub mod Shelves
 -- .. and what a call leaves there
 pub mod Leaving
+-- for which tenants it is settled
+pub mod Standing

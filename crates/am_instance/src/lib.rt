@@ -14,6 +14,7 @@ mod notices;
 mod outputs;
 mod receiving;
 mod restarting;
+mod standing;
 mod tenants;
 mod ticking;
 
@@ -21,3 +22,4 @@ pub use given::{Occasion, Piece};
 pub use instance::{Begin, Instance};
 pub use notices::Ended;
 pub use outputs::Speaker;
+pub use standing::Standing;

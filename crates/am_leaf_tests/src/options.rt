@@ -39,6 +39,7 @@ bad amring --cache 1 run
 serve amring serve --port 65535
 serve amring serve --port=1 --count=1
 serve amring serve --port=1 --start 7 --store a/b
+serve amring serve --port=1 --admin=65535
 serve amring serve --port=1 --address 0.0.0.0
 serve amring serve --address=255.255.255.255 --port=1
 bad amring serve --port=1 --address 0.0.0.256
@@ -58,6 +59,11 @@ bad amring serve
 bad amring serve --port 0
 bad amring serve --port 65536
 bad amring serve --port=1 --count=0
+bad amring serve --port=1 --admin=0
+bad amring serve --port=1 --admin=65536
+bad amring serve --port=1 --admin
+bad amring serve --admin=1
+bad amring run --admin=1
 bad amring run --port 1
 bad amring 
 bad amring

@@ -46,8 +46,9 @@ app_named name =
 
 abbrev pub serve : App
 serve =
-    with_rule (with_rule (with_rule (app_named (codes "serve")) (option_or (codes "address") (codes "127.0.0.1")))
-    (option (codes "port"))) (option (codes "count"))
+    with_rule (with_rule (with_rule (with_rule (app_named (codes "serve"))
+    (option_or (codes "address") (codes "127.0.0.1"))) (option (codes "port"))) (option (codes "admin")))
+    (option (codes "count"))
 
 -- `amring run` and `amring serve`
 abbrev pub command_line : App
@@ -154,12 +155,13 @@ address_in rows = do
   address_of text
 
 -- how the options say to serve: by these settings, whose first incarnation is given or not, over these stores, at an
--- address and a port, so many connections
+-- address and a port, with a port or none for those who run it, so many connections
 abbrev pub serving_in : List Row → Option Serving
 serving_in rows = do
   setup ← settings_in rows
   address ← address_in rows
   port ← number_in (codes "port") 1 65535 rows
+  admin ← given_in (codes "admin") 65535 rows
   count ← given_in (codes "count") (2 ^ 64 - 1) rows
   Some (record {
     setup = setup;
@@ -167,6 +169,7 @@ serving_in rows = do
     store = store_in rows;
     address = address;
     port = port;
+    admin = admin;
     count = count;
   })
 

@@ -33,6 +33,8 @@ const ADDRESS_HELP: &str = "The IPv4 address to listen on";
 
 const PORT_HELP: &str = "The port to listen on, 1 to 65535";
 
+const ADMIN_HELP: &str = "The port on 127.0.0.1 that shows and changes the ring, 1 to 65535";
+
 const COUNT_HELP: &str = "Ends once so many connections were answered";
 
 /// The most patterns that an instance may keep built.
@@ -71,6 +73,8 @@ pub struct Serving {
     pub address: Ipv4Addr,
     /// The port that it listens on, at least 1.
     pub port: u16,
+    /// The port on 127.0.0.1 for those who run it, at least 1; none where it isn't given.
+    pub admin: Option<u16>,
     /// How many connections are answered, at least 1; any number where none is given.
     pub count: Option<u64>,
 }
@@ -97,6 +101,7 @@ enum BadOption {
     Start,
     Address,
     Port,
+    Admin,
     Count,
 }
 
@@ -112,6 +117,7 @@ impl fmt::Display for BadOption {
             BadOption::Start => write!(f, "--start takes a number from 1 to {MOST_START}"),
             BadOption::Address => write!(f, "--address takes an IPv4 address, as 127.0.0.1"),
             BadOption::Port => write!(f, "serve needs --port, a number from 1 to 65535"),
+            BadOption::Admin => write!(f, "--admin takes a number from 1 to {MOST_PORT}"),
             BadOption::Count => write!(f, "--count takes a number from 1 on"),
         }
     }
@@ -152,6 +158,7 @@ fn serve_form<'a>(alloc: Global) -> Result<Command<'a>, AllocError>
     form_of(alloc, "serve", "Serves connections over HTTP")?
         .arg(option_or(alloc, "address", "A", "127.0.0.1", ADDRESS_HELP))?
         .arg(option(alloc, "port", "P", PORT_HELP))?
+        .arg(option(alloc, "admin", "P", ADMIN_HELP))?
         .arg(option(alloc, "count", "N", COUNT_HELP))
 }
 
@@ -282,6 +289,7 @@ fn serving_in(
     let setup = settings_in(serve, instances)?;
     let address = address_in(serve).ok_or(BadOption::Address)?;
     let port = number_in(serve, "port", 1, MOST_PORT).ok_or(BadOption::Port)?;
+    let admin = given_in(serve, "admin", MOST_PORT).ok_or(BadOption::Admin)?;
     let count = given_in(serve, "count", u64::MAX).ok_or(BadOption::Count)?;
     Ok(Serving {
         setup,
@@ -289,6 +297,7 @@ fn serving_in(
         store,
         address,
         port: port as u16,
+        admin: admin.map(|port| port as u16),
         count,
     })
 }

@@ -6,6 +6,7 @@ use am_gateway::Gateway;
 use am_serve::{Host, Verdict};
 use am_server::Service;
 use am_test_store::TestStore;
+use am_world::{Event, Refused};
 use std::alloc::Global;
 use std::test::Fail;
 
@@ -119,4 +120,30 @@ fn one_instance_is_too_few(rt: HostRuntime) -> Result<(), Fail> {
     gateway.set_moment(START);
     holds(asked(&mut gateway, 1, STORED)?.is_none(), "a reply came")?;
     holds(!gateway.is_up(), "two are left")
+}
+
+// A fourth instance joins, and the other three learn of it one by one, the lowest first, at the next three ticks. What
+// was committed is read all the while, where a quorum goes by one ring, and an event that can't be is refused.
+#[test]
+fn rings_are_learned(rt: HostRuntime) -> Result<(), Fail> {
+    let alloc = rt.alloc();
+    let mut world = opened(alloc, 1, stores(alloc)?)?;
+    let mut gateway = Gateway::new(alloc, &mut world)?;
+    gateway.set_moment(START);
+    replies(alloc, &mut gateway, 1, STORED, "")?;
+    let join = Event::Join { instance: 4 };
+    holds(gateway.operate(&join)?.is_none(), "the fourth joins")?;
+    holds(
+        gateway.operate(&join)? == Some(Refused::WrongInstance),
+        "it joins twice",
+    )?;
+    for instance in 1..4u8 {
+        holds(gateway.world().is_behind(instance), instance)?;
+        let moment = u64::from(instance);
+        tick(&mut gateway, moment + 1, moment)?;
+        holds(!gateway.world().is_behind(instance), instance)?;
+    }
+    holds(!gateway.world().is_behind(4), "the fourth is behind")?;
+    replies(alloc, &mut gateway, 5, STORED, "")?;
+    replies(alloc, &mut gateway, 6, READ, "[]")
 }

@@ -58,6 +58,10 @@ impl<'s, V: Service> Hall<'s, V> {
         self.service
     }
 
+    pub fn service_mut(&mut self) -> &mut V {
+        self.service
+    }
+
     pub fn calls(&self) -> usize {
         self.calls.len()
     }

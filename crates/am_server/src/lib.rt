@@ -4,7 +4,9 @@
 mod hall;
 mod server;
 mod service;
+mod side;
 mod stream;
 
 pub use server::{Server, listen};
 pub use service::{Notice, Service};
+pub use side::SidePort;

@@ -115,6 +115,11 @@ impl<'s, V: Service> Server<'s, V> {
         self.hall.service()
     }
 
+    /// Who is served, to be told what comes from elsewhere.
+    pub fn service_mut(&mut self) -> &mut V {
+        self.hall.service_mut()
+    }
+
     /// Whether the service serves on.
     pub fn is_up(&self) -> bool {
         self.service().is_up()

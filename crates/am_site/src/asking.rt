@@ -17,9 +17,9 @@ use am_wire::Body;
 use std::alloc::Global;
 
 impl Site {
-    // Whether the instance is settled for the tenant.
+    /// Whether the instance is settled for the tenant.
     #[tactic(auto, unfolding(crate::specs::Locals::local_of))]
-    pub(crate) fn is_settled(&self, here: &Here) -> bool
+    pub fn is_settled(&self, here: &Here) -> bool
         ensures { result ≡ is_settled (here_of here.now) (local_of here.now.tenant.now self.now) }
     {
         self.settling.is_settled(here.tenant, here.has_stayed)

@@ -26,5 +26,7 @@ pub mod Ticks
 pub mod Changing
 -- how a world is opened
 pub mod Opening
+-- the ring, and for which tenants each instance is settled
+pub mod Standing
 -- whole runs
 pub mod Runs

@@ -9,12 +9,14 @@ mod opening;
 mod posting;
 mod ring_calls;
 mod ring_turns;
+mod standing;
 mod state;
 pub mod theorem;
 mod turning;
 pub mod world;
 
 pub use am_event::{AttemptName, Event, LAST_MOMENT, Output, Refused};
+pub use am_instance::Standing;
 pub use am_item::Fault;
 pub use opening::OpenRefusal;
 pub use world::World;

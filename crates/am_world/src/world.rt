@@ -7,12 +7,14 @@ ghost use Rattle.am_event.specs.declared.event.Event.{Event};
 use crate::opening::OpenRefusal;
 use crate::state::State;
 use am_event::{Event, Output, Refused};
+use am_instance::Standing;
 use am_item::Fault;
 use am_messages::MessageName;
+use am_ring::Ring;
 use am_rows::Rows;
 use am_setup::Setup;
 use am_wire::Message;
-use std::alloc::Global;
+use std::alloc::{AllocError, Global};
 use std::marker::Model;
 
 /// The eight instances with their stores, the messages between them, the clock, and what was put out so far.
@@ -69,12 +71,14 @@ impl<R: Rows + Drop> World<R> {
 }
 
 impl<R: Rows> World<R> {
+    ghost use Rattle.am_world.specs.Consistent.{newest_in};
     ghost use Rattle.am_world.specs.Leaving.{LeavesShelves};
-    ghost use Rattle.am_world.specs.Places.{cause_at, up_at};
+    ghost use Rattle.am_world.specs.Places.{cause_at, incarnation_at, known_at, up_at};
     ghost use Rattle.am_world.specs.Refusal.{refusal};
     ghost use Rattle.am_world.specs.Runs.{Forgets, Headline, Prefixes, Run};
     ghost use Rattle.am_world.specs.Shelves.{NeverCleaner, shelves_of};
     ghost use Rattle.am_world.specs.Simulation.{fault_count, message_named, put_out};
+    ghost use Rattle.am_world.specs.Standing.{StandsAt, newest_epoch};
     ghost use Rattle.am_world.specs.Stopping.{Step};
 
     /// The stores, in order of the instances' numbers, each at its last commit.
@@ -146,6 +150,51 @@ impl<R: Rows> World<R> {
         // From here on it is known what holds of each world.
         let _ = &self.stores;
         self.state.is_behind(instance)
+    }
+
+    /// The newest ring.
+    pub fn ring(&self) -> Ring
+        ensures { result.instances ≡ newest_in self.now.state.common }
+    {
+        // From here on it is known what holds of each world.
+        let _ = &self.stores;
+        self.state.ring()
+    }
+
+    /// The epoch of the newest ring: 0, and one more for each change.
+    pub fn epoch(&self) -> u64
+        ensures { result ≡ newest_epoch self.now.state.common }
+    {
+        // From here on it is known what holds of each world.
+        let _ = &self.stores;
+        self.state.epoch()
+    }
+
+    /// The epoch of the ring that an instance knows; 0 where there is none of that number.
+    pub fn known(&self, instance: u8) -> u64
+        ensures { result ≡ known_at instance self.now.state.instances }
+    {
+        self.state.known(instance)
+    }
+
+    /// In which incarnation an instance is; 0 where there is none of that number.
+    pub fn incarnation(&self, instance: u8) -> u32
+        ensures { result ≡ incarnation_at instance self.now.state.instances }
+    {
+        self.state.incarnation(instance)
+    }
+
+    /// Of how many tenants an instance may have something as one of their replicas, and for which of these it isn't
+    /// settled. It looks at each of them.
+    ///
+    /// # Errors
+    /// Out of memory.
+    pub fn standing(&self, alloc: Global, instance: u8) -> Result<Standing, AllocError>
+        ensures { IfOk result (StandsAt instance self.now.state) }
+    {
+        // From here on it is known what holds of each world.
+        let _ = &self.stores;
+        self.state.standing(alloc, instance)
     }
 
     /// Handles one event. A refused one changes nothing. Where the system refuses memory, a store refuses a call, a

@@ -3,6 +3,7 @@
 ghost use Rattle.std.specs.Prelude.{◌≡◌, length};
 
 use crate::stores;
+use am_admin::{AdminPort, Counted};
 use am_gateway::{Gateway, has_quorum};
 use am_options::Serving;
 use am_play::stops::Stops;
@@ -14,7 +15,7 @@ use am_stream::Sink;
 use am_world::World;
 use mio::net::TcpListener;
 use std::alloc::Global;
-use std::net::{Net, SocketAddr};
+use std::net::{Ipv4Addr, Net, SocketAddr};
 use std::process::ExitCode;
 use std::time::Clock;
 use std::{io, mem};
@@ -22,12 +23,20 @@ use std::{io, mem};
 /// The exit status where the port can't be had.
 const NO_PORT: u8 = 2;
 
-/// Where the program serves, and how many connections.
+/// Where the program serves, where those who run it ask, and how many connections are answered.
 #[derive(Drop)]
 struct Site {
     listener: TcpListener,
     address: SocketAddr,
+    admin: Option<Desk>,
     count: Option<u64>,
+}
+
+/// Where those who run the program ask.
+#[derive(Drop)]
+struct Desk {
+    listener: TcpListener,
+    address: SocketAddr,
 }
 
 /// Serves connections until as many were answered as were asked for, and prints `faults N` then; or until fewer than two
@@ -42,21 +51,12 @@ pub fn serve<E: Sink>(rt: &HostRuntime, serving: Serving, errors: &mut E) -> io:
         store,
         address,
         port,
+        admin,
         count,
     } = serving;
-    let address = SocketAddr::from((address, port));
-    let listener = match listen(rt, address) {
-        Ok(listener) => listener,
-        Err(error) if error.kind() == io::ErrorKind::OutOfMemory => return Err(error),
-        Err(_) => {
-            errors.write_whole(b"port\n")?;
-            return Ok(ExitCode::from(NO_PORT));
-        }
-    };
-    let site = Site {
-        listener,
-        address,
-        count,
+    let Some(site) = open_site(rt, SocketAddr::from((address, port)), admin, count)? else {
+        errors.write_whole(b"port\n")?;
+        return Ok(ExitCode::from(NO_PORT));
     };
     match store {
         None => serve_over(rt, setup, stores::in_memory(rt.alloc())?, site, errors),
@@ -65,6 +65,49 @@ pub fn serve<E: Sink>(rt: &HostRuntime, serving: Serving, errors: &mut E) -> io:
             Ok(stores) => restart(rt, setup, stores, site, errors),
             Err(refusal) => stores::refuse(rt.alloc(), errors, refusal),
         },
+    }
+}
+
+/// Where the program is to serve and be asked; none where a port can't be had.
+///
+/// # Errors
+/// Out of memory.
+fn open_site<R: Net>(
+    rt: &R,
+    address: SocketAddr,
+    admin: Option<u16>,
+    count: Option<u64>,
+) -> io::Result<Option<Site>> {
+    let Some(listener) = listen_at(rt, address)? else {
+        return Ok(None);
+    };
+    let admin = match admin {
+        None => None,
+        Some(port) => {
+            let address = SocketAddr::from((Ipv4Addr::LOCALHOST, port));
+            let Some(listener) = listen_at(rt, address)? else {
+                return Ok(None);
+            };
+            Some(Desk { listener, address })
+        }
+    };
+    Ok(Some(Site {
+        listener,
+        address,
+        admin,
+        count,
+    }))
+}
+
+/// Listens at an address; none where it can't be had.
+///
+/// # Errors
+/// Out of memory.
+fn listen_at<R: Net>(rt: &R, address: SocketAddr) -> io::Result<Option<TcpListener>> {
+    match listen(rt, address) {
+        Ok(listener) => Ok(Some(listener)),
+        Err(error) if error.kind() == io::ErrorKind::OutOfMemory => Err(error),
+        Err(_) => Ok(None),
     }
 }
 
@@ -114,13 +157,8 @@ fn serve_world<S: Rows + Drop, R: Net + Clock + Print + AllocGlobal, E: Sink>(
     site: Site,
     errors: &mut E,
 ) -> io::Result<ExitCode> {
-    let Site {
-        listener,
-        address,
-        count,
-    } = site;
-    announce(rt.alloc(), address, errors)?;
-    attend(rt, listener, world, count, errors)?;
+    announce(rt.alloc(), &site, errors)?;
+    attend(rt, site, world, errors)?;
     let faults = world.faults();
     print!(rt; "faults {faults}\n")?;
     if has_quorum(world) {
@@ -131,30 +169,40 @@ fn serve_world<S: Rows + Drop, R: Net + Clock + Print + AllocGlobal, E: Sink>(
 }
 
 /// Tells where connections are taken.
-fn announce<E: Sink>(alloc: Global, address: SocketAddr, errors: &mut E) -> io::Result<()> {
+fn announce<E: Sink>(alloc: Global, site: &Site, errors: &mut E) -> io::Result<()> {
+    let address = site.address;
     let ready = format!(in alloc;
         "amring: serves http://{address}; GET /ready tells it the time, once a second or so\n"
     )?;
-    errors.write_whole(ready.as_bytes())
+    errors.write_whole(ready.as_bytes())?;
+    let Some(Desk { address, .. }) = &site.admin else {
+        return Ok(());
+    };
+    let ring = format!(in alloc; "amring: http://{address}/ring shows and changes the ring\n")?;
+    errors.write_whole(ring.as_bytes())
 }
 
-/// Serves the clients of a listener until all is done, or too few instances are up.
+/// Serves the clients of a site until all is done, or too few instances are up.
 fn attend<S: Rows + Drop, R: Net + Clock + AllocGlobal, E: Sink>(
     rt: &R,
-    listener: TcpListener,
+    site: Site,
     world: &mut World<S>,
-    count: Option<u64>,
     errors: &mut E,
 ) -> io::Result<()> {
-    let mut gateway = Gateway::new(rt.alloc(), world)?;
-    let mut server = Server::open(rt, rt.alloc(), listener, &mut gateway, count)?;
-    take_turns(rt, &mut server, errors)
+    let mut counted = Counted::new(Gateway::new(rt.alloc(), world)?);
+    let mut admin = match site.admin {
+        Some(desk) => Some(AdminPort::new(rt, rt.alloc(), desk.listener)?),
+        None => None,
+    };
+    let mut server = Server::open(rt, rt.alloc(), site.listener, &mut counted, site.count)?;
+    take_turns(rt, &mut server, &mut admin, errors)
 }
 
 /// Has a server work, turn by turn, until all is done, or too few instances are up. Tells of each that stops.
 fn take_turns<S: Rows + Drop, R: Net + Clock + AllocGlobal, E: Sink>(
     rt: &R,
-    server: &mut Server<'_, Gateway<'_, S>>,
+    server: &mut Server<'_, Counted<'_, S>>,
+    admin: &mut Option<AdminPort>,
     errors: &mut E,
 ) -> io::Result<()> {
     let mut stops = Stops::none();
@@ -163,7 +211,10 @@ fn take_turns<S: Rows + Drop, R: Net + Clock + AllocGlobal, E: Sink>(
             break;
         }
         take_turn(rt, server, errors)?;
-        stops.tell(rt.alloc(), server.service().world(), errors)?;
+        if let Some(admin) = admin {
+            admin.turn(rt, rt.alloc(), server.service_mut())?;
+        }
+        stops.tell(rt.alloc(), server.service().gateway().world(), errors)?;
     }
     Ok(())
 }
@@ -171,7 +222,7 @@ fn take_turns<S: Rows + Drop, R: Net + Clock + AllocGlobal, E: Sink>(
 /// Has a server work for a turn, and tells where the clock is off.
 fn take_turn<S: Rows + Drop, R: Net + Clock + AllocGlobal, E: Sink>(
     rt: &R,
-    server: &mut Server<'_, Gateway<'_, S>>,
+    server: &mut Server<'_, Counted<'_, S>>,
     errors: &mut E,
 ) -> io::Result<()> {
     match server.turn(rt)? {

@@ -7,11 +7,12 @@ pub returns-clause-app : goal.returns-clause-app
 returns-clause-app c =
     let addressed = c.in_ok-arg.ensures.shape c.option_or.ensures.local ∙ ap₂ with_rule c.in_ok-form_of.ensures.app c.option_or.ensures.rule in
     let ported = c.in_ok-arg-2.ensures.shape c.option.ensures.local ∙ ap₂ with_rule addressed c.option.ensures.rule in
-    IfOk-weaker c.arg-3.result _ _ (λ form added. added.shape c.option-2.ensures.local ∙ ap₂ with_rule ported c.option-2.ensures.rule) c.arg-3.ensures
+    let administered = c.in_ok-arg-3.ensures.shape c.option-2.ensures.local ∙ ap₂ with_rule ported c.option-2.ensures.rule in
+    IfOk-weaker c.arg-4.result _ _ (λ form added. added.shape c.option-3.ensures.local ∙ ap₂ with_rule administered c.option-3.ensures.rule) c.arg-4.ensures
 
 pub returns-clause-local : goal.returns-clause-local
 returns-clause-local c =
-    IfOk-weaker c.arg-3.result _ _
-    (λ form added. rw (added.globals, c.in_ok-arg-2.ensures.globals, c.in_ok-arg.ensures.globals)
-    (search (rules, c.in_ok-form_of.ensures.local, c.option_or.ensures.local, c.option.ensures.local, c.option-2.ensures.local)))
-    c.arg-3.ensures
+    IfOk-weaker c.arg-4.result _ _
+    (λ form added. rw (added.globals, c.in_ok-arg-3.ensures.globals, c.in_ok-arg-2.ensures.globals, c.in_ok-arg.ensures.globals)
+    (search (rules, c.in_ok-form_of.ensures.local, c.option_or.ensures.local, c.option.ensures.local, c.option-2.ensures.local, c.option-3.ensures.local)))
+    c.arg-4.ensures

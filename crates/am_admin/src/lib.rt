@@ -1,0 +1,16 @@
+//! `am_admin`: what those who run a service ask of it on a port of their own: how its ring stands, what was counted,
+//! and changes of the ring.
+#![tactic(auto)]
+
+mod asking;
+mod calm;
+mod counted;
+mod desk;
+mod heads;
+mod metrics;
+mod port;
+mod tally;
+mod telling;
+
+pub use counted::Counted;
+pub use port::AdminPort;
