@@ -4,11 +4,12 @@ ghost use Rattle.std.specs.Prelude.{◌≡◌, ◌<◌, ◌≤◌, ◌++◌, len
 ghost use Rattle.std.specs.List.{insert, remove};
 
 use crate::kept::Kept;
+use am_length::Spelled;
 use std::alloc::AllocError;
 use std::rc::Rc;
 
 /// Puts an entry between others.
-pub(crate) fn insert_at<K: Drop, V: Drop>(
+pub(crate) fn insert_at<K: Spelled + Drop, V: Spelled + Drop>(
     list: &mut Rc<Vec<Kept<K, V>>>,
     at: usize,
     kept: Kept<K, V>,
@@ -23,7 +24,7 @@ pub(crate) fn insert_at<K: Drop, V: Drop>(
 }
 
 /// Puts an entry in the place of another.
-pub(crate) fn replace_at<K: Drop, V: Drop>(
+pub(crate) fn replace_at<K: Spelled + Drop, V: Spelled + Drop>(
     list: &mut Rc<Vec<Kept<K, V>>>,
     at: usize,
     kept: Kept<K, V>,
@@ -38,7 +39,7 @@ pub(crate) fn replace_at<K: Drop, V: Drop>(
 }
 
 /// Takes an entry out.
-pub(crate) fn remove_at<K: Drop, V: Drop>(
+pub(crate) fn remove_at<K: Spelled + Drop, V: Spelled + Drop>(
     list: &mut Rc<Vec<Kept<K, V>>>,
     at: usize,
 ) -> Result<(), AllocError>
@@ -52,7 +53,7 @@ pub(crate) fn remove_at<K: Drop, V: Drop>(
 }
 
 /// Puts entries behind others.
-pub(crate) fn append<K: Drop, V: Drop>(
+pub(crate) fn append<K: Spelled + Drop, V: Spelled + Drop>(
     list: &mut Vec<Kept<K, V>>,
     rest: &[Kept<K, V>],
 ) -> Result<(), AllocError>

@@ -1,32 +1,48 @@
 //! Keys and stamped values that several holdings share.
 
-ghost use Rattle.std.specs.Prelude.{◌≡◌, IfOk};
+ghost use Rattle.std.specs.Prelude.{◌≡◌, ◌+◌, IfOk};
+ghost use Rattle.am_length.specs.Capped.{capped};
+ghost use Rattle.am_item.specs.Lengths.{head_length, kept_length};
 
+use crate::spelled::HEAD_LEN;
 use crate::stamp::Stamped;
+use am_length::Spelled;
 use std::alloc::{AllocError, Global};
 use std::marker::Model;
 use std::rc::Rc;
 
 /// A key and what stands under it, shared by those who hold it.
 #[derive(Drop)]
-pub struct Kept<K, V> {
-    pair: Rc<(K, Stamped<V>)>,
+pub struct Kept<K: Spelled, V: Spelled> {
+    pair: Rc<Counted<(K, Stamped<V>)>>,
 }
 
-impl<K, V> Model for Kept<K, V> {
+// What is held of an item, and how many bytes spell the item.
+#[derive(Drop)]
+struct Counted<T> {
+    held: T,
+    spelled: u64,
+}
+
+impl<K: Spelled, V: Spelled> Model for Kept<K, V> {
+    ghost use Rattle.std.specs.Prelude.{◌≡◌};
+    ghost use Rattle.am_length.specs.Capped.{capped};
+    ghost use Rattle.am_item.specs.Lengths.{kept_length};
     ghost use Rattle.am_item.specs.declared.stamp.Stamped.{Stamped};
 
     ghost Value = { K × Stamped V };
 
-    ghost view = { λ kept. kept.pair.value };
+    ghost view = { λ kept. kept.pair.value.held };
+
+    ghost invariant = { λ kept. kept.pair.value.spelled ≡ capped (kept_length K.spelled V.spelled kept.pair.value.held) };
 }
 
-impl<K, V> Kept<K, V> {
+impl<K: Spelled, V: Spelled> Kept<K, V> {
     /// The key.
     pub fn key(&self) -> &K
         ensures { result.now ≡ self.now.0 }
     {
-        let (key, _) = self.pair.as_ref();
+        let (key, _) = &self.pair.as_ref().held;
         key
     }
 
@@ -34,17 +50,28 @@ impl<K, V> Kept<K, V> {
     pub fn value(&self) -> &Stamped<V>
         ensures { result.now ≡ self.now.1 }
     {
-        let (_, value) = self.pair.as_ref();
+        let (_, value) = &self.pair.as_ref().held;
         value
+    }
+
+    /// How many bytes spell the item of which this is held.
+    pub(crate) fn spelled_len(&self) -> u64
+        ensures { result ≡ capped (kept_length K.spelled V.spelled self.now) }
+    {
+        self.pair.as_ref().spelled
     }
 }
 
-impl<K: Drop, V: Drop> Kept<K, V> {
+impl<K: Spelled + Drop, V: Spelled + Drop> Kept<K, V> {
     /// A key and what stands under it.
     pub fn new(alloc: Global, key: K, value: Stamped<V>) -> Result<Kept<K, V>, AllocError>
         ensures { IfOk result (λ kept. kept ≡ (key, value)) }
     {
-        let pair = Rc::new(alloc, (key, value))?;
+        let spelled = HEAD_LEN
+            .saturating_add(key.spelled_len())
+            .saturating_add(value.value.spelled_len());
+        let held = (key, value);
+        let pair = Rc::new(alloc, Counted { held, spelled })?;
         Ok(Kept { pair })
     }
 
@@ -58,7 +85,7 @@ impl<K: Drop, V: Drop> Kept<K, V> {
 }
 
 // For the copies of lists that are shared and change.
-impl<K: Drop, V: Drop> Clone for Kept<K, V> {
+impl<K: Spelled + Drop, V: Spelled + Drop> Clone for Kept<K, V> {
     ghost is_clone = { λ kept copy. copy ≡ kept };
 
     fn clone(&self) -> Result<Kept<K, V>, AllocError> {
@@ -68,24 +95,31 @@ impl<K: Drop, V: Drop> Clone for Kept<K, V> {
 
 /// A stamped value, shared by those who hold it.
 #[derive(Drop)]
-pub struct KeptValue<V> {
-    shared: Rc<Stamped<V>>,
+pub struct KeptValue<V: Spelled> {
+    shared: Rc<Counted<Stamped<V>>>,
 }
 
-impl<V> Model for KeptValue<V> {
+impl<V: Spelled> Model for KeptValue<V> {
+    ghost use Rattle.std.specs.Prelude.{◌≡◌, ◌+◌};
+    ghost use Rattle.am_length.specs.Capped.{capped};
+    ghost use Rattle.am_item.specs.Lengths.{head_length};
     ghost use Rattle.am_item.specs.declared.stamp.Stamped.{Stamped};
 
     ghost Value = { Stamped V };
 
-    ghost view = { λ kept. kept.shared.value };
+    ghost view = { λ kept. kept.shared.value.held };
+
+    ghost invariant = { λ kept. kept.shared.value.spelled ≡ capped (head_length + V.spelled kept.shared.value.held.value) };
 }
 
-impl<V: Drop> KeptValue<V> {
+impl<V: Spelled + Drop> KeptValue<V> {
     /// A value.
     pub fn new(alloc: Global, value: Stamped<V>) -> Result<KeptValue<V>, AllocError>
         ensures { IfOk result (λ kept. kept ≡ value) }
     {
-        let shared = Rc::new(alloc, value)?;
+        let spelled = HEAD_LEN.saturating_add(value.value.spelled_len());
+        let held = value;
+        let shared = Rc::new(alloc, Counted { held, spelled })?;
         Ok(KeptValue { shared })
     }
 
@@ -93,7 +127,14 @@ impl<V: Drop> KeptValue<V> {
     pub fn get(&self) -> &Stamped<V>
         ensures { result.now ≡ self.now }
     {
-        self.shared.as_ref()
+        &self.shared.as_ref().held
+    }
+
+    /// How many bytes spell the item of which this is held.
+    pub(crate) fn spelled_len(&self) -> u64
+        ensures { result ≡ capped (head_length + V.spelled self.now.value) }
+    {
+        self.shared.as_ref().spelled
     }
 
     /// The same value, held once more.

@@ -8,6 +8,7 @@ mod fault;
 mod held;
 mod item;
 mod kept;
+mod kept_list;
 mod key;
 mod label_sets;
 pub mod laws;
@@ -16,6 +17,7 @@ mod matchers;
 mod retirement;
 mod shared_item;
 mod silence;
+mod spelled;
 mod stamp;
 
 pub use counts::{Counts, GREATEST_COUNT};

@@ -1,34 +1,37 @@
 //! Stamped values by their keys, as a list in order that is shared until it changes.
 
-ghost use Rattle.std.specs.Prelude.{◌≡◌, [], ◌∷◌, ◌++◌, length, IfOk, MatchResult, OnErr, OnOk, if◌then◌else◌};
+ghost use Rattle.std.specs.Prelude.{◌≡◌, [], ◌∷◌, ◌++◌, length, sum_by, IfOk, MatchResult, OnErr, OnOk, if◌then◌else◌};
 ghost use Rattle.std.specs.BTreeMap.{is_at};
 ghost use Rattle.std.specs.List.Sorted.{IsStrictlySortedBy};
 ghost use Rattle.std.specs.Map.{keys_of, lookup, remove_entry};
 ghost use Rattle.std.specs.Option.{option_copied, option_map};
+ghost use Rattle.am_length.specs.Capped.{capped};
+ghost use Rattle.am_item.specs.Lengths.{kept_length};
 ghost use Rattle.am_item.specs.Retirement.{held_standing, put_over};
 ghost use Rattle.am_item.specs.Newest.{newer, newest};
 ghost use Rattle.am_item.specs.Stamp.{stamp_cmp};
 ghost use Rattle.std.specs.Ordering.{is_gt};
 ghost use Rattle.am_item.specs.Places.{IsGap, IsPlace};
 
-use crate::edits::{append, insert_at, remove_at, replace_at};
+use crate::edits::append;
 use crate::held::Put;
 use crate::kept::Kept;
+use crate::kept_list::KeptList;
 use crate::retirement::Retiring;
 use crate::stamp::Stamped;
+use am_length::Spelled;
 use std::alloc::{AllocError, Global};
 use std::cmp::Ordering;
 use std::marker::Model;
-use std::rc::Rc;
 
 /// Stamped values by their keys, in order of the keys. A snapshot shares its entries with the map that it is of, and
 /// the list of them too until one of the two changes.
 #[derive(Drop)]
-pub struct SharedMap<K: Ord, V> {
-    list: Rc<Vec<Kept<K, V>>>,
+pub struct SharedMap<K: Ord + Spelled, V: Spelled> {
+    list: KeptList<K, V>,
 }
 
-impl<K: Ord, V> Model for SharedMap<K, V> {
+impl<K: Ord + Spelled, V: Spelled> Model for SharedMap<K, V> {
     ghost use Rattle.std.specs.Prelude.{List};
     ghost use Rattle.std.specs.List.Sorted.{IsStrictlySortedBy};
     ghost use Rattle.std.specs.Map.{keys_of};
@@ -36,18 +39,18 @@ impl<K: Ord, V> Model for SharedMap<K, V> {
 
     ghost Value = { List (K × Stamped V) };
 
-    ghost view = { λ map. map.list.value.items };
+    ghost view = { λ map. map.list };
 
-    ghost invariant = { λ map. IsStrictlySortedBy K.cmp (keys_of map.list.value.items) };
+    ghost invariant = { λ map. IsStrictlySortedBy K.cmp (keys_of map.list) };
 }
 
-impl<K: Ord, V> SharedMap<K, V> {
+impl<K: Ord + Spelled, V: Spelled> SharedMap<K, V> {
     /// The entries in order of their keys.
     pub fn entries(&self) -> &[Kept<K, V>]
         ensures entries { result.now ≡ self.now }
         ensures ordered { IsStrictlySortedBy K.cmp (keys_of self.now) }
     {
-        self.list.as_ref().as_slice()
+        self.list.as_slice()
     }
 
     /// How many entries there are.
@@ -55,6 +58,13 @@ impl<K: Ord, V> SharedMap<K, V> {
         ensures { result ≡ length self.now }
     {
         self.entries().len()
+    }
+
+    /// How many bytes spell the entries as items. It takes the same time however many there are.
+    pub(crate) fn spelled_len(&self) -> u64
+        ensures { result ≡ capped (sum_by (kept_length K.spelled V.spelled) self.now) }
+    {
+        self.list.spelled_len()
     }
 
     /// What stands under a key.
@@ -69,12 +79,12 @@ impl<K: Ord, V> SharedMap<K, V> {
     }
 }
 
-impl<K: Ord + Drop, V: Drop> SharedMap<K, V> {
+impl<K: Ord + Spelled + Drop, V: Spelled + Drop> SharedMap<K, V> {
     /// No entry.
     pub fn new(alloc: Global) -> Result<SharedMap<K, V>, AllocError>
         ensures { IfOk result (λ map. map ≡ []) }
     {
-        let list = Rc::new(alloc, Vec::new(alloc))?;
+        let list = KeptList::from_vec(alloc, Vec::new(alloc))?;
         Ok(SharedMap { list })
     }
 
@@ -82,7 +92,7 @@ impl<K: Ord + Drop, V: Drop> SharedMap<K, V> {
     pub fn snapshot(&self) -> Result<SharedMap<K, V>, AllocError>
         ensures { IfOk result (λ map. map ≡ self.now) }
     {
-        let list = self.list.clone()?;
+        let list = self.list.share()?;
         Ok(SharedMap { list })
     }
 
@@ -93,9 +103,9 @@ impl<K: Ord + Drop, V: Drop> SharedMap<K, V> {
         ensures err { OnErr result (self.new ≡ self.old) }
         ensures ordered { IsStrictlySortedBy K.cmp (keys_of self.new) }
     {
-        match place(self.list.as_ref().as_slice(), key) {
+        match place(self.list.as_slice(), key) {
             Ok(at) => {
-                remove_at(&mut self.list, at)?;
+                self.list.remove(at)?;
                 Ok(())
             }
             Err(_) => Ok(()),
@@ -113,12 +123,12 @@ impl<K: Ord + Drop, V: Drop> SharedMap<K, V> {
         ensures ordered { IfOk result (λ map. IsStrictlySortedBy K.cmp (keys_of map)) }
     {
         let items = merge(alloc, self.entries(), other.entries())?;
-        let list = Rc::new(alloc, items)?;
+        let list = KeptList::from_vec(alloc, items)?;
         Ok(SharedMap { list })
     }
 }
 
-impl<K: Ord + Drop, V: Retiring + Drop> SharedMap<K, V> {
+impl<K: Ord + Spelled + Drop, V: Retiring + Spelled + Drop> SharedMap<K, V> {
     /// Puts an entry, unless one of its key stands there whose stamp is no smaller. An error, which is out of memory,
     /// leaves all as it was. Where the list of entries is shared, it is copied, and no entry.
     pub(crate) fn put(&mut self, kept: Kept<K, V>) -> Result<Put, AllocError>
@@ -127,19 +137,19 @@ impl<K: Ord + Drop, V: Retiring + Drop> SharedMap<K, V> {
         ensures err { OnErr result (self.new ≡ self.old) }
         ensures ordered { IsStrictlySortedBy K.cmp (keys_of self.new) }
     {
-        match place(self.list.as_ref().as_slice(), kept.key()) {
+        match place(self.list.as_slice(), kept.key()) {
             Ok(at) => {
-                let old = self.list.as_ref()[at].value();
+                let old = self.list.as_slice()[at].value();
                 if kept.value().stamp.exceeds(&old.stamp) {
                     let standing = old.standing();
-                    replace_at(&mut self.list, at, kept)?;
+                    self.list.replace(at, kept)?;
                     Ok(Put::Replaced(standing))
                 } else {
                     Ok(Put::Older)
                 }
             }
             Err(at) => {
-                insert_at(&mut self.list, at, kept)?;
+                self.list.insert(at, kept)?;
                 Ok(Put::New)
             }
         }
@@ -147,7 +157,7 @@ impl<K: Ord + Drop, V: Retiring + Drop> SharedMap<K, V> {
 }
 
 // Where a key stands, or would stand.
-fn place<K: Ord, V>(entries: &[Kept<K, V>], key: &K) -> Result<usize, usize>
+fn place<K: Ord + Spelled, V: Spelled>(entries: &[Kept<K, V>], key: &K) -> Result<usize, usize>
     requires { IsStrictlySortedBy K.cmp (keys_of entries.now) }
     ensures { MatchResult result (IsPlace K.cmp key.now entries.now) (IsGap K.cmp key.now entries.now) }
 {
@@ -155,7 +165,7 @@ fn place<K: Ord, V>(entries: &[Kept<K, V>], key: &K) -> Result<usize, usize>
 }
 
 // The entries of two lists in order, of each key the one with the greater stamp.
-fn merge<K: Ord + Drop, V: Drop>(
+fn merge<K: Ord + Spelled + Drop, V: Spelled + Drop>(
     alloc: Global,
     own: &[Kept<K, V>],
     others: &[Kept<K, V>],
@@ -195,7 +205,10 @@ fn merge<K: Ord + Drop, V: Drop>(
 }
 
 // The entry with the greater stamp, of two with one stamp the first.
-fn later<K: Drop, V: Drop>(x: &Kept<K, V>, y: &Kept<K, V>) -> Result<Kept<K, V>, AllocError>
+fn later<K: Spelled + Drop, V: Spelled + Drop>(
+    x: &Kept<K, V>,
+    y: &Kept<K, V>,
+) -> Result<Kept<K, V>, AllocError>
     ensures { IfOk result (λ kept. kept ≡ (if is_gt (stamp_cmp y.now.1.stamp x.now.1.stamp) then y.now else x.now)) }
 {
     if y.value().stamp.exceeds(&x.value().stamp) {
