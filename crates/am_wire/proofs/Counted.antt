@@ -1,16 +1,12 @@
 -- The lengths of what is spelled: an item's, field by field, is the one that it knows.
 use Rattle.std.proofs.Common.{◌≡◌, ℕ, ◌+◌, Bool, true, false, List, [], ◌∷◌, Option, Some, None, length, sym, ap, ◌∙◌, length-append, refl, arith}
 use Rattle.std.specs.List.{flat_map, sum_by}
-use Rattle.std.proofs.lemmas.List.Concat.{length-flat_map}
 use Rattle.std.proofs.lemmas.List.Sums.{sum_by-cons}
 use Rattle.am_length.specs.Lengths.{label_length, label_sets_length, labels_length, matcher_length, matchers_length, optional_text_length, text_length}
 use Rattle.am_item.specs.Lengths.{spelled_length, thing_length}
-use Rattle.am_item.specs.declared.entry.SentEntry.{SentEntry}
-use Rattle.am_item.specs.declared.item.Alert.{Alert}
 use Rattle.am_item.specs.declared.item.Item.{Item}
 use Rattle.am_item.specs.declared.item.Thing.{Thing}
 use Rattle.am_item.specs.declared.item.Thing.TheVariants as thing
-use Rattle.am_item.specs.declared.silence.Silence.{Silence}
 use Rattle.am_labels.specs.declared.Label.{Label}
 use Rattle.am_match.specs.Matchers.{MatcherText}
 use Rattle.am_wire.specs.declared.message.Body.TheVariants.{Get, Answer, Put, Ack, Ask, State, Got}
@@ -59,7 +55,7 @@ of_matchers ms = simp (length-append, length-number_bytes, length_of_all matcher
 of_configuration : (text : Option (List ℕ)) → length (configuration_bytes text) ≡ optional_text_length text
 unfolding configuration_bytes
 of_configuration None = refl
-of_configuration (Some text) = ap (λ n. 1 + n) (of_text text)
+of_configuration (Some text) = omega (arith, of_text text)
 
 of_thing : (what : Thing) → length (thing_bytes what) ≡ thing_length what
 unfolding silence_bytes alert_bytes entry_bytes
