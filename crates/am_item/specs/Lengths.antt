@@ -1,6 +1,8 @@
 -- How many bytes spell an item in a message.
-use Rattle.std.specs.Prelude.{ℕ, ◌+◌, length}
-use Rattle.am_length.specs.Lengths.{label_sets_length, labels_length, matchers_length, optional_text_length, text_length}
+use Rattle.std.specs.Prelude.{ℕ, ◌+◌, List, length, sum_by}
+use Rattle.am_length.specs.Capped.{capped}
+use Rattle.am_length.specs.Lengths.{label_sets_length, labels_length, matchers_length}
+use Rattle.am_length.specs.Lengths.{optional_text_length, text_length}
 use Rattle.am_item.specs.Details.{alert_details, entry_details, entry_key, silence_details}
 use Rattle.am_item.specs.declared.entry.EntryDetails.{EntryDetails}
 use Rattle.am_item.specs.declared.entry.EntryKey.{EntryKey}
@@ -45,3 +47,8 @@ spelled_length item = head_length + thing_length item.thing
 -- the item of what is held under a key, by the lengths of both
 abbrev pub kept_length : {K V : Type 0} → (K → ℕ) → (V → ℕ) → K × Stamped V → ℕ
 kept_length key_length value_length kept = head_length + (key_length kept.0 + value_length kept.1.value)
+
+-- the items of what is held under several keys, each in 64 bits
+abbrev pub total_length : {K V : Type 0} → (K → ℕ) → (V → ℕ) → List (K × Stamped V) → ℕ
+total_length key_length value_length entries =
+    sum_by (λ kept. capped (kept_length key_length value_length kept)) entries

@@ -14,14 +14,8 @@ use std::rc::Rc;
 /// A key and what stands under it, shared by those who hold it.
 #[derive(Drop)]
 pub struct Kept<K: Spelled, V: Spelled> {
-    pair: Rc<Counted<(K, Stamped<V>)>>,
-}
-
-// What is held of an item, and how many bytes spell the item.
-#[derive(Drop)]
-struct Counted<T> {
-    held: T,
-    spelled: u64,
+    // The key, what stands under it, and how many bytes spell the item of both.
+    entry: Rc<(K, Stamped<V>, u64)>,
 }
 
 impl<K: Spelled, V: Spelled> Model for Kept<K, V> {
@@ -32,9 +26,10 @@ impl<K: Spelled, V: Spelled> Model for Kept<K, V> {
 
     ghost Value = { K × Stamped V };
 
-    ghost view = { λ kept. kept.pair.value.held };
+    ghost view = { λ kept. (kept.entry.value.0, kept.entry.value.1) };
 
-    ghost invariant = { λ kept. kept.pair.value.spelled ≡ capped (kept_length K.spelled V.spelled kept.pair.value.held) };
+    ghost invariant = { λ kept. kept.entry.value.2
+        ≡ capped (kept_length K.spelled V.spelled (kept.entry.value.0, kept.entry.value.1)) };
 }
 
 impl<K: Spelled, V: Spelled> Kept<K, V> {
@@ -42,7 +37,7 @@ impl<K: Spelled, V: Spelled> Kept<K, V> {
     pub fn key(&self) -> &K
         ensures { result.now ≡ self.now.0 }
     {
-        let (key, _) = &self.pair.as_ref().held;
+        let (key, _, _) = self.entry.as_ref();
         key
     }
 
@@ -50,7 +45,7 @@ impl<K: Spelled, V: Spelled> Kept<K, V> {
     pub fn value(&self) -> &Stamped<V>
         ensures { result.now ≡ self.now.1 }
     {
-        let (_, value) = &self.pair.as_ref().held;
+        let (_, value, _) = self.entry.as_ref();
         value
     }
 
@@ -58,7 +53,8 @@ impl<K: Spelled, V: Spelled> Kept<K, V> {
     pub(crate) fn spelled_len(&self) -> u64
         ensures { result ≡ capped (kept_length K.spelled V.spelled self.now) }
     {
-        self.pair.as_ref().spelled
+        let (_, _, spelled) = self.entry.as_ref();
+        *spelled
     }
 }
 
@@ -70,17 +66,16 @@ impl<K: Spelled + Drop, V: Spelled + Drop> Kept<K, V> {
         let spelled = HEAD_LEN
             .saturating_add(key.spelled_len())
             .saturating_add(value.value.spelled_len());
-        let held = (key, value);
-        let pair = Rc::new(alloc, Counted { held, spelled })?;
-        Ok(Kept { pair })
+        let entry = Rc::new(alloc, (key, value, spelled))?;
+        Ok(Kept { entry })
     }
 
     /// The same entry, held once more.
     pub fn copy(&self) -> Result<Kept<K, V>, AllocError>
         ensures { IfOk result (λ kept. kept ≡ self.now) }
     {
-        let pair = self.pair.clone()?;
-        Ok(Kept { pair })
+        let entry = self.entry.clone()?;
+        Ok(Kept { entry })
     }
 }
 
@@ -96,7 +91,8 @@ impl<K: Spelled + Drop, V: Spelled + Drop> Clone for Kept<K, V> {
 /// A stamped value, shared by those who hold it.
 #[derive(Drop)]
 pub struct KeptValue<V: Spelled> {
-    shared: Rc<Counted<Stamped<V>>>,
+    // The value, and how many bytes spell the item of it.
+    shared: Rc<(Stamped<V>, u64)>,
 }
 
 impl<V: Spelled> Model for KeptValue<V> {
@@ -107,9 +103,9 @@ impl<V: Spelled> Model for KeptValue<V> {
 
     ghost Value = { Stamped V };
 
-    ghost view = { λ kept. kept.shared.value.held };
+    ghost view = { λ kept. kept.shared.value.0 };
 
-    ghost invariant = { λ kept. kept.shared.value.spelled ≡ capped (head_length + V.spelled kept.shared.value.held.value) };
+    ghost invariant = { λ kept. kept.shared.value.1 ≡ capped (head_length + V.spelled kept.shared.value.0.value) };
 }
 
 impl<V: Spelled + Drop> KeptValue<V> {
@@ -118,8 +114,7 @@ impl<V: Spelled + Drop> KeptValue<V> {
         ensures { IfOk result (λ kept. kept ≡ value) }
     {
         let spelled = HEAD_LEN.saturating_add(value.value.spelled_len());
-        let held = value;
-        let shared = Rc::new(alloc, Counted { held, spelled })?;
+        let shared = Rc::new(alloc, (value, spelled))?;
         Ok(KeptValue { shared })
     }
 
@@ -127,14 +122,16 @@ impl<V: Spelled + Drop> KeptValue<V> {
     pub fn get(&self) -> &Stamped<V>
         ensures { result.now ≡ self.now }
     {
-        &self.shared.as_ref().held
+        let (value, _) = self.shared.as_ref();
+        value
     }
 
     /// How many bytes spell the item of which this is held.
     pub(crate) fn spelled_len(&self) -> u64
         ensures { result ≡ capped (head_length + V.spelled self.now.value) }
     {
-        self.shared.as_ref().spelled
+        let (_, spelled) = self.shared.as_ref();
+        *spelled
     }
 
     /// The same value, held once more.

@@ -8,7 +8,6 @@ mod fault;
 mod held;
 mod item;
 mod kept;
-mod kept_list;
 mod key;
 mod label_sets;
 pub mod laws;

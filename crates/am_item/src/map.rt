@@ -13,35 +13,39 @@ ghost use Rattle.am_item.specs.Stamp.{stamp_cmp};
 ghost use Rattle.std.specs.Ordering.{is_gt};
 ghost use Rattle.am_item.specs.Places.{IsGap, IsPlace};
 
-use crate::edits::append;
+use crate::edits::{append, insert_at, remove_at, replace_at, total_len};
 use crate::held::Put;
 use crate::kept::Kept;
-use crate::kept_list::KeptList;
 use crate::retirement::Retiring;
 use crate::stamp::Stamped;
 use am_length::Spelled;
 use std::alloc::{AllocError, Global};
 use std::cmp::Ordering;
 use std::marker::Model;
+use std::rc::Rc;
 
 /// Stamped values by their keys, in order of the keys. A snapshot shares its entries with the map that it is of, and
 /// the list of them too until one of the two changes.
 #[derive(Drop)]
 pub struct SharedMap<K: Ord + Spelled, V: Spelled> {
-    list: KeptList<K, V>,
+    list: Rc<Vec<Kept<K, V>>>,
+    // How many bytes spell the entries as items.
+    spelled: u128,
 }
 
 impl<K: Ord + Spelled, V: Spelled> Model for SharedMap<K, V> {
-    ghost use Rattle.std.specs.Prelude.{List};
+    ghost use Rattle.std.specs.Prelude.{◌≡◌, List};
     ghost use Rattle.std.specs.List.Sorted.{IsStrictlySortedBy};
     ghost use Rattle.std.specs.Map.{keys_of};
+    ghost use Rattle.am_item.specs.Lengths.{total_length};
     ghost use Rattle.am_item.specs.declared.stamp.Stamped.{Stamped};
 
     ghost Value = { List (K × Stamped V) };
 
-    ghost view = { λ map. map.list };
+    ghost view = { λ map. map.list.value.items };
 
-    ghost invariant = { λ map. IsStrictlySortedBy K.cmp (keys_of map.list) };
+    ghost invariant = { λ map. IsStrictlySortedBy K.cmp (keys_of map.list.value.items)
+        × (map.spelled ≡ total_length K.spelled V.spelled map.list.value.items) };
 }
 
 impl<K: Ord + Spelled, V: Spelled> SharedMap<K, V> {
@@ -50,7 +54,7 @@ impl<K: Ord + Spelled, V: Spelled> SharedMap<K, V> {
         ensures entries { result.now ≡ self.now }
         ensures ordered { IsStrictlySortedBy K.cmp (keys_of self.now) }
     {
-        self.list.as_slice()
+        self.list.as_ref().as_slice()
     }
 
     /// How many entries there are.
@@ -64,7 +68,7 @@ impl<K: Ord + Spelled, V: Spelled> SharedMap<K, V> {
     pub(crate) fn spelled_len(&self) -> u64
         ensures { result ≡ capped (sum_by (kept_length K.spelled V.spelled) self.now) }
     {
-        self.list.spelled_len()
+        self.spelled.min(u64::MAX as u128) as u64
     }
 
     /// What stands under a key.
@@ -84,16 +88,17 @@ impl<K: Ord + Spelled + Drop, V: Spelled + Drop> SharedMap<K, V> {
     pub fn new(alloc: Global) -> Result<SharedMap<K, V>, AllocError>
         ensures { IfOk result (λ map. map ≡ []) }
     {
-        let list = KeptList::from_vec(alloc, Vec::new(alloc))?;
-        Ok(SharedMap { list })
+        let list = Rc::new(alloc, Vec::new(alloc))?;
+        Ok(SharedMap { list, spelled: 0 })
     }
 
     /// What the map is now, whatever becomes of it. It takes as long as counting one owner more.
     pub fn snapshot(&self) -> Result<SharedMap<K, V>, AllocError>
         ensures { IfOk result (λ map. map ≡ self.now) }
     {
-        let list = self.list.share()?;
-        Ok(SharedMap { list })
+        let list = self.list.clone()?;
+        let spelled = self.spelled;
+        Ok(SharedMap { list, spelled })
     }
 
     /// Removes what stands under a key. An error, which is out of memory, leaves all as it was; it comes only where the
@@ -103,9 +108,9 @@ impl<K: Ord + Spelled + Drop, V: Spelled + Drop> SharedMap<K, V> {
         ensures err { OnErr result (self.new ≡ self.old) }
         ensures ordered { IsStrictlySortedBy K.cmp (keys_of self.new) }
     {
-        match place(self.list.as_slice(), key) {
+        match place(self.list.as_ref().as_slice(), key) {
             Ok(at) => {
-                self.list.remove(at)?;
+                remove_at(&mut self.list, &mut self.spelled, at)?;
                 Ok(())
             }
             Err(_) => Ok(()),
@@ -123,8 +128,9 @@ impl<K: Ord + Spelled + Drop, V: Spelled + Drop> SharedMap<K, V> {
         ensures ordered { IfOk result (λ map. IsStrictlySortedBy K.cmp (keys_of map)) }
     {
         let items = merge(alloc, self.entries(), other.entries())?;
-        let list = KeptList::from_vec(alloc, items)?;
-        Ok(SharedMap { list })
+        let spelled = total_len(items.as_slice());
+        let list = Rc::new(alloc, items)?;
+        Ok(SharedMap { list, spelled })
     }
 }
 
@@ -137,19 +143,19 @@ impl<K: Ord + Spelled + Drop, V: Retiring + Spelled + Drop> SharedMap<K, V> {
         ensures err { OnErr result (self.new ≡ self.old) }
         ensures ordered { IsStrictlySortedBy K.cmp (keys_of self.new) }
     {
-        match place(self.list.as_slice(), kept.key()) {
+        match place(self.list.as_ref().as_slice(), kept.key()) {
             Ok(at) => {
-                let old = self.list.as_slice()[at].value();
+                let old = self.list.as_ref()[at].value();
                 if kept.value().stamp.exceeds(&old.stamp) {
                     let standing = old.standing();
-                    self.list.replace(at, kept)?;
+                    replace_at(&mut self.list, &mut self.spelled, at, kept)?;
                     Ok(Put::Replaced(standing))
                 } else {
                     Ok(Put::Older)
                 }
             }
             Err(at) => {
-                self.list.insert(at, kept)?;
+                insert_at(&mut self.list, &mut self.spelled, at, kept)?;
                 Ok(Put::New)
             }
         }

@@ -1,7 +1,8 @@
 //! How many bytes spell the parts of items in a message.
 
 ghost use Rattle.std.specs.Prelude.{length};
-ghost use Rattle.am_item.specs.Lengths.{alert_details_length, entry_details_length, entry_key_length, silence_details_length};
+ghost use Rattle.am_item.specs.Lengths.{alert_details_length, entry_details_length, entry_key_length};
+ghost use Rattle.am_item.specs.Lengths.{silence_details_length};
 
 use crate::entry::{EntryDetails, EntryKey};
 use crate::item::AlertDetails;
