@@ -8,6 +8,7 @@
 mod asking;
 mod checking;
 mod column;
+mod holders;
 pub mod laws;
 mod matcher;
 mod places;

@@ -1,13 +1,16 @@
 //! Which label sets each of many lists of matchers takes.
 
-ghost use Rattle.std.specs.Prelude.{◌≡◌, ◌+◌, ◌<◌, ◌≤◌, All, IfErr, IfOk, OnOk, length, map, true};
+ghost use Rattle.std.specs.Prelude.{◌≡◌, ◌+◌, ◌<◌, ◌≤◌, All, IfErr, IfOk, IsSomeAnd, OnOk, Some, length, map, true};
 ghost use Rattle.am_pattern.specs.Asking.{Asked};
 ghost use Rattle.am_match.specs.Asking.{IsFailureAmong};
+ghost use Rattle.am_match.specs.Columns.{IsIndexed, shown_in};
+ghost use Rattle.am_match.specs.Holders.{IsWhole, held_at};
 ghost use Rattle.am_match.specs.Matchers.{patterns_of};
 ghost use Rattle.am_match.specs.Meaning.{all_take};
 ghost use Rattle.am_match.specs.Tables.{IsTable, all_matchers, answer_of};
 
 use crate::column::{Column, ask};
+use crate::holders::{Held, holders_of};
 use crate::matcher::Matcher;
 use crate::questions::{Question, questions_of};
 use am_labels::LabelSet;
@@ -20,10 +23,11 @@ const OFTEN: usize = 16;
 
 /// For each of the lists of matchers, whether all of them take each of the label sets.
 ///
-/// The matchers of all lists are asked together, label by label. So the values of a label are looked up once. Where
-/// many matchers are about it, `=` and `!=` cost no more than the label sets that have their value, and a pattern is
-/// asked of each different value once. It is built at most once for each label that it is asked of. The call takes a
-/// byte for each list and label set.
+/// The matchers of all lists are asked together, label by label. The labels of each label set are gone over once, and a
+/// matcher is asked of those label sets alone that have its label, and once of the empty value for all others. Where many
+/// matchers are about a label, `=` and `!=` cost no more than the label sets that have their value, and a pattern is asked
+/// of each different value once. It is built at most once for each label that it is asked of. The call takes a byte for
+/// each list and label set.
 ///
 /// # Errors
 ///
@@ -76,13 +80,19 @@ fn ask_all(
     ensures misses { cache.new.misses ≤ cache.old.misses + length (patterns_of (map (λ q. q.1) questions.now)) }
     ensures failure { IfErr result (IsFailureAmong (map (λ q. q.1) questions.now) cache.old cache.new) }
 {
-    let mut column = Column::of(alloc, "", sets, false)?;
+    let held = holders_of(alloc, questions, sets)?;
+    if questions.is_empty() {
+        return Ok(());
+    }
+    let first = &questions[0];
+    let is_first_often = is_asked_often(questions, 0);
+    let mut column = column_of(alloc, first.matcher.name(), &held, is_first_often)?;
     let mut last = None;
     for (number, question) in questions.iter().enumerate() {
         let name = question.matcher.name();
         if name != column.name {
-            let is_asked_often = is_asked_often(questions, number);
-            column = Column::of(alloc, name, sets, is_asked_often)?;
+            let is_often = is_asked_often(questions, number);
+            column = column_of(alloc, name, &held, is_often)?;
             last = None;
         }
         let recurs = recurs(questions, number);
@@ -98,6 +108,24 @@ fn ask_all(
         )?;
     }
     Ok(())
+}
+
+// The column of the label of this name, indexed where it is asked often.
+fn column_of<'n, 'h, 'a>(
+    alloc: Global,
+    name: &'n str,
+    held: &'h Held<'n, 'a>,
+    is_asked_often: bool,
+) -> Result<Column<'n, 'h, 'a>, AllocError>
+    requires { IsSomeAnd (held_at held.now name.now) IsWhole }
+    ensures name { IfOk result (λ column. column.name.now ≡ name.now) }
+    ensures holders { IfOk result (λ column. held_at held.now name.now ≡ Some (shown_in column)) }
+    ensures indexed { IfOk result IsIndexed }
+{
+    match held.get(name) {
+        Some(holders) => Column::of(alloc, name, holders, is_asked_often),
+        None => unreachable!(),
+    }
 }
 
 // Whether the question behind this one is about an equal matcher.
