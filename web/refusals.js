@@ -32,4 +32,5 @@ export const REFUSALS = {
   Li1: { cause: "with the post more alerts would be held than the limit, even if it adds none.", remedy: "Send fewer." },
   Li3: { cause: "a posted configuration has more bytes than the limit; before C1.", remedy: "Shorten it." },
   Q1: { cause: "too few of the tenant's replicas answered within five seconds; of a write nothing is known, it may be kept.", remedy: "Ask again: a write may be repeated. A new silence may then stand twice." },
+  Q2: { cause: "while the request was open, the tenant's replicas changed or one was restarted; of a write nothing is known, it may be kept.", remedy: "Ask again: a write may be repeated. A new silence may then stand twice." },
 };
