@@ -17,3 +17,4 @@ pub mod Steps
 pub mod Found
 pub mod Removed
 pub mod Sharing
+pub mod Spelling

@@ -1,6 +1,7 @@
 pub mod Stamp
 pub mod EntryKey
 pub mod Details
+pub mod Lengths
 pub mod Key
 pub mod KeyTotal
 pub mod Best

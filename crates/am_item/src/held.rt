@@ -1,12 +1,15 @@
-ghost use Rattle.std.specs.Prelude.{◌≡◌, ◌++◌, ℕ, List, [], None, Some, IfOk, OnErr, OnOk};
+ghost use Rattle.std.specs.Prelude.{◌≡◌, ◌++◌, ℕ, List, [], None, Some, sum_by, IfOk, OnErr, OnOk};
 ghost use Rattle.std.specs.Cmp.Lexicographic.{slice_cmp};
 ghost use Rattle.std.specs.Option.{option_copied, option_map};
 ghost use Rattle.std.specs.Ordering.{nat_cmp};
 ghost use Rattle.am_labels.specs.declared.Label.{Label};
 ghost use Rattle.am_labels.specs.Labels.{labels_cmp};
+ghost use Rattle.am_length.specs.Capped.{capped};
 ghost use Rattle.am_item.specs.Best.{joined};
 ghost use Rattle.am_item.specs.EntryKey.{entry_cmp};
-ghost use Rattle.am_item.specs.Held.{alert_item, configuration_item, entry_item, items_by, silence_item};
+ghost use Rattle.am_item.specs.Held.{alert_item, configuration_item, configuration_items, entry_item, items_by};
+ghost use Rattle.am_item.specs.Held.{silence_item};
+ghost use Rattle.am_item.specs.Lengths.{spelled_length};
 ghost use Rattle.am_item.specs.Newest.{newer, newest};
 ghost use Rattle.am_item.specs.Retirement.{put_over, standing_of};
 ghost use Rattle.am_item.specs.Sorted.{IsOrdered, get};
@@ -22,6 +25,7 @@ use crate::shared_item::{
 use crate::silence::{SilenceDetails, SilenceId};
 use crate::stamp::{Stamp, Stamped};
 use am_labels::LabelSet;
+use am_length::Spelled;
 use am_text::{Moment, Text};
 use std::alloc::{AllocError, Global};
 use std::marker::Model;
@@ -87,7 +91,6 @@ impl Model for Held {
 impl Held {
     ghost use Rattle.am_item.specs.Best.{IsRising, best, item_at, joined, merged};
     ghost use Rattle.std.specs.Prelude.{filter, not};
-    ghost use Rattle.am_item.specs.Held.{configuration_items};
     ghost use Rattle.am_item.specs.declared.entry.EntryKey.{EntryKey};
     ghost use Rattle.am_item.specs.Key.{AlertKey, ConfigurationKey, SentEntryKey, SilenceKey, has_key, key_of};
     ghost use Rattle.am_item.specs.Kinds.{alerts_of, entries_of, silences_of};
@@ -150,6 +153,23 @@ impl Held {
         ensures at { (key : EntryKey) → option_map (entry_item key) (get entry_cmp result.now key) ≡ item_at (SentEntryKey key) self.now }
     {
         &self.sent
+    }
+
+    /// How many bytes spell the items that are held. It takes the same time however many there are.
+    pub fn spelled_len(&self) -> u64
+        ensures { result ≡ capped (sum_by spelled_length self.now) }
+    {
+        configuration_len(&self.configuration)
+            .saturating_add(self.silences.spelled_len())
+            .saturating_add(self.alerts.spelled_len())
+            .saturating_add(self.sent.spelled_len())
+    }
+
+    /// How many bytes spell the alerts among them. It takes the same time however many there are.
+    pub fn alert_bytes(&self) -> u64
+        ensures { result ≡ capped (sum_by spelled_length (alerts_of self.now)) }
+    {
+        self.alerts.spelled_len()
     }
 
     /// Puts an item: it takes its key's place, unless an item of that key is held whose stamp is no smaller. Answers
@@ -251,8 +271,19 @@ fn remove_configuration(held: &mut Option<KeptValue<Option<Text>>>)
     *held = None;
 }
 
+// How many bytes spell the configuration, where there is one.
+#[tactic(auto, unfolding(crate::specs::Lengths::spelled_length))]
+fn configuration_len(held: &Option<KeptValue<Option<Text>>>) -> u64
+    ensures { result ≡ capped (sum_by spelled_length (configuration_items held.now)) }
+{
+    match held {
+        None => 0,
+        Some(kept) => kept.spelled_len(),
+    }
+}
+
 // The configuration, where there is one.
-fn value_of<V: Drop>(held: &Option<KeptValue<V>>) -> Option<&Stamped<V>>
+fn value_of<V: Spelled + Drop>(held: &Option<KeptValue<V>>) -> Option<&Stamped<V>>
     ensures { option_copied result ≡ held.now }
 {
     match held {
@@ -262,7 +293,9 @@ fn value_of<V: Drop>(held: &Option<KeptValue<V>>) -> Option<&Stamped<V>>
 }
 
 // The same configuration, held once more.
-fn copy_of<V: Drop>(held: &Option<KeptValue<V>>) -> Result<Option<KeptValue<V>>, AllocError>
+fn copy_of<V: Spelled + Drop>(
+    held: &Option<KeptValue<V>>,
+) -> Result<Option<KeptValue<V>>, AllocError>
     ensures { IfOk result (λ copy. copy ≡ held.now) }
 {
     match held {
@@ -312,7 +345,7 @@ fn write_configuration(held: &mut Option<KeptValue<Option<Text>>>, kept: KeptVal
 }
 
 // The newer of two configurations.
-fn merged_configuration<V: Drop>(
+fn merged_configuration<V: Spelled + Drop>(
     own: &Option<KeptValue<V>>,
     other: &Option<KeptValue<V>>,
 ) -> Result<Option<KeptValue<V>>, AllocError>

@@ -1,32 +1,43 @@
 //! Keys and stamped values that several holdings share.
 
-ghost use Rattle.std.specs.Prelude.{◌≡◌, IfOk};
+ghost use Rattle.std.specs.Prelude.{◌≡◌, ◌+◌, IfOk};
+ghost use Rattle.am_length.specs.Capped.{capped};
+ghost use Rattle.am_item.specs.Lengths.{head_length, kept_length};
 
+use crate::spelled::HEAD_LEN;
 use crate::stamp::Stamped;
+use am_length::Spelled;
 use std::alloc::{AllocError, Global};
 use std::marker::Model;
 use std::rc::Rc;
 
 /// A key and what stands under it, shared by those who hold it.
 #[derive(Drop)]
-pub struct Kept<K, V> {
-    pair: Rc<(K, Stamped<V>)>,
+pub struct Kept<K: Spelled, V: Spelled> {
+    // The key, what stands under it, and how many bytes spell the item of both.
+    entry: Rc<(K, Stamped<V>, u64)>,
 }
 
-impl<K, V> Model for Kept<K, V> {
+impl<K: Spelled, V: Spelled> Model for Kept<K, V> {
+    ghost use Rattle.std.specs.Prelude.{◌≡◌};
+    ghost use Rattle.am_length.specs.Capped.{capped};
+    ghost use Rattle.am_item.specs.Lengths.{kept_length};
     ghost use Rattle.am_item.specs.declared.stamp.Stamped.{Stamped};
 
     ghost Value = { K × Stamped V };
 
-    ghost view = { λ kept. kept.pair.value };
+    ghost view = { λ kept. (kept.entry.value.0, kept.entry.value.1) };
+
+    ghost invariant = { λ kept. kept.entry.value.2
+        ≡ capped (kept_length K.spelled V.spelled (kept.entry.value.0, kept.entry.value.1)) };
 }
 
-impl<K, V> Kept<K, V> {
+impl<K: Spelled, V: Spelled> Kept<K, V> {
     /// The key.
     pub fn key(&self) -> &K
         ensures { result.now ≡ self.now.0 }
     {
-        let (key, _) = self.pair.as_ref();
+        let (key, _, _) = self.entry.as_ref();
         key
     }
 
@@ -34,31 +45,42 @@ impl<K, V> Kept<K, V> {
     pub fn value(&self) -> &Stamped<V>
         ensures { result.now ≡ self.now.1 }
     {
-        let (_, value) = self.pair.as_ref();
+        let (_, value, _) = self.entry.as_ref();
         value
+    }
+
+    /// How many bytes spell the item of which this is held.
+    pub(crate) fn spelled_len(&self) -> u64
+        ensures { result ≡ capped (kept_length K.spelled V.spelled self.now) }
+    {
+        let (_, _, spelled) = self.entry.as_ref();
+        *spelled
     }
 }
 
-impl<K: Drop, V: Drop> Kept<K, V> {
+impl<K: Spelled + Drop, V: Spelled + Drop> Kept<K, V> {
     /// A key and what stands under it.
     pub fn new(alloc: Global, key: K, value: Stamped<V>) -> Result<Kept<K, V>, AllocError>
         ensures { IfOk result (λ kept. kept ≡ (key, value)) }
     {
-        let pair = Rc::new(alloc, (key, value))?;
-        Ok(Kept { pair })
+        let spelled = HEAD_LEN
+            .saturating_add(key.spelled_len())
+            .saturating_add(value.value.spelled_len());
+        let entry = Rc::new(alloc, (key, value, spelled))?;
+        Ok(Kept { entry })
     }
 
     /// The same entry, held once more.
     pub fn copy(&self) -> Result<Kept<K, V>, AllocError>
         ensures { IfOk result (λ kept. kept ≡ self.now) }
     {
-        let pair = self.pair.clone()?;
-        Ok(Kept { pair })
+        let entry = self.entry.clone()?;
+        Ok(Kept { entry })
     }
 }
 
 // For the copies of lists that are shared and change.
-impl<K: Drop, V: Drop> Clone for Kept<K, V> {
+impl<K: Spelled + Drop, V: Spelled + Drop> Clone for Kept<K, V> {
     ghost is_clone = { λ kept copy. copy ≡ kept };
 
     fn clone(&self) -> Result<Kept<K, V>, AllocError> {
@@ -68,24 +90,31 @@ impl<K: Drop, V: Drop> Clone for Kept<K, V> {
 
 /// A stamped value, shared by those who hold it.
 #[derive(Drop)]
-pub struct KeptValue<V> {
-    shared: Rc<Stamped<V>>,
+pub struct KeptValue<V: Spelled> {
+    // The value, and how many bytes spell the item of it.
+    shared: Rc<(Stamped<V>, u64)>,
 }
 
-impl<V> Model for KeptValue<V> {
+impl<V: Spelled> Model for KeptValue<V> {
+    ghost use Rattle.std.specs.Prelude.{◌≡◌, ◌+◌};
+    ghost use Rattle.am_length.specs.Capped.{capped};
+    ghost use Rattle.am_item.specs.Lengths.{head_length};
     ghost use Rattle.am_item.specs.declared.stamp.Stamped.{Stamped};
 
     ghost Value = { Stamped V };
 
-    ghost view = { λ kept. kept.shared.value };
+    ghost view = { λ kept. kept.shared.value.0 };
+
+    ghost invariant = { λ kept. kept.shared.value.1 ≡ capped (head_length + V.spelled kept.shared.value.0.value) };
 }
 
-impl<V: Drop> KeptValue<V> {
+impl<V: Spelled + Drop> KeptValue<V> {
     /// A value.
     pub fn new(alloc: Global, value: Stamped<V>) -> Result<KeptValue<V>, AllocError>
         ensures { IfOk result (λ kept. kept ≡ value) }
     {
-        let shared = Rc::new(alloc, value)?;
+        let spelled = HEAD_LEN.saturating_add(value.value.spelled_len());
+        let shared = Rc::new(alloc, (value, spelled))?;
         Ok(KeptValue { shared })
     }
 
@@ -93,7 +122,16 @@ impl<V: Drop> KeptValue<V> {
     pub fn get(&self) -> &Stamped<V>
         ensures { result.now ≡ self.now }
     {
-        self.shared.as_ref()
+        let (value, _) = self.shared.as_ref();
+        value
+    }
+
+    /// How many bytes spell the item of which this is held.
+    pub(crate) fn spelled_len(&self) -> u64
+        ensures { result ≡ capped (head_length + V.spelled self.now.value) }
+    {
+        let (_, spelled) = self.shared.as_ref();
+        *spelled
     }
 
     /// The same value, held once more.

@@ -16,6 +16,7 @@ mod matchers;
 mod retirement;
 mod shared_item;
 mod silence;
+mod spelled;
 mod stamp;
 
 pub use counts::{Counts, GREATEST_COUNT};

@@ -1,21 +1,24 @@
 //! Stamped values by their keys, as a list in order that is shared until it changes.
 
-ghost use Rattle.std.specs.Prelude.{◌≡◌, [], ◌∷◌, ◌++◌, length, IfOk, MatchResult, OnErr, OnOk, if◌then◌else◌};
+ghost use Rattle.std.specs.Prelude.{◌≡◌, [], ◌∷◌, ◌++◌, length, sum_by, IfOk, MatchResult, OnErr, OnOk, if◌then◌else◌};
 ghost use Rattle.std.specs.BTreeMap.{is_at};
 ghost use Rattle.std.specs.List.Sorted.{IsStrictlySortedBy};
 ghost use Rattle.std.specs.Map.{keys_of, lookup, remove_entry};
 ghost use Rattle.std.specs.Option.{option_copied, option_map};
+ghost use Rattle.am_length.specs.Capped.{capped};
+ghost use Rattle.am_item.specs.Lengths.{kept_length};
 ghost use Rattle.am_item.specs.Retirement.{held_standing, put_over};
 ghost use Rattle.am_item.specs.Newest.{newer, newest};
 ghost use Rattle.am_item.specs.Stamp.{stamp_cmp};
 ghost use Rattle.std.specs.Ordering.{is_gt};
 ghost use Rattle.am_item.specs.Places.{IsGap, IsPlace};
 
-use crate::edits::{append, insert_at, remove_at, replace_at};
+use crate::edits::{append, insert_at, remove_at, replace_at, total_len};
 use crate::held::Put;
 use crate::kept::Kept;
 use crate::retirement::Retiring;
 use crate::stamp::Stamped;
+use am_length::Spelled;
 use std::alloc::{AllocError, Global};
 use std::cmp::Ordering;
 use std::marker::Model;
@@ -24,24 +27,28 @@ use std::rc::Rc;
 /// Stamped values by their keys, in order of the keys. A snapshot shares its entries with the map that it is of, and
 /// the list of them too until one of the two changes.
 #[derive(Drop)]
-pub struct SharedMap<K: Ord, V> {
+pub struct SharedMap<K: Ord + Spelled, V: Spelled> {
     list: Rc<Vec<Kept<K, V>>>,
+    // How many bytes spell the entries as items.
+    spelled: u128,
 }
 
-impl<K: Ord, V> Model for SharedMap<K, V> {
-    ghost use Rattle.std.specs.Prelude.{List};
+impl<K: Ord + Spelled, V: Spelled> Model for SharedMap<K, V> {
+    ghost use Rattle.std.specs.Prelude.{◌≡◌, List};
     ghost use Rattle.std.specs.List.Sorted.{IsStrictlySortedBy};
     ghost use Rattle.std.specs.Map.{keys_of};
+    ghost use Rattle.am_item.specs.Lengths.{total_length};
     ghost use Rattle.am_item.specs.declared.stamp.Stamped.{Stamped};
 
     ghost Value = { List (K × Stamped V) };
 
     ghost view = { λ map. map.list.value.items };
 
-    ghost invariant = { λ map. IsStrictlySortedBy K.cmp (keys_of map.list.value.items) };
+    ghost invariant = { λ map. IsStrictlySortedBy K.cmp (keys_of map.list.value.items)
+        × (map.spelled ≡ total_length K.spelled V.spelled map.list.value.items) };
 }
 
-impl<K: Ord, V> SharedMap<K, V> {
+impl<K: Ord + Spelled, V: Spelled> SharedMap<K, V> {
     /// The entries in order of their keys.
     pub fn entries(&self) -> &[Kept<K, V>]
         ensures entries { result.now ≡ self.now }
@@ -57,6 +64,13 @@ impl<K: Ord, V> SharedMap<K, V> {
         self.entries().len()
     }
 
+    /// How many bytes spell the entries as items. It takes the same time however many there are.
+    pub(crate) fn spelled_len(&self) -> u64
+        ensures { result ≡ capped (sum_by (kept_length K.spelled V.spelled) self.now) }
+    {
+        self.spelled.min(u64::MAX as u128) as u64
+    }
+
     /// What stands under a key.
     pub fn get(&self, key: &K) -> Option<&Stamped<V>>
         ensures { option_copied result ≡ lookup (is_at (K.cmp key.now)) self.now }
@@ -69,13 +83,13 @@ impl<K: Ord, V> SharedMap<K, V> {
     }
 }
 
-impl<K: Ord + Drop, V: Drop> SharedMap<K, V> {
+impl<K: Ord + Spelled + Drop, V: Spelled + Drop> SharedMap<K, V> {
     /// No entry.
     pub fn new(alloc: Global) -> Result<SharedMap<K, V>, AllocError>
         ensures { IfOk result (λ map. map ≡ []) }
     {
         let list = Rc::new(alloc, Vec::new(alloc))?;
-        Ok(SharedMap { list })
+        Ok(SharedMap { list, spelled: 0 })
     }
 
     /// What the map is now, whatever becomes of it. It takes as long as counting one owner more.
@@ -83,7 +97,8 @@ impl<K: Ord + Drop, V: Drop> SharedMap<K, V> {
         ensures { IfOk result (λ map. map ≡ self.now) }
     {
         let list = self.list.clone()?;
-        Ok(SharedMap { list })
+        let spelled = self.spelled;
+        Ok(SharedMap { list, spelled })
     }
 
     /// Removes what stands under a key. An error, which is out of memory, leaves all as it was; it comes only where the
@@ -95,7 +110,7 @@ impl<K: Ord + Drop, V: Drop> SharedMap<K, V> {
     {
         match place(self.list.as_ref().as_slice(), key) {
             Ok(at) => {
-                remove_at(&mut self.list, at)?;
+                remove_at(&mut self.list, &mut self.spelled, at)?;
                 Ok(())
             }
             Err(_) => Ok(()),
@@ -113,12 +128,13 @@ impl<K: Ord + Drop, V: Drop> SharedMap<K, V> {
         ensures ordered { IfOk result (λ map. IsStrictlySortedBy K.cmp (keys_of map)) }
     {
         let items = merge(alloc, self.entries(), other.entries())?;
+        let spelled = total_len(items.as_slice());
         let list = Rc::new(alloc, items)?;
-        Ok(SharedMap { list })
+        Ok(SharedMap { list, spelled })
     }
 }
 
-impl<K: Ord + Drop, V: Retiring + Drop> SharedMap<K, V> {
+impl<K: Ord + Spelled + Drop, V: Retiring + Spelled + Drop> SharedMap<K, V> {
     /// Puts an entry, unless one of its key stands there whose stamp is no smaller. An error, which is out of memory,
     /// leaves all as it was. Where the list of entries is shared, it is copied, and no entry.
     pub(crate) fn put(&mut self, kept: Kept<K, V>) -> Result<Put, AllocError>
@@ -132,14 +148,14 @@ impl<K: Ord + Drop, V: Retiring + Drop> SharedMap<K, V> {
                 let old = self.list.as_ref()[at].value();
                 if kept.value().stamp.exceeds(&old.stamp) {
                     let standing = old.standing();
-                    replace_at(&mut self.list, at, kept)?;
+                    replace_at(&mut self.list, &mut self.spelled, at, kept)?;
                     Ok(Put::Replaced(standing))
                 } else {
                     Ok(Put::Older)
                 }
             }
             Err(at) => {
-                insert_at(&mut self.list, at, kept)?;
+                insert_at(&mut self.list, &mut self.spelled, at, kept)?;
                 Ok(Put::New)
             }
         }
@@ -147,7 +163,7 @@ impl<K: Ord + Drop, V: Retiring + Drop> SharedMap<K, V> {
 }
 
 // Where a key stands, or would stand.
-fn place<K: Ord, V>(entries: &[Kept<K, V>], key: &K) -> Result<usize, usize>
+fn place<K: Ord + Spelled, V: Spelled>(entries: &[Kept<K, V>], key: &K) -> Result<usize, usize>
     requires { IsStrictlySortedBy K.cmp (keys_of entries.now) }
     ensures { MatchResult result (IsPlace K.cmp key.now entries.now) (IsGap K.cmp key.now entries.now) }
 {
@@ -155,7 +171,7 @@ fn place<K: Ord, V>(entries: &[Kept<K, V>], key: &K) -> Result<usize, usize>
 }
 
 // The entries of two lists in order, of each key the one with the greater stamp.
-fn merge<K: Ord + Drop, V: Drop>(
+fn merge<K: Ord + Spelled + Drop, V: Spelled + Drop>(
     alloc: Global,
     own: &[Kept<K, V>],
     others: &[Kept<K, V>],
@@ -195,7 +211,10 @@ fn merge<K: Ord + Drop, V: Drop>(
 }
 
 // The entry with the greater stamp, of two with one stamp the first.
-fn later<K: Drop, V: Drop>(x: &Kept<K, V>, y: &Kept<K, V>) -> Result<Kept<K, V>, AllocError>
+fn later<K: Spelled + Drop, V: Spelled + Drop>(
+    x: &Kept<K, V>,
+    y: &Kept<K, V>,
+) -> Result<Kept<K, V>, AllocError>
     ensures { IfOk result (λ kept. kept ≡ (if is_gt (stamp_cmp y.now.1.stamp x.now.1.stamp) then y.now else x.now)) }
 {
     if y.value().stamp.exceeds(&x.value().stamp) {

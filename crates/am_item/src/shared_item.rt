@@ -1,8 +1,10 @@
 //! An item that several lists share.
 
 ghost use Rattle.std.specs.Prelude.{◌≡◌, ◌++◌, IfOk, OnOk};
+ghost use Rattle.am_length.specs.Capped.{capped};
 ghost use Rattle.am_item.specs.Held.{alert_item, configuration_items, entry_item, items_by, silence_item};
 ghost use Rattle.am_item.specs.Key.{key_of};
+ghost use Rattle.am_item.specs.Lengths.{spelled_length};
 ghost use Rattle.am_item.specs.Retirement.{standing_of};
 ghost use Rattle.am_item.specs.Shared.{item_of, thing_in};
 
@@ -143,6 +145,19 @@ impl SharedItem {
             KeptItem::Silence(kept) => Part::Silence(kept.key(), &kept.value().value),
             KeptItem::Alert(kept) => Part::Alert(kept.key(), &kept.value().value),
             KeptItem::SentEntry(kept) => Part::SentEntry(kept.key(), &kept.value().value),
+        }
+    }
+
+    /// How many bytes spell it in a message. It was counted when the item was made.
+    #[tactic(auto, unfolding(crate::specs::Lengths::spelled_length))]
+    pub fn spelled_len(&self) -> u64
+        ensures { result ≡ capped (spelled_length self.now) }
+    {
+        match &self.kept {
+            KeptItem::Configuration(kept) => kept.spelled_len(),
+            KeptItem::Silence(kept) => kept.spelled_len(),
+            KeptItem::Alert(kept) => kept.spelled_len(),
+            KeptItem::SentEntry(kept) => kept.spelled_len(),
         }
     }
 

@@ -1,70 +1,75 @@
--- The lengths of what is spelled, field by field.
-use Rattle.std.proofs.Common.{◌≡◌, ℕ, ◌+◌, Bool, true, false, List, [], ◌∷◌, ◌++◌, length, ap, sym, ◌∙◌, append-nil, length-append, arith}
-use Rattle.std.specs.List.{flat_map}
-use Rattle.std.proofs.lemmas.Grind.{flat_map-append}
-use Rattle.am_item.proofs.Sharing.{items_by-append}
-use Rattle.am_item.specs.Held.{items_by}
-use Rattle.am_item.specs.declared.entry.SentEntry.{SentEntry}
-use Rattle.am_item.specs.declared.item.Alert.{Alert}
+-- The lengths of what is spelled: an item's, field by field, is the one that it knows.
+use Rattle.std.proofs.Common.{◌≡◌, ℕ, ◌+◌, Bool, true, false, List, [], ◌∷◌, Option, Some, None, length, sym, ap, ◌∙◌, length-append, refl, arith}
+use Rattle.std.specs.List.{flat_map, sum_by}
+use Rattle.std.proofs.lemmas.List.Sums.{sum_by-cons}
+use Rattle.am_length.specs.Lengths.{label_length, label_sets_length, labels_length, matcher_length, matchers_length, optional_text_length, text_length}
+use Rattle.am_item.specs.Lengths.{spelled_length, thing_length}
 use Rattle.am_item.specs.declared.item.Item.{Item}
-use Rattle.am_item.specs.declared.silence.Silence.{Silence}
+use Rattle.am_item.specs.declared.item.Thing.{Thing}
+use Rattle.am_item.specs.declared.item.Thing.TheVariants as thing
 use Rattle.am_labels.specs.declared.Label.{Label}
 use Rattle.am_match.specs.Matchers.{MatcherText}
 use Rattle.am_wire.specs.declared.message.Body.TheVariants.{Get, Answer, Put, Ack, Ask, State, Got}
 use Rattle.am_wire.specs.declared.message.Message.{Message}
 use Rattle.am_wire.specs.Fields.{flag_bytes, text_bytes}
-use Rattle.am_wire.specs.ItemFields.{alert_bytes, entry_bytes, item_bytes, items_bytes, matcher_bytes, matchers_bytes, silence_bytes, stamp_bytes, thing_bytes}
+use Rattle.am_wire.specs.ItemFields.{alert_bytes, configuration_bytes, entry_bytes, item_bytes, items_bytes, matcher_bytes, matchers_bytes, silence_bytes, stamp_bytes, thing_bytes}
 use Rattle.am_wire.specs.LabelFields.{label_bytes, label_sets_bytes, labels_bytes}
-use Rattle.am_wire.specs.Lengths.{capped}
 use Rattle.am_wire.specs.Messages.{body_bytes, inside, spelling}
 use Rattle.am_wire.proofs.Framed.{length-number_bytes, length-spelling}
+
+-- things one after another are as long as the sum of their lengths
+length_of_all : {A : Type 0} (bytes : A → List ℕ) (size : A → ℕ) → ((x : A) → length (bytes x) ≡ size x) → (xs : List A) → length (flat_map bytes xs) ≡ sum_by size xs
+length_of_all bytes size each [] = refl
+length_of_all bytes size each (x ∷ xs) =
+    length-append (bytes x) (flat_map bytes xs)
+    ∙ ap (λ n. n + length (flat_map bytes xs)) (each x) ∙ ap (λ n. size x + n) (length_of_all bytes size each xs) ∙ sym (sum_by-cons size x xs)
 
 length-flag : (flag : Bool) → length (flag_bytes flag) ≡ 1
 length-flag true = omega arith
 length-flag false = omega arith
 
-pub text_length : (text : List ℕ) → length (text_bytes text) ≡ 4 + length text
+of_text : (text : List ℕ) → length (text_bytes text) ≡ text_length text
 unfolding text_bytes
-text_length text = simp (length-append, length-number_bytes) (omega arith)
+of_text text = simp (length-append, length-number_bytes) (omega arith)
 
-pub label_length : (label : Label) → length (label_bytes label) ≡ length (text_bytes label.name) + length (text_bytes label.value)
+of_label : (label : Label) → length (label_bytes label) ≡ label_length label
 unfolding label_bytes
-label_length label = length-append (text_bytes label.name) (text_bytes label.value)
+of_label label = simp (length-append, of_text) (omega arith)
 
-pub labels_length : (labels : List Label) → length (labels_bytes labels) ≡ 2 + length (flat_map label_bytes labels)
+of_labels : (labels : List Label) → length (labels_bytes labels) ≡ labels_length labels
 unfolding labels_bytes
-labels_length labels = simp (length-append, length-number_bytes) (omega arith)
+of_labels labels = simp (length-append, length-number_bytes, length_of_all label_bytes label_length of_label) (omega arith)
 
-pub sets_length : (sets : List (List Label)) → length (label_sets_bytes sets) ≡ 4 + length (flat_map labels_bytes sets)
+of_sets : (sets : List (List Label)) → length (label_sets_bytes sets) ≡ label_sets_length sets
 unfolding label_sets_bytes
-sets_length sets = simp (length-append, length-number_bytes) (omega arith)
+of_sets sets = simp (length-append, length-number_bytes, length_of_all labels_bytes labels_length of_labels) (omega arith)
 
-pub matcher_length : (m : MatcherText) → length (matcher_bytes m) ≡ 1 + (length (text_bytes m.name) + length (text_bytes m.value))
+of_matcher : (m : MatcherText) → length (matcher_bytes m) ≡ matcher_length m
 unfolding matcher_bytes
-matcher_length m = simp length-append (omega arith)
+of_matcher m = simp (length-append, of_text) (omega arith)
 
-pub matchers_length : (ms : List MatcherText) → length (matchers_bytes ms) ≡ 2 + length (flat_map matcher_bytes ms)
+of_matchers : (ms : List MatcherText) → length (matchers_bytes ms) ≡ matchers_length ms
 unfolding matchers_bytes
-matchers_length ms = simp (length-append, length-number_bytes) (omega arith)
+of_matchers ms = simp (length-append, length-number_bytes, length_of_all matcher_bytes matcher_length of_matcher) (omega arith)
 
-pub silence_length : (s : Silence) → length (silence_bytes s) ≡
-    24 + length s.id + length (text_bytes s.created_by) + length (text_bytes s.comment) + length (matchers_bytes s.matchers)
-unfolding silence_bytes
-silence_length s = simp (length-append, length-number_bytes) (omega arith)
+of_configuration : (text : Option (List ℕ)) → length (configuration_bytes text) ≡ optional_text_length text
+unfolding configuration_bytes
+of_configuration None = refl
+of_configuration (Some text) = omega (arith, of_text text)
 
-pub alert_length : (a : Alert) → length (alert_bytes a) ≡
-    16 + length (labels_bytes a.labels) + length (labels_bytes a.annotations) + length (text_bytes a.generator_url)
-unfolding alert_bytes
-alert_length a = simp (length-append, length-number_bytes) (omega arith)
+of_thing : (what : Thing) → length (thing_bytes what) ≡ thing_length what
+unfolding silence_bytes alert_bytes entry_bytes
+of_thing (thing.Configuration text) = of_configuration text
+of_thing (thing.Silence silence) = simp (length-append, length-number_bytes, of_text, of_matchers) (omega arith)
+of_thing (thing.Alert alert) = simp (length-append, length-number_bytes, of_text, of_labels) (omega arith)
+of_thing (thing.SentEntry entry) = simp (length-append, length-number_bytes, of_text, of_sets) (omega arith)
 
-pub entry_length : (e : SentEntry) → length (entry_bytes e) ≡
-    9 + length (text_bytes e.receiver) + length (text_bytes e.group) + length (label_sets_bytes e.firing) + length (label_sets_bytes e.resolved)
-unfolding entry_bytes
-entry_length e = simp (length-append, length-number_bytes) (omega arith)
+pub item_spelled : (item : Item) → length (item_bytes item) ≡ spelled_length item
+unfolding item_bytes stamp_bytes spelled_length
+item_spelled item = simp (length-append, length-number_bytes, of_thing) (omega arith)
 
-pub item_length : (item : Item) → length (item_bytes item) ≡ 22 + length (thing_bytes item.thing)
-unfolding item_bytes stamp_bytes
-item_length item = simp (length-append, length-number_bytes) (omega arith)
+pub items_spelled : (items : List Item) → length (flat_map item_bytes items) ≡ sum_by spelled_length items
+items_spelled items = length_of_all item_bytes spelled_length item_spelled items
 
 pub items_length : (items : List Item) → length (items_bytes items) ≡ 4 + length (flat_map item_bytes items)
 unfolding items_bytes
@@ -104,27 +109,3 @@ pub ruleset body_lengths = (get_length, answer_length, put_length, ack_length, a
 pub message_length : (m : Message) → length (spelling m) ≡ 29 + length m.tenant + length (body_bytes m.body)
 unfolding inside
 message_length m = length-spelling m ∙ simp (length-append, length-number_bytes) (omega arith)
-
--- one thing more was counted
-pub counted_more : {A : Type 0} (f : A → List ℕ) (xs : List A) (x : A) (n m : ℕ) → n ≡ capped (length (flat_map f xs)) → m ≡ capped (length (f x)) →
-    capped (n + m) ≡ capped (length (flat_map f (xs ++ x ∷ [])))
-counted_more f xs x n m before here =
-    let whole : length (flat_map f (xs ++ x ∷ [])) ≡ length (flat_map f xs) + length (f x) =
-    ap length (flat_map-append f xs (x ∷ []) ∙ ap (λ (ys : List ℕ). flat_map f xs ++ ys) (append-nil (f x))) ∙ length-append (flat_map f xs) (f x) in
-    omega (arith, whole, before, here)
-
--- one entry more was counted
-pub kept_more : {K V : Type 0} (item : K → V → Item) (xs more : List (K × V)) (x : K × V) (n m : ℕ) → more ≡ xs ++ x ∷ [] → n ≡ capped (length (flat_map item_bytes (items_by item xs)))
-    → m ≡ capped (length (item_bytes (item x.0 x.1))) → capped (n + m) ≡ capped (length (flat_map item_bytes (items_by item more)))
-kept_more item xs more x n m is before here =
-    counted_more item_bytes (items_by item xs) (item x.0 x.1) n m before here
-    ∙ ap (λ ys. capped (length (flat_map item_bytes ys))) (sym (items_by-append item xs (x ∷ [])) ∙ ap (items_by item) (sym is))
-
--- a sum of capped parts, each added in turn
-pub with_fields : (a b m fixed total one two three four : ℕ) → one ≡ capped (capped a + capped b) → two ≡ capped (one + capped m) → three ≡ capped (two + fixed) →
-    four ≡ capped (three + 24) → total ≡ 24 + fixed + a + b + m → four ≡ capped total
-with_fields a b m fixed total one two three four p q r s t =
-    let first : one ≡ capped (a + b) = omega arith in
-    let second : two ≡ capped (a + b + m) = omega arith in
-    let third : three ≡ capped (a + b + m + fixed) = omega arith in
-    omega arith

@@ -1,10 +1,12 @@
 //! What spells messages: laws, which no program needs to call.
 
 ghost use Rattle.std.specs.Prelude.{◌≡◌, ℕ, ◌<◌, List, ◌∷◌, ◌++◌, length, take, Ok, Err};
+ghost use Rattle.am_item.specs.Lengths.{spelled_length};
+ghost use Rattle.am_item.specs.declared.item.Item.{Item};
 ghost use Rattle.am_match.specs.Matchers.{MatcherText};
 ghost use Rattle.am_match.specs.Spelling.{spelling as spelled_matchers};
 ghost use Rattle.am_wire.specs.Bytes.{AreBytes};
-ghost use Rattle.am_wire.specs.ItemFields.{matchers_bytes};
+ghost use Rattle.am_wire.specs.ItemFields.{item_bytes, matchers_bytes};
 ghost use Rattle.am_wire.specs.Messages.{Spells, message_of};
 ghost use Rattle.am_wire.specs.declared.message.Message.{Message};
 
@@ -26,4 +28,10 @@ pub fn spellings()
 /// Matchers are spelled as they are stored.
 pub fn matchers()
     ensures { (ms : List MatcherText) → matchers_bytes ms ≡ spelled_matchers ms }
+{}
+
+/// An item is spelled in as many bytes as it knows of itself.
+#[tactic(auto, using(crate::proofs::Counted::item_spelled))]
+pub fn lengths()
+    ensures { (item : Item) → length (item_bytes item) ≡ spelled_length item }
 {}

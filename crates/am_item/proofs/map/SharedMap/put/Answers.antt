@@ -22,9 +22,11 @@ invariant_of-self-then-exceeds g c =
     let cmp = g.K.Ord.cmp in
     let es = c.self.inside.list.value.items in
     let seen = c.as_slice.ensures.value ∙ ap (λ v. v.items) c.as_ref.ensures in
-    let place : IsPlace cmp c.args.kept.0 es c.in-Ok.at = subst (λ k. IsPlace cmp k es c.in-Ok.at) c.key.ensures (subst (λ l. IsPlace cmp c.key.result.now l c.in-Ok.at) seen c.in-Ok.ensures) in
-    subst (λ l. IsStrictlySortedBy cmp (keys_of l)) (sym c.in_ok-replace_at-in-Ok.ensures.ok)
-    (set_sorted g.met.K.Ord.total c.args.kept.0 c.args.kept.1 es c.in-Ok.at place c.self.invariant)
+    let place : IsPlace cmp c.args.kept.0 es c.in-Ok.at = subst (λ k. IsPlace cmp k es c.in-Ok.at) c.key.ensures (subst (λ l. IsPlace cmp c.key.result.now l c.in-Ok.at) seen c.in-Ok.ensures) in (
+      subst (λ l. IsStrictlySortedBy cmp (keys_of l)) (sym c.in_ok-replace_at-in-Ok.ensures.ok)
+          (set_sorted g.met.K.Ord.total c.args.kept.0 c.args.kept.1 es c.in-Ok.at place c.self.invariant.0),
+      c.in_ok-replace_at-in-Ok.ensures.counted,
+    )
 
 pub returns-in_ok-replace_at-in-Ok-clause-newest : goal.returns-in_ok-replace_at-in-Ok-clause-newest
 returns-in_ok-replace_at-in-Ok-clause-newest g c = λ q.
@@ -33,7 +35,7 @@ returns-in_ok-replace_at-in-Ok-clause-newest g c = λ q.
     let seen = c.as_slice.ensures.value ∙ ap (λ v. v.items) c.as_ref.ensures in
     let place : IsPlace cmp c.args.kept.0 es c.in-Ok.at = subst (λ k. IsPlace cmp k es c.in-Ok.at) c.key.ensures (subst (λ l. IsPlace cmp c.key.result.now l c.in-Ok.at) seen c.in-Ok.ensures) in
     ap (lookup (is_at (cmp q))) c.in_ok-replace_at-in-Ok.ensures.ok
-    ∙ put_place g.met.K.Ord.total c.args.kept.0 c.args.kept.1 es c.in-Ok.at c.index.result.now place c.self.invariant
+    ∙ put_place g.met.K.Ord.total c.args.kept.0 c.args.kept.1 es c.in-Ok.at c.index.result.now place c.self.invariant.0
     (c.index.ensures ∙ ap (λ v. slice_index_or v.items c.in-Ok.at c.index.result.now) c.as_ref-in-Ok.ensures)
     (ap (λ o. is_gt (stamp_cmp c.args.kept.1.stamp o.stamp)) (sym c.value-old.ensures) ∙ ap (λ o. is_gt (stamp_cmp o.stamp c.value-old.result.now.stamp)) (sym c.value.ensures) ∙ sym c.exceeds.ensures ∙ c.if-exceeds.true) q
     ∙ ap (λ l. cond (is_at (cmp c.args.kept.0) q) (newest (lookup (is_at (cmp q)) l) c.args.kept.1) (lookup (is_at (cmp q)) l)) c.self.view_is
@@ -45,25 +47,27 @@ returns-else-exceeds-clause-newest g c = λ q.
     let seen = c.as_slice.ensures.value ∙ ap (λ v. v.items) c.as_ref.ensures in
     let place : IsPlace cmp c.args.kept.0 es c.in-Ok.at = subst (λ k. IsPlace cmp k es c.in-Ok.at) c.key.ensures (subst (λ l. IsPlace cmp c.key.result.now l c.in-Ok.at) seen c.in-Ok.ensures) in
     ap (lookup (is_at (cmp q))) (sym c.self.view_is)
-    ∙ put_older g.met.K.Ord.total c.args.kept.0 c.args.kept.1 es c.in-Ok.at c.index.result.now place c.self.invariant
+    ∙ put_older g.met.K.Ord.total c.args.kept.0 c.args.kept.1 es c.in-Ok.at c.index.result.now place c.self.invariant.0
     (c.index.ensures ∙ ap (λ v. slice_index_or v.items c.in-Ok.at c.index.result.now) c.as_ref-in-Ok.ensures)
     (ap (λ o. is_gt (stamp_cmp c.args.kept.1.stamp o.stamp)) (sym c.value-old.ensures) ∙ ap (λ o. is_gt (stamp_cmp o.stamp c.value-old.result.now.stamp)) (sym c.value.ensures) ∙ sym c.exceeds.ensures ∙ c.if-exceeds.false) q
     ∙ ap (λ l. cond (is_at (cmp c.args.kept.0) q) (newest (lookup (is_at (cmp q)) l) c.args.kept.1) (lookup (is_at (cmp q)) l)) c.self.view_is
 
 pub returns-in_ok-replace_at-in-Ok-clause-ordered : goal.returns-in_ok-replace_at-in-Ok-clause-ordered
-returns-in_ok-replace_at-in-Ok-clause-ordered g c = invariant_of-self-then-exceeds g c
+returns-in_ok-replace_at-in-Ok-clause-ordered g c = (invariant_of-self-then-exceeds g c).0
 
 pub invariant_of-self-in-Err : goal.invariant_of-self-in-Err
 invariant_of-self-in-Err g c =
     let cmp = g.K.Ord.cmp in
     let es = c.self.inside.list.value.items in
     let seen = c.as_slice.ensures.value ∙ ap (λ v. v.items) c.as_ref.ensures in
-    let gap : IsGap cmp c.args.kept.0 es c.in-Err.at = subst (λ k. IsGap cmp k es c.in-Err.at) c.key.ensures (subst (λ l. IsGap cmp c.key.result.now l c.in-Err.at) seen c.in-Err.ensures) in
-    subst (λ l. IsStrictlySortedBy cmp (keys_of l)) (sym c.in_ok-insert_at-in-Err.ensures.ok)
-    (insert_sorted g.met.K.Ord.total c.args.kept.0 c.args.kept.1 es c.in-Err.at gap c.self.invariant)
+    let gap : IsGap cmp c.args.kept.0 es c.in-Err.at = subst (λ k. IsGap cmp k es c.in-Err.at) c.key.ensures (subst (λ l. IsGap cmp c.key.result.now l c.in-Err.at) seen c.in-Err.ensures) in (
+      subst (λ l. IsStrictlySortedBy cmp (keys_of l)) (sym c.in_ok-insert_at-in-Err.ensures.ok)
+          (insert_sorted g.met.K.Ord.total c.args.kept.0 c.args.kept.1 es c.in-Err.at gap c.self.invariant.0),
+      c.in_ok-insert_at-in-Err.ensures.counted,
+    )
 
 pub returns-in_ok-insert_at-in-Err-clause-ordered : goal.returns-in_ok-insert_at-in-Err-clause-ordered
-returns-in_ok-insert_at-in-Err-clause-ordered g c = invariant_of-self-in-Err g c
+returns-in_ok-insert_at-in-Err-clause-ordered g c = (invariant_of-self-in-Err g c).0
 
 pub returns-in_ok-insert_at-in-Err-clause-newest : goal.returns-in_ok-insert_at-in-Err-clause-newest
 returns-in_ok-insert_at-in-Err-clause-newest g c = λ q.
@@ -96,7 +100,7 @@ returns-in_ok-replace_at-in-Ok-clause-put g c =
     let place : IsPlace cmp key es c.in-Ok.at = subst (λ k. IsPlace cmp k es c.in-Ok.at) c.key.ensures (subst (λ l. IsPlace cmp c.key.result.now l c.in-Ok.at) seen c.in-Ok.ensures) in
     put_replaced g.V.Retiring.retires (lookup (is_at (cmp key)) c.args.self.now) c.index.result.now.1 c.standing-standing.result c.args.kept.1.stamp
     (ap (lookup (is_at (cmp key))) (sym c.self.view_is)
-    ∙ at_place total key es c.in-Ok.at c.index.result.now place c.self.invariant
+    ∙ at_place total key es c.in-Ok.at c.index.result.now place c.self.invariant.0
     (c.index.ensures ∙ ap (λ v. slice_index_or v.items c.in-Ok.at c.index.result.now) c.as_ref-in-Ok.ensures) key ((eq_by_cmp_equiv total).refl key))
     (c.standing-standing.ensures ∙ ap (held_standing g.V.Retiring.retires) c.value-old.ensures)
     (ap (λ o. is_gt (stamp_cmp c.args.kept.1.stamp o.stamp)) (sym c.value-old.ensures) ∙ ap (λ o. is_gt (stamp_cmp o.stamp c.value-old.result.now.stamp)) (sym c.value.ensures) ∙ sym c.exceeds.ensures ∙ c.if-exceeds.true)
@@ -111,6 +115,6 @@ returns-else-exceeds-clause-put g c =
     let place : IsPlace cmp key es c.in-Ok.at = subst (λ k. IsPlace cmp k es c.in-Ok.at) c.key.ensures (subst (λ l. IsPlace cmp c.key.result.now l c.in-Ok.at) seen c.in-Ok.ensures) in
     put_stays g.V.Retiring.retires (lookup (is_at (cmp key)) c.args.self.now) c.index.result.now.1 c.args.kept.1.stamp
     (ap (lookup (is_at (cmp key))) (sym c.self.view_is)
-    ∙ at_place total key es c.in-Ok.at c.index.result.now place c.self.invariant
+    ∙ at_place total key es c.in-Ok.at c.index.result.now place c.self.invariant.0
     (c.index.ensures ∙ ap (λ v. slice_index_or v.items c.in-Ok.at c.index.result.now) c.as_ref-in-Ok.ensures) key ((eq_by_cmp_equiv total).refl key))
     (ap (λ o. is_gt (stamp_cmp c.args.kept.1.stamp o.stamp)) (sym c.value-old.ensures) ∙ ap (λ o. is_gt (stamp_cmp o.stamp c.value-old.result.now.stamp)) (sym c.value.ensures) ∙ sym c.exceeds.ensures ∙ c.if-exceeds.false)
