@@ -10,4 +10,9 @@ pub mod LinkLemmas
 pub mod RuleLemmas
 -- the inhibitors of each alert, and their places
 pub mod InhibitorLemmas
+-- flags that are set at places
 pub mod MarkLemmas
+-- rules, each once
+pub mod DifferentLemmas
+-- targets that wait for a list
+pub mod WaitingLemmas

@@ -23,13 +23,13 @@ use Rattle.am_config.specs.declared.parts.Rule.{Rule}
 use Rattle.am_inhibit.specs.Alike.{are_alike}
 use Rattle.am_inhibit.specs.Inhibits.{AreInhibitors, inhibits, inhibits_by, rule_matchers}
 use Rattle.am_inhibit.specs.Links.{AreAllPlaces, AreLinked, ArePlaces, is_among}
-use Rattle.am_inhibit.specs.Sides.{AreLinkedBySides, sides_in}
+use Rattle.am_inhibit.specs.Sides.{sides_in}
 
 -- ---- flags
 
 -- of an old flag; whether the target takes the target and the source side, whether the source takes them, whether it fires,
 -- and whether both are alike: what comes by a rule, in the order of the code and of the definition
-one_rule : (old tk sk sp tp fp alike : Bool) →
+pub one_rule : (old tk sk sp tp fp alike : Bool) →
     (old || (tk && ((sp && fp) && (alike && not (sk && tp))))) ≡ (old || (fp && (sp && tk && alike && not ((sp && tp) && (sk && tk)))))
 one_rule true tk sk sp tp fp alike = refl
 one_rule false false sk true tp true alike = refl
@@ -46,7 +46,7 @@ one_rule false true false true true true true = refl
 one_rule false true false true false true true = refl
 
 -- one more rule
-one_more : (a b c : Bool) → ((a && b) || (a && c)) ≡ (a && (b || c))
+pub one_more : (a b c : Bool) → ((a && b) || (a && c)) ≡ (a && (b || c))
 one_more true b c = refl
 one_more false b c = refl
 
@@ -79,7 +79,7 @@ below_second flags one other count long is below place on =
 
 -- of an old flag; whether the target takes the target and the source side, whether the source takes the target side,
 -- whether it takes its own and fires, and whether both are alike: what comes in the two steps of the code
-two_steps : (old t s tp f alike : Bool) →
+pub two_steps : (old t s tp f alike : Bool) →
     ((old || ((t && not s) && (f && alike))) || ((t && s) && ((f && not tp) && alike))) ≡ (old || (t && (f && (alike && not (s && tp)))))
 two_steps true t s tp f alike = refl
 two_steps false false s tp f alike = refl
@@ -92,64 +92,16 @@ two_steps false true false tp false alike = refl
 two_steps false true false tp true true = refl
 two_steps false true false tp true false = refl
 
--- the sources come first to those that take the target alone, then those that take the source alone to the others
-pub sides_linked : (names : List (List ℕ)) (sets : List (List Label)) (sources targets fires firing target_alone source_alone both_sides : List Bool)
-    (old between new : List (List (List ℕ))) →
-    ((k : ℕ) → k < length sets → get_or firing k false ≡ (get_or sources k false && get_or fires k false)) →
-    ((k : ℕ) → k < length sets → get_or target_alone k false ≡ (get_or targets k false && not (get_or sources k false))) →
-    ((k : ℕ) → k < length sets → get_or source_alone k false ≡ (get_or firing k false && not (get_or targets k false))) →
-    ((k : ℕ) → k < length sets → get_or both_sides k false ≡ (get_or targets k false && get_or sources k false)) →
-    AreLinked names sets firing target_alone old between → AreLinked names sets source_alone both_sides between new →
-    AreLinkedBySides names sets sources targets fires old new
-sides_linked names sets sources targets fires firing target_alone source_alone both_sides old between new is_firing is_target is_source is_both one other k place below within =
-    let alike = are_alike names (get_or sets place []) (get_or sets k []) in
-    let held = is_among (get_or old k []) place in
-    other k place below within
-    ∙ ap (λ b. b || (get_or both_sides k false && (get_or source_alone place false && alike))) (one k place below within)
-    ∙ ap (λ b. (held || (b && (get_or firing place false && alike))) || (get_or both_sides k false && (get_or source_alone place false && alike))) (is_target k below)
-    ∙ ap (λ b. (held || ((get_or targets k false && not (get_or sources k false)) && (get_or firing place false && alike))) || (b && (get_or source_alone place false && alike))) (is_both k below)
-    ∙ ap (λ b. (held || ((get_or targets k false && not (get_or sources k false)) && (get_or firing place false && alike))) || ((get_or targets k false && get_or sources k false) && (b && alike))) (is_source place within)
-    ∙ two_steps held (get_or targets k false) (get_or sources k false) (get_or targets place false) (get_or firing place false) alike
-    ∙ ap (λ b. held || (get_or targets k false && (b && (alike && not (get_or sources k false && get_or targets place false))))) (is_firing place within)
-
 -- ---- rules
 
 module _ {A : Type 0} (view : A → List Label) (sets : List A) (fires : List Bool) where
-  flag_is : (ms : List MatcherText) (k : ℕ) → k < length sets → get_or (map (λ x. all_take ms (view x)) sets) k false ≡ all_take ms (get_or (map view sets) k [])
+  pub flag_is : (ms : List MatcherText) (k : ℕ) → k < length sets → get_or (map (λ x. all_take ms (view x)) sets) k false ≡ all_take ms (get_or (map view sets) k [])
   flag_is ms k below = read sets k below
     where
       read : (xs : List A) (i : ℕ) → i < length xs → get_or (map (λ x. all_take ms (view x)) xs) i false ≡ all_take ms (get_or (map view xs) i [])
       read [] i within = absurd (omega (arith, within))
       read (x ∷ xs) zero within = refl
       read (x ∷ xs) (suc i) within = read xs i (omega (arith, within))
-
-  -- one rule more
-  pub rule_more : (rules : List Rule) (i : ℕ) (rule : Rule) → i < length rules → rule ≡ get_or rules i rule → (sources targets : List Bool) →
-      sources ≡ map (λ x. all_take rule.source (view x)) sets → targets ≡ map (λ x. all_take rule.target (view x)) sets →
-      (old new : List (List (List ℕ))) → AreInhibitors (take i rules) (map view sets) fires old →
-      AreLinkedBySides rule.equal (map view sets) sources targets fires old new → AreInhibitors (take (i + 1) rules) (map view sets) fires new
-  rule_more rules i rule fits at sources targets is_source is_target old new before linked k place below within =
-      let long = length-map sets view in
-      let source = get_or (map view sets) place [] in
-      let target = get_or (map view sets) k [] in
-      let alike = are_alike rule.equal source target in
-      let sp = ap (λ flags. get_or flags place false) is_source ∙ flag_is rule.source place (omega (arith, within, long)) in
-      let tp = ap (λ flags. get_or flags place false) is_target ∙ flag_is rule.target place (omega (arith, within, long)) in
-      let sk = ap (λ flags. get_or flags k false) is_source ∙ flag_is rule.source k (omega (arith, below, long)) in
-      let tk = ap (λ flags. get_or flags k false) is_target ∙ flag_is rule.target k (omega (arith, below, long)) in
-      let fp = get_or fires place false in
-      linked k place below within
-      ∙ one_rule (is_among (get_or old k []) place) (get_or targets k false) (get_or sources k false) (get_or sources place false) (get_or targets place false) fp alike
-      ∙ ap (λ b. b || (fp && (get_or sources place false && get_or targets k false && alike && not ((get_or sources place false && get_or targets place false) && (get_or sources k false && get_or targets k false)))))
-      (before k place below within)
-      ∙ ap (λ b. (fp && inhibits_by (take i rules) source target) || (fp && (b && get_or targets k false && alike && not ((b && get_or targets place false) && (get_or sources k false && get_or targets k false))))) sp
-      ∙ ap (λ b. (fp && inhibits_by (take i rules) source target) || (fp && (all_take rule.source source && b && alike && not ((all_take rule.source source && get_or targets place false) && (get_or sources k false && b))))) tk
-      ∙ ap (λ b. (fp && inhibits_by (take i rules) source target) || (fp && (all_take rule.source source && all_take rule.target target && alike && not ((all_take rule.source source && b) && (get_or sources k false && all_take rule.target target))))) tp
-      ∙ ap (λ b. (fp && inhibits_by (take i rules) source target) || (fp && (all_take rule.source source && all_take rule.target target && alike && not ((all_take rule.source source && all_take rule.target source) && (b && all_take rule.target target))))) sk
-      ∙ one_more fp (inhibits_by (take i rules) source target) (inhibits rule source target)
-      ∙ ap (λ b. fp && b)
-      (sym (list_any_more (λ (r : Rule). inhibits r source target) rules i rule fits
-      ∙ ap (λ (r : Rule). inhibits_by (take i rules) source target || inhibits r source target) (sym at)))
 
   -- before any rule
   pub rule_none : (each : List (List (List ℕ))) → length each ≡ length sets → All (λ (lists : List (List ℕ)). lists ≡ []) each → AreInhibitors [] (map view sets) fires each

@@ -1,6 +1,7 @@
 -- Which firing alerts inhibit which alerts, by their labels.
-use Rattle.std.specs.Prelude.{◌≡◌, ◌&&◌, ℕ, ◌<◌, ◌++◌, [], false, List, Bool, filter, get_or, length, map, not}
-use Rattle.std.specs.List.{enumerate_from, flat_map, list_any}
+use Rattle.std.specs.Prelude.{◌≡◌, ◌&&◌, ℕ, ◌<◌, ◌++◌, [], false, List, All, Bool, filter, get_or, length, map, not}
+use Rattle.std.specs.List.{Contains, enumerate_from, flat_map, list_any}
+use Rattle.std.specs.List.Sorted.{IsPermutation}
 use Rattle.am_labels.specs.declared.Label.{Label}
 use Rattle.am_match.specs.Matchers.{MatcherText}
 use Rattle.am_match.specs.Meaning.{all_take}
@@ -35,6 +36,12 @@ inhibitor_places rules firing target =
 -- all matchers of rules
 abbrev pub rule_matchers : List Rule → List MatcherText
 rule_matchers rules = flat_map (λ (rule : Rule). rule.source ++ rule.target) rules
+
+-- the different ones are rules: with others that are equal to one of them they are all the rules, in some order
+pub record AreWithoutRepeats (rules different : List Rule) : Type 0 where
+  pub repeated : List Rule
+  pub all : IsPermutation rules (different ++ repeated)
+  pub again : All (Contains different) repeated
 
 -- the lists of each label set have the places of those that fire and inhibit it by some rule
 abbrev pub AreInhibitors : List Rule → List (List Label) → List Bool → List (List (List ℕ)) → Type 0

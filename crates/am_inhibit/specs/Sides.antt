@@ -11,11 +11,21 @@ use Rattle.am_inhibit.specs.Links.{is_among}
 abbrev pub sides_in : List Rule → List (List MatcherText)
 sides_in rules = flat_map (λ (rule : Rule). rule.source ∷ rule.target ∷ []) rules
 
--- to the lists of each target came the sources that fire and are like it, but not one that takes both sides to one that does
-abbrev pub AreLinkedBySides : List (List ℕ) → List (List Label) → List Bool → List Bool → List Bool → List (List (List ℕ)) → List (List (List ℕ)) → Type 0
-AreLinkedBySides names sets sources targets fires old new =
+-- to the lists of each target that doesn't take the source too came the sources that fire and are like it
+abbrev pub AreLinkedAlone : List (List ℕ) → List (List Label) → List Bool → List Bool → List Bool → List (List (List ℕ)) → List (List (List ℕ)) → Type 0
+AreLinkedAlone names sets sources targets fires old new =
     (k place : ℕ) → k < length sets → place < length sets →
     is_among (get_or new k []) place
     ≡ (is_among (get_or old k []) place
-    || (get_or targets k false && ((get_or sources place false && get_or fires place false)
-    && (are_alike names (get_or sets place []) (get_or sets k []) && not (get_or sources k false && get_or targets place false)))))
+    || ((get_or targets k false && not (get_or sources k false))
+    && ((get_or sources place false && get_or fires place false) && are_alike names (get_or sets place []) (get_or sets k []))))
+
+-- to those of each that takes both sides came the ones that fire, take the source alone and are like it
+abbrev pub AreLinkedBoth : List (List ℕ) → List (List Label) → List Bool → List Bool → List Bool → List (List (List ℕ)) → List (List (List ℕ)) → Type 0
+AreLinkedBoth names sets sources targets fires old new =
+    (k place : ℕ) → k < length sets → place < length sets →
+    is_among (get_or new k []) place
+    ≡ (is_among (get_or old k []) place
+    || ((get_or targets k false && get_or sources k false)
+    && (((get_or sources place false && get_or fires place false) && not (get_or targets place false))
+    && are_alike names (get_or sets place []) (get_or sets k []))))

@@ -1,6 +1,7 @@
 //! Flags of label sets, combined.
 
-ghost use Rattle.std.specs.Prelude.{◌≡◌, ◌&&◌, ◌+◌, ◌++◌, ℕ, ◌<◌, false, true, IfOk, get_or, length, not, replicate};
+ghost use Rattle.std.specs.Prelude.{◌≡◌, ◌&&◌, ◌||◌, ◌+◌, ◌++◌, ℕ, ◌<◌, false, true, IfOk, get_or, length, not};
+ghost use Rattle.std.specs.Prelude.{replicate};
 ghost use Rattle.std.specs.List.{list_any};
 
 use std::alloc::{AllocError, Global};
@@ -31,6 +32,18 @@ pub fn without(alloc: Global, one: &[bool], other: &[bool]) -> Result<Vec<bool>,
         flags.push(*flag && !other[place])?;
     }
     Ok(flags)
+}
+
+/// Sets those flags that are set in the others.
+pub fn join(others: &[bool], flags: &mut Vec<bool>)
+    requires { length flags.now.items ≡ length others.now }
+    ensures each { length flags.new.items ≡ length flags.old.items }
+    ensures flags { (k : ℕ) → k < length others.now
+        → get_or flags.new.items k false ≡ (get_or flags.old.items k false || get_or others.now k false) }
+{
+    for (place, other) in others.iter().enumerate() {
+        flags[place] = flags[place] || *other;
+    }
 }
 
 /// Flags of which so many are set, and behind them so many aren't.

@@ -53,10 +53,11 @@ pub fn inhibitors<'a>(
 /// Which of the firing alerts inhibit each of them and each of some others, which come behind them: their places among
 /// the firing ones, as [`inhibitors`] says.
 ///
-/// All matchers of the inhibit rules are asked, rule by rule, each once for all label sets. So no more patterns are built
-/// in the call than the rules have, however few the cache keeps. For each rule the firing alerts that take its source are
-/// listed by their values of `equal`, and an alert that takes its target has the list of its values: n alerts cost n log n
-/// comparisons of those values, however many inhibit one another.
+/// All matchers of the inhibit rules are asked, each once for all label sets. So no more patterns are built in the call
+/// than the rules have, however few the cache keeps. Equal rules are asked once. For all rules with equal source matchers
+/// and equal labels in `equal` the firing alerts that take the source are listed by their values of these labels once, and
+/// an alert that takes one of the targets has the list of its values: n alerts cost n log n comparisons of those values,
+/// however many inhibit one another. Only for alerts that take both sides each of these rules lists its own.
 ///
 /// # Errors
 ///

@@ -2,6 +2,7 @@
 #![tactic(auto)]
 
 mod classes;
+mod different;
 mod flags;
 mod inhibited;
 mod inhibiting;
