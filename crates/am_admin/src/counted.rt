@@ -2,11 +2,11 @@
 
 ghost use Rattle.std.specs.Prelude.{◌≡◌};
 
-use crate::tally::Tally;
 use am_gateway::{Gateway, Try};
 use am_rows::Rows;
 use am_serve::{Host, Verdict};
 use am_server::{Notice, Service};
+use am_tally::Tally;
 use std::alloc::AllocError;
 
 /// A gateway, and how often it did what.

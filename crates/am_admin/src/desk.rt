@@ -1,11 +1,10 @@
 //! Where requests are answered.
 
-use crate::asking::{Asked, read};
 use crate::calm::{Unready, obstacle};
 use crate::counted::Counted;
-use crate::heads::Heads;
 use crate::metrics;
 use crate::telling::standing;
+use am_asking::{Asked, Heads, read};
 use am_gateway::has_quorum;
 use am_http::{refusal_body, reply_bytes};
 use am_rows::Rows;

@@ -2,14 +2,11 @@
 //! and changes of the ring.
 #![tactic(auto)]
 
-mod asking;
 mod calm;
 mod counted;
 mod desk;
-mod heads;
 mod metrics;
 mod port;
-mod tally;
 mod telling;
 
 pub use counted::Counted;

@@ -2,7 +2,7 @@
 
 use crate::counted::Counted;
 use crate::desk::Desk;
-use crate::heads::Heads;
+use am_asking::Heads;
 use am_rows::Rows;
 use am_server::SidePort;
 use mio::net::TcpListener;

@@ -1,10 +1,10 @@
 //! What a request asks for: the head of an HTTP/1.x message (RFC 9112), without a body.
 
 ghost use Rattle.std.specs.Prelude.{◌≡◌};
-ghost use Rattle.am_admin.specs.Changes.{change_named, forced, happens, instance_named};
+ghost use Rattle.am_asking.specs.Changes.{change_named, forced, happens, instance_named};
 
+use am_event::Event;
 use am_tenant::TenantName;
-use am_world::Event;
 use httparse::{EMPTY_HEADER, Header, Request, Status};
 
 /// How many bytes a head has at most.

@@ -21,7 +21,7 @@ impl Heads {
     ///
     /// # Errors
     /// Out of memory.
-    pub(crate) fn take(
+    pub fn take(
         &mut self,
         alloc: Global,
         connection: u64,
@@ -39,13 +39,13 @@ impl Heads {
     ///
     /// # Errors
     /// Out of memory.
-    pub(crate) fn keep(&mut self, connection: u64, head: Vec<u8>) -> Result<(), AllocError> {
+    pub fn keep(&mut self, connection: u64, head: Vec<u8>) -> Result<(), AllocError> {
         self.parts.insert(connection, head)?;
         Ok(())
     }
 
     /// Forgets what came of a connection.
-    pub(crate) fn forget(&mut self, connection: u64) {
+    pub fn forget(&mut self, connection: u64) {
         self.parts.remove(&connection);
     }
 }

@@ -3,10 +3,10 @@
 use std::str;
 
 /// The least status code of a reply.
-pub const LEAST_STATUS: usize = 100;
+pub(crate) const LEAST_STATUS: usize = 100;
 
 /// How many status codes are told apart, from the least on.
-pub const STATUSES: usize = 500;
+pub(crate) const STATUSES: usize = 500;
 
 /// How often what happened since the program started. Each count stops at 2^64 - 1.
 #[derive(Drop)]
@@ -66,33 +66,33 @@ impl Tally {
     }
 
     /// How many replies had this status code, 100 to 599.
-    pub fn replies(&self, status: usize) -> u64 {
+    pub(crate) fn replies(&self, status: usize) -> u64 {
         let place = status.saturating_sub(LEAST_STATUS);
         self.replies.get(place).copied().unwrap_or(0)
     }
 
     /// How many webhooks were called.
-    pub fn calls(&self) -> u64 {
+    pub(crate) fn calls(&self) -> u64 {
         self.calls
     }
 
     /// How many tries of notices ended without an answer of success: those that gave way too.
-    pub fn failed(&self) -> u64 {
+    pub(crate) fn failed(&self) -> u64 {
         self.failed
     }
 
     /// How many notices gave way before their webhook was called.
-    pub fn given_up(&self) -> u64 {
+    pub(crate) fn given_up(&self) -> u64 {
         self.given_up
     }
 
     /// How often the world was told a moment.
-    pub fn ticks(&self) -> u64 {
+    pub(crate) fn ticks(&self) -> u64 {
         self.ticks
     }
 
     /// The last of these moments, in milliseconds since 1970; 0 before any.
-    pub fn ticked(&self) -> u64 {
+    pub(crate) fn ticked(&self) -> u64 {
         self.ticked
     }
 }
