@@ -1,8 +1,8 @@
 """`bench/serve --cluster`: load on `amring serve` while instances of its ring are stopped and come up again.
 
 Ten tenants post alerts and silences, 100 times a second in all, and have a webhook of this script's own told of their
-alerts. Every ten seconds another instance of the ring is stopped: in turn the disk of its file is full, so that its
-store refuses a call, or it is crashed and restarted by the admin port. Then the program is killed (`kill -9`) and
+alerts. Every ten seconds another instance of the ring is stopped: in turn its store finds no room for what it writes,
+and so refuses a call, or it is crashed and restarted by the admin port. Then the program is killed (`kill -9`) and
 started anew over its stores. Silences are made in the first quarter and then changed in their place, and alerts fire
 and end by turns, so that from then on nothing more is held. All goes to 127.0.0.1.
 
@@ -15,14 +15,13 @@ A line is printed for each thing that is to hold, with `passed` or `failed`:
 - no notice comes twice from one instance for one flush (`Hook.twice` says what counts as that)
 - the resident size at the end is at most a tenth above that at a quarter of the run
 
-and then how long posts took. The disks are small file systems in memory, for which this has to run as root. Where it
-may not mount them, instances are only crashed, and the whole counts as failed.
+and then how long posts took. Writes are refused by Debian's strace, which has to be there and to be let trace the
+service.
 """
 import asyncio
 import collections
 import contextlib
 import datetime
-import itertools
 import json
 import os
 import random
@@ -32,8 +31,8 @@ import sys
 import tempfile
 import time
 
-from disks import disks
 from hook import Hook
+from refusals import are_possible, writes_refused
 from served import ALERTS, CONFIGURATION, SILENCES, Program, free_port, read_reply, reply_to, request
 from silences import Silences
 
@@ -48,20 +47,15 @@ GROUPS = 10
 ALERTS_OF_EACH = 50
 # How often a group is flushed, in seconds. Replicas wait for 15 more each, so mostly no two flush at one tick.
 INTERVAL = 20
-# Spaces in a configuration: from these, and at each full disk more, to those. A store's log is written anew in its
-# place again and again, so a full disk refuses for certain only what needs more pages than were ever needed.
-PADDING = (40000, 120000)
-# How often an instance is stopped, how long it is down after a crash, and how long a full disk may be unnoticed and the
-# others may take to hand over what they hold, in seconds.
+# How often an instance is stopped, how long it is down after a crash, how long refused writes may be unnoticed, and how
+# long the others may take to hand over what they hold, in seconds.
 EVERY = 10
 DOWN = 3
-MOST_FULL = 8
+MOST_UNNOTICED = 8
 MOST_SETTLING = 10
 A_LOOK = 0.05
 # How long lies between two ticks, in seconds.
 A_TICK = 1
-# How long lies between two configurations that are posted while a disk is full.
-A_PUSH = 0.02
 # How long a reply may take, in seconds: longer than the service lets a request wait.
 PATIENCE = 20
 MOST_MORE = 1.10
@@ -96,11 +90,11 @@ class Tenant:
         self.starts = [0.0] * ALERTS_OF_EACH
         self.posted = 0
 
-    def configuration(self, port, padding):
+    def configuration(self, port):
         route = {"receiver": "hook", "group_by": ["group"], "group_wait": "1s", "group_interval": f"{INTERVAL}s"}
         webhook = {"url": f"http://127.0.0.1:{port}/{self.name}"}
         text = json.dumps({"route": route, "receivers": [{"name": "hook", "webhook_configs": [webhook]}]})
-        return json.dumps({"alertmanager_config": text + " " * padding}).encode()
+        return json.dumps({"alertmanager_config": text}).encode()
 
     def alert(self):
         """The next alert: each begins to fire, fires on, ends, and begins anew."""
@@ -175,13 +169,12 @@ Stop = collections.namedtuple("Stop", "kind instance begun down settled took")
 class Load:
     """The posts, the ticks and the stops of a run."""
 
-    def __init__(self, program, admin, found, seconds):
-        self.program, self.admin, self.disks, self.seconds = program, Admin(admin), found, seconds
+    def __init__(self, program, admin, store, seconds):
+        self.program, self.admin, self.store, self.seconds = program, Admin(admin), store, seconds
         self.hook, self.replies = Hook(), Replies()
         self.tenants = [Tenant(number) for number in range(TENANTS)]
         self.stops, self.faults, self.held = [], [], {}
         self.hook_port = self.begun = 0
-        self.padding = PADDING[0]
 
     async def send(self, path, tenant, body, due=None):
         """The body of a reply that says that all went well."""
@@ -197,12 +190,7 @@ class Load:
         return told if status in (200, 201) else None
 
     async def configure(self, tenant):
-        return await self.send(CONFIGURATION, tenant, tenant.configuration(self.hook_port, self.padding))
-
-    def pad_more(self):
-        """Has configurations need more pages from now on, by as much at each full disk of the run."""
-        least, most = PADDING
-        self.padding = min(most, self.padding + (most - least) // max(1, self.seconds // EVERY // 2))
+        return await self.send(CONFIGURATION, tenant, tenant.configuration(self.hook_port))
 
     async def post_silence(self, tenant, due):
         identifier = tenant.next_silence(due < self.begun + self.seconds / 4 - 1)
@@ -258,14 +246,8 @@ class Load:
         self.faults += await self.admin.post("restart", instance)
         return down
 
-    async def push(self):
-        """Posts configurations, one after the other, without an end."""
-        for number in itertools.count():
-            await self.configure(self.tenants[number % TENANTS])
-            await asyncio.sleep(A_PUSH)
-
-    async def fill(self, instance):
-        """Has the disk of an instance full until it has stopped, and posts what needs room. Gives when it was down."""
+    async def refuse(self, instance):
+        """Has the store of an instance refuse writes until the instance has stopped. Gives when it was down."""
         before = (await self.admin.instances())[instance]["incarnation"]
 
         async def has_stopped():
@@ -274,21 +256,15 @@ class Load:
                 self.faults.append(f"instance {instance} is down without a cause")
             return not found["up"] or found["incarnation"] != before
 
-        self.pad_more()
-        self.disks[instance].fill()
-        pushes = asyncio.create_task(self.push())
-        try:
-            if not await self.look(has_stopped, MOST_FULL):
-                self.faults.append(f"instance {instance} didn't stop, though its disk was full for {MOST_FULL} seconds")
-        finally:
-            pushes.cancel()
-            self.disks[instance].empty()
+        async with writes_refused(self.program.process, store_of(self.store, instance)):
+            if not await self.look(has_stopped, MOST_UNNOTICED):
+                self.faults.append(f"instance {instance} goes on after {MOST_UNNOTICED} seconds of refused writes")
         return time.monotonic()
 
     async def stop(self, kind, instance):
         """Stops an instance and waits until all are up and settled."""
         begun = time.monotonic()
-        down = await (self.fill if kind == "full" else self.crash)(instance)
+        down = await (self.refuse if kind == "refusal" else self.crash)(instance)
         again = time.monotonic()
         if not await self.look(self.admin.are_settled, MOST_SETTLING):
             self.faults.append(f"instance {instance} isn't up and settled {MOST_SETTLING} seconds after it was stopped")
@@ -298,8 +274,7 @@ class Load:
     async def stop_in_turn(self):
         for number in range(1, self.seconds // EVERY):
             await until(self.begun + number * EVERY)
-            kind = "full" if number % 2 and self.disks else "crash"
-            await self.stop(kind, RING[(number - 1) % len(RING)])
+            await self.stop("refusal" if number % 2 else "crash", RING[(number - 1) % len(RING)])
 
     async def weigh(self, when, then):
         """Notes what is held then."""
@@ -324,6 +299,10 @@ class Load:
             ended = self.program.process.poll()
             self.faults.append(f"the run ended early: {error!r}; the exit status of the service is {ended}")
         ticks.cancel()
+
+
+def store_of(folder, instance):
+    return os.path.join(folder, f"{instance}.db")
 
 
 async def until(end):
@@ -361,11 +340,9 @@ def tell_replies(load, report):
 def tell_stops(load, report):
     kinds = collections.Counter(stop.kind for stop in load.stops)
     longest = max((stop.took for stop in load.stops), default=0)
-    text = f"stops: {kinds['full']} by a full disk, {kinds['crash']} by a crash; all were up and settled again"
+    text = f"stops: {kinds['refusal']} by a refused call, {kinds['crash']} by a crash; all were up and settled again"
     is_empty = ["no instance was stopped"] if not load.stops else []
     report.line(f"{text} after {longest:.1f} s at most", load.faults + is_empty)
-    if not load.disks:
-        report.line("disks: mounting isn't permitted here, so only crashes were tried", ["no store refused a call"])
 
 
 def tell_notices(load, report):
@@ -418,16 +395,12 @@ def start(program, store, admin):
     sys.exit(f"bench/serve: amring serve doesn't answer: {told}")
 
 
-def play(program, folder, found, seconds):
-    """A run: whether all holds."""
-    store, report = os.path.join(folder, "store"), Report()
-    os.mkdir(store)
-    for instance, disk in found.items():
-        disk.hold(os.path.join(store, f"{instance}.db"))
-    admin = free_port()
+def play(program, store, seconds):
+    """A run over the stores in a folder: whether all holds."""
+    report, admin = Report(), free_port()
     service = start(program, store, admin)
     try:
-        load = Load(service, admin, found, seconds)
+        load = Load(service, admin, store, seconds)
         asyncio.run(load.run())
         tell_silences(service.port, load, report, "at the end")
         told = service.told()
@@ -447,5 +420,7 @@ def measure(program, seconds):
     """A run in a folder of its own; nothing is left of it, however it ends. Whether all holds."""
     for number in (signal.SIGTERM, signal.SIGHUP):
         signal.signal(number, lambda *_: sys.exit("bench/serve: it was stopped"))
-    with tempfile.TemporaryDirectory(prefix="cluster-") as folder, disks(folder, RING) as found:
-        return play(program, folder, found, seconds)
+    if not are_possible():
+        sys.exit("bench/serve: strace is needed, which Debian has as a package")
+    with tempfile.TemporaryDirectory(prefix="cluster-") as folder:
+        return play(program, folder, seconds)

@@ -1,10 +1,10 @@
 //! What settling costs, for `bench/settling`.
 //!
-//! `prepare TENANTS ITEMS` makes what is held of so many tenants, so many items of each. `change TENANTS ITEMS` does
-//! that, and a ring is learned under which another instance is the tenants' replica: their States begin to be pushed to
-//! it. `state ITEMS` hands a State over, piece by piece. These three give nothing back, as what is pushed is kept past
-//! the event. `ticks TENANTS TICKS` asks so often what is sent again, of so many tenants whose push runs, where nothing
-//! is due.
+//! `prepare TENANTS ITEMS` makes what is held of so many tenants, so many items of each. `change TENANTS ITEMS TIMES`
+//! does that, and so often a ring is learned under which another instance is the tenants' replica: their States begin
+//! to be pushed to it, and those of the time before are given back. `state ITEMS` hands a State over, piece by piece.
+//! What is held stays to the end. `ticks TENANTS TICKS` asks so often what is sent again, of so many tenants whose push
+//! runs, where nothing is due.
 use crate::number;
 use am_item::{Item, SharedItem, Stamp, Thing};
 use am_ring::Instance;
@@ -46,7 +46,7 @@ pub fn run(alloc: Global, words: &[String]) -> Result<usize> {
     let first = number(words, 1)?;
     match task.as_str() {
         "prepare" => prepare(alloc, first, number(words, 2)?),
-        "change" => change(alloc, first, number(words, 2)?),
+        "change" => change(alloc, first, number(words, 2)?, number(words, 3)?),
         "state" => hand_over(alloc, first),
         "ticks" => tick(alloc, first, number(words, 2)?),
         _ => bail!("prepare, change, state or ticks"),
@@ -131,15 +131,23 @@ fn prepare(alloc: Global, tenants: u32, count: u32) -> Result<usize> {
     Ok(made)
 }
 
-/// A ring change of so many tenants. Gives how many pieces the last State has.
-fn change(alloc: Global, tenants: u32, count: u32) -> Result<usize> {
-    let holdings = holdings(alloc, tenants, count)?;
+/// A ring change of all these tenants, and what it sends is given back. Gives how many pieces the last State has.
+fn learn_all(alloc: Global, holdings: &[Holding]) -> Result<usize> {
     let mut settling = Settling::new(alloc);
     let mut pieces = 0;
-    for holding in &holdings {
+    for holding in holdings {
         pieces = learn(alloc, &mut settling, holding)?;
     }
-    forget(settling);
+    Ok(pieces)
+}
+
+/// So many ring changes of so many tenants. Gives how many pieces the last State has.
+fn change(alloc: Global, tenants: u32, count: u32, times: u32) -> Result<usize> {
+    let holdings = holdings(alloc, tenants, count)?;
+    let mut pieces = 0;
+    for _ in 0..times {
+        pieces = learn_all(alloc, holdings.as_slice())?;
+    }
     forget(holdings);
     Ok(pieces)
 }
