@@ -82,7 +82,8 @@ class Tenant:
     """What one tenant has posted."""
 
     def __init__(self, number):
-        self.name = f"tenant-{number}"
+        # The ring's hash has names that begin alike close together, so that some instances would have no tenant.
+        self.name = f"{number}-tenant"
         self.silences = Silences(self.name)
         # The silences whose change waits for its answer.
         self.waiting = set()
