@@ -65,6 +65,11 @@ bad amring serve --port=1 --admin
 bad amring serve --admin=1
 bad amring run --admin=1
 bad amring run --port 1
+check amring check a.json
+check amring check -- -a
+bad amring check
+bad amring check a b
+bad amring check a --port 1
 bad amring 
 bad amring
 bad
@@ -147,6 +152,7 @@ fn kind(asked: &CommandLine) -> &'static str {
     match asked {
         CommandLine::Run(_) => "run",
         CommandLine::Serve(_) => "serve",
+        CommandLine::Check(_) => "check",
         CommandLine::Help(_) => "help",
         CommandLine::Bad(_) => "bad",
     }
@@ -171,7 +177,9 @@ fn command_lines(rt: HostRuntime) -> Result<(), Fail> {
 fn tells(alloc: Global, line: &str, wanted: &str) -> Result<(), Fail> {
     match asked(alloc, line)? {
         CommandLine::Help(text) | CommandLine::Bad(text) => equal(text.as_str(), wanted, line),
-        CommandLine::Run(_) | CommandLine::Serve(_) => Err(Fail::new(line)),
+        CommandLine::Run(_) | CommandLine::Serve(_) | CommandLine::Check(_) => {
+            Err(Fail::new(line))
+        }
     }
 }
 

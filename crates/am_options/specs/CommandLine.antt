@@ -18,7 +18,7 @@ use Rattle.am_scenario.specs.Number.{number_of}
 use Rattle.am_options.specs.declared.command_line.CommandLine.{CommandLine}
 use Rattle.am_options.specs.declared.command_line.Running.{Running}
 use Rattle.am_options.specs.declared.command_line.Serving.{Serving}
-use Rattle.am_options.specs.declared.command_line.CommandLine.TheVariants.{Run, Serve, Help, Bad}
+use Rattle.am_options.specs.declared.command_line.CommandLine.TheVariants.{Run, Serve, Check, Help, Bad}
 
 -- the option `--NAME VALUE`, which may be absent
 abbrev pub option : Text → Rule
@@ -32,13 +32,17 @@ option_or name value = record (new_rule name) {
   defaults = value ∷ [];
 }
 
+-- a word that must be there
+abbrev pub operand : Text → Rule
+operand name = record (new_rule name) { value_names = 1; required = true }
+
 -- `amring`, which has a version and wants a subcommand
 abbrev pub top : App
 top = record (new_app (codes "amring")) {
   top = record (new_app (codes "amring")).top { subcommand_required = true; has_version = true };
 }
 
--- a subcommand with the options of all of them
+-- a subcommand over a world, with the options of both of them
 abbrev pub app_named : Text → App
 app_named name =
     with_rule (with_rule (with_rule (with_rule (with_rule (new_app name) (option_or (codes "cache") (codes "512"))) (option (codes "key")))
@@ -50,9 +54,14 @@ serve =
     (option_or (codes "address") (codes "127.0.0.1"))) (option (codes "port"))) (option (codes "admin")))
     (option (codes "count"))
 
--- `amring run` and `amring serve`
+-- `check` wants a file
+abbrev pub check : App
+check = with_rule (new_app (codes "check")) (operand (codes "file"))
+
+-- `amring run`, `amring serve` and `amring check`
 abbrev pub command_line : App
-command_line = with_subcommand (with_subcommand top (app_named (codes "run")).top) serve.top
+command_line =
+    with_subcommand (with_subcommand (with_subcommand top (app_named (codes "run")).top) serve.top) check.top
 
 -- the kinds of what is wrong with the words; none where clap takes them
 abbrev pub kinds : List Text → Kinds
@@ -173,10 +182,18 @@ serving_in rows = do
     count = count;
   })
 
+-- what a subcommand over a world asks for, by its name and its options
+abbrev pub world_asked : Text → List Row → Option CommandLine
+world_asked name rows =
+    if bytes_eq name (codes "serve") then option_map Serve (serving_in rows) else option_map Run (running_in rows)
+
+-- the file that the options say
+abbrev pub file_in : List Row → Option Text
+file_in rows = first_of (codes "file") rows
+
 -- what a subcommand with these options asks for
 abbrev pub asked_by : Text × List Row → Option CommandLine
-asked_by sub =
-    if bytes_eq sub.0 (codes "serve") then option_map Serve (serving_in sub.1) else option_map Run (running_in sub.1)
+asked_by sub = if bytes_eq sub.0 (codes "check") then option_map Check (file_in sub.1) else world_asked sub.0 sub.1
 
 -- .. the one that was entered
 abbrev pub asked_of : Option (Text × List Row) → Option CommandLine
@@ -190,6 +207,7 @@ IsMistake kind = (kind ≢ DisplayHelp) × (kind ≢ DisplayVersion) × (kind �
 abbrev pub Tells : ErrorKind → CommandLine → Type 0
 Tells kind (Run running) = ⊥
 Tells kind (Serve serving) = ⊥
+Tells kind (Check file) = ⊥
 Tells kind (Help text) = (kind ≡ DisplayHelp) ⊎ (kind ≡ DisplayVersion)
 Tells kind (Bad text) = IsMistake kind
 
@@ -198,6 +216,7 @@ Tells kind (Bad text) = IsMistake kind
 abbrev pub Asks : List Text → CommandLine → Type 0
 Asks words (Run running) = (kinds words ≡ []) × (asked_of (subcommand_of command_line words) ≡ Some (Run running))
 Asks words (Serve serving) = (kinds words ≡ []) × (asked_of (subcommand_of command_line words) ≡ Some (Serve serving))
+Asks words (Check file) = (kinds words ≡ []) × (asked_of (subcommand_of command_line words) ≡ Some (Check file))
 Asks words (Help text) = IsAmong DisplayHelp (kinds words) ⊎ IsAmong DisplayVersion (kinds words)
 Asks words (Bad text) = ((kind : ErrorKind) × IsAmong kind (kinds words) × IsMistake kind)
     ⊎ ((kinds words ≡ []) × (asked_of (subcommand_of command_line words) ≡ None))

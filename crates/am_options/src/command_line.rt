@@ -3,7 +3,7 @@ ghost use Rattle.std.specs.Prelude.{◌≡◌, IfOk, MatchResult, None, Some, co
 ghost use Rattle.clap.specs.Words.{app_of, found_of, has_subcommand, kind_of, rows_of, rule_of};
 ghost use Rattle.clap.specs.Simple.{subcommand_rows_of};
 ghost use Rattle.clap.specs.declared.builder.command.Command.TheViews.{out-Command as fields_of};
-ghost use Rattle.am_options.specs.CommandLine.{Asks, Spells, Tells, address_in, address_of, app_named, asked_by, asked_of, command_line, given_in, has_start, instances_in, instances_of, key_in, number_in, number_within, option, option_or, running_in, serve, serving_in, settings_in, store_in};
+ghost use Rattle.am_options.specs.CommandLine.{Asks, Spells, Tells, address_in, address_of, app_named, asked_by, asked_of, check, command_line, file_in, given_in, has_start, instances_in, instances_of, key_in, number_in, number_within, operand, option, option_or, running_in, serve, serving_in, settings_in, store_in, world_asked};
 
 use am_scenario::number;
 use am_setup::Setup;
@@ -34,6 +34,8 @@ const ADDRESS_HELP: &str = "The IPv4 address to listen on";
 const PORT_HELP: &str = "The port to listen on, 1 to 65535";
 
 const ADMIN_HELP: &str = "The port on 127.0.0.1 that shows and changes the ring, 1 to 65535";
+
+const FILE_HELP: &str = "The configuration: its text, or the document to be posted";
 
 const COUNT_HELP: &str = "Ends once so many connections were answered";
 
@@ -86,6 +88,8 @@ pub enum CommandLine {
     Run(Running),
     /// To serve connections.
     Serve(Serving),
+    /// To judge the configuration in the file at this path.
+    Check(Text),
     /// To see the help or the version, which is this text.
     Help(String),
     /// Nothing that the program does; the text says what is wrong.
@@ -103,6 +107,7 @@ enum BadOption {
     Port,
     Admin,
     Count,
+    File,
 }
 
 impl fmt::Display for BadOption {
@@ -119,6 +124,7 @@ impl fmt::Display for BadOption {
             BadOption::Port => write!(f, "serve needs --port, a number from 1 to 65535"),
             BadOption::Admin => write!(f, "--admin takes a number from 1 to {MOST_PORT}"),
             BadOption::Count => write!(f, "--count takes a number from 1 on"),
+            BadOption::File => write!(f, "check needs FILE"),
         }
     }
 }
@@ -142,12 +148,14 @@ fn form<'a>(alloc: Global) -> Result<Command<'a>, AllocError>
 {
     let run = form_of(alloc, "run", "Plays the scenario on standard input")?;
     let serve = serve_form(alloc)?;
+    let check = check_form(alloc)?;
     Command::new(alloc, "amring")
         .about("A multi-tenant Alertmanager")
         .version(VERSION)
         .subcommand_required(true)
         .subcommand(run)?
-        .subcommand(serve)
+        .subcommand(serve)?
+        .subcommand(check)
 }
 
 /// The form of `serve`.
@@ -162,7 +170,28 @@ fn serve_form<'a>(alloc: Global) -> Result<Command<'a>, AllocError>
         .arg(option(alloc, "count", "N", COUNT_HELP))
 }
 
-/// The form of a subcommand with the options of all of them.
+/// The form of `check`.
+fn check_form<'a>(alloc: Global) -> Result<Command<'a>, AllocError>
+    ensures app { IfOk result (λ form. app_of form ≡ check) }
+    ensures local { IfOk result (λ form. (fields_of form).has_globals ≡ false) }
+{
+    Command::new(alloc, "check")
+        .about("Says whether a configuration would be accepted")
+        .arg(operand(alloc, "file", "FILE", FILE_HELP))
+}
+
+/// A word that must be there.
+fn operand<'a>(alloc: Global, name: &'a str, value: &'a str, help: &'a str) -> Arg<'a>
+    ensures rule { rule_of result ≡ operand name.entry.now }
+    ensures local { result.global ≡ false }
+{
+    Arg::new(alloc, name)
+        .value_name(value)
+        .help(help)
+        .required(true)
+}
+
+/// The form of a subcommand over a world, with the options of both of them.
 fn form_of<'a>(alloc: Global, name: &'a str, about: &'a str) -> Result<Command<'a>, AllocError>
     ensures app { IfOk result (λ form. app_of form ≡ app_named name.entry.now) }
     ensures local { IfOk result (λ form. (fields_of form).has_globals ≡ false) }
@@ -212,6 +241,33 @@ fn asked(
         (λ _. asked_of (subcommand_rows_of matches.now) ≡ None)) }
 {
     let (name, options) = matches.subcommand().unwrap();
+    if name == "check" {
+        let file = file_in(alloc, options)?;
+        return Ok(file.map(CommandLine::Check).ok_or(BadOption::File));
+    }
+    world_asked(alloc, name, options)
+}
+
+/// The file that the options say.
+fn file_in(alloc: Global, matches: &ArgMatches<'_>) -> Result<Option<Text>, AllocError>
+    ensures { IfOk result (λ file. file ≡ file_in (rows_of (found_of matches.now))) }
+{
+    match matches.get_str("file") {
+        Some(file) => Ok(Some(Text::read(alloc, file)?)),
+        None => Ok(None),
+    }
+}
+
+/// What a subcommand over a world asks for, by its name and its options.
+fn world_asked(
+    alloc: Global,
+    name: &str,
+    options: &ArgMatches<'_>,
+) -> Result<Result<CommandLine, BadOption>, AllocError>
+    ensures { IfOk result (λ asked. MatchResult asked
+        (λ line. world_asked name.now (rows_of (found_of options.now)) ≡ Some line)
+        (λ _. world_asked name.now (rows_of (found_of options.now)) ≡ None)) }
+{
     let instances = instances_in(alloc, options)?;
     let store = store_in(alloc, options)?;
     if name == "serve" {
