@@ -16,7 +16,7 @@ use Rattle.am_members.specs.declared.group.Group.{Group as Name}
 use Rattle.am_members.specs.declared.known.Known.{Known}
 use Rattle.am_members.specs.Grouped.{flush_of, in_group, members}
 use Rattle.am_members.specs.Members.{gave, least_of}
-use Rattle.am_members.specs.Names.{is_group}
+use Rattle.am_members.specs.Names.{groups_by, is_group}
 use Rattle.am_outlet.specs.declared.attempt.Attempt.{Attempt}
 use Rattle.am_outlet.specs.Attempts.{attempt_at}
 use Rattle.am_timer.specs.declared.key.FlushKey.{FlushKey}
@@ -29,7 +29,7 @@ use Rattle.am_timer.proofs.TiedLemmas.{has-filter, has-insert, rising-filter, ri
 use Rattle.am_planning.specs.declared.pace.Pace.{Pace}
 use Rattle.am_agenda.specs.Plan.{Plan, due_by, due_for, due_of, flush_due, flush_key, flush_timer, group_due, group_in, groups_in, in_order, numbers_in, retry_due, retry_timer, timer_of, timers_in}
 use Rattle.am_agenda.specs.Planned.{AreTimed, Plans, is_planned, plan_of}
-use Rattle.am_agenda.proofs.Named.{same_group}
+use Rattle.am_agenda.proofs.Named.{one_among, same_group}
 
 -- ---- lists of timers
 
@@ -84,18 +84,6 @@ one_passes p r weaker (x ∷ xs) h = elim (cases_Bool (p x)) [
     later : (c : Bool) → list_any r xs ≡ true → (c || list_any r xs) ≡ true
     later true k = refl
     later false k = k
-
-one_among : {X Y : Type 0} (r : Y → Bool) (f : X → List Y) (xs : List X) → list_any r (flat_map f xs) ≡ list_any (λ x. list_any r (f x)) xs
-one_among r f [] = refl
-one_among {Y = Y} r f (x ∷ xs) = joined (f x) ∙ ap (λ b. list_any r (f x) || b) (one_among r f xs)
-  where
-    joined : (ys : List Y) → list_any r (ys ++ flat_map f xs) ≡ (list_any r ys || list_any r (flat_map f xs))
-    joined [] = refl
-    joined (y ∷ ys) = ap (λ b. r y || b) (joined ys) ∙ turned (r y) (list_any r ys) (list_any r (flat_map f xs))
-      where
-        turned : (a b c : Bool) → (a || (b || c)) ≡ ((a || b) || c)
-        turned true b c = refl
-        turned false b c = refl
 
 -- ---- the timers of a plan
 
@@ -205,9 +193,9 @@ module _ (t : List ℕ) (plan : Plan) (q : Timer) where
           → list_any (λ g. hits q (flush_timer t plan g)) (groups_in plan) ≡ true
       by_receiver pace false there e h = absurd (cc)
       by_receiver pace true there e h =
-          one_among (λ g. hits q (flush_timer t plan g)) (λ a. a.1.groups) plan.grouped.alerts
-          ∙ one_passes (λ a. in_group (group_in key) a.1) (λ a. list_any (λ g. hits q (flush_timer t plan g)) a.1.groups)
-          (λ a held. one_passes (is_group (group_in key)) (λ g. hits q (flush_timer t plan g)) (λ g here. of_group g (same_group (group_in key) g here)) a.1.groups held)
+          one_among (λ g. hits q (flush_timer t plan g)) (λ a. flat_map groups_by a.1.groups) plan.grouped.alerts
+          ∙ one_passes (λ a. in_group (group_in key) a.1) (λ a. list_any (λ g. hits q (flush_timer t plan g)) (flat_map groups_by a.1.groups))
+          (λ a held. one_passes (is_group (group_in key)) (λ g. hits q (flush_timer t plan g)) (λ g here. of_group g (same_group (group_in key) g here)) (flat_map groups_by a.1.groups) (one_among (is_group (group_in key)) groups_by a.1.groups ∙ held))
           plan.grouped.alerts (has_some (members (group_in key) plan.grouped.alerts) refl)
         where
           own_key : Group (flush_key pace (group_in key)) ≡ Group key

@@ -2,7 +2,7 @@
 use Rattle.std.proofs.Common.{◌≡◌, ℕ, Bool, true, false, ◌&&◌, ◌||◌, ◌==◌, ◌<◌, ◌+◌, not, cond, length, take, get_or, arith, map, ◌++◌, List, [], ◌∷◌, Some, None, inl, inr, refl, sym, ap, ◌∙◌}
 use Rattle.std.specs.Cmp.{tied_then}
 use Rattle.std.specs.Cmp.Lexicographic.{slice_cmp}
-use Rattle.std.specs.List.{flat_map}
+use Rattle.std.specs.List.{flat_map, list_any}
 use Rattle.std.specs.Ordering.{is_eq, nat_cmp, ordering_then}
 use Rattle.std.specs.Prelude.{slice_get}
 use Rattle.std.specs.Str.{bytes_eq}
@@ -17,9 +17,10 @@ use Rattle.am_tenant.specs.Names.{same}
 use Rattle.am_tenant.proofs.Same.{is_eq-name_cmp}
 use Rattle.am_members.specs.declared.group.Group.{Group as Name}
 use Rattle.am_members.specs.declared.known.Known.{Known}
+use Rattle.am_members.specs.declared.part.Part.{Part}
 use Rattle.am_members.specs.Grouped.{Grouped}
 use Rattle.am_members.specs.Members.{gave}
-use Rattle.am_members.specs.Names.{is_group}
+use Rattle.am_members.specs.Names.{groups_by, is_group}
 use Rattle.am_members.proofs.Orders.{group_tells}
 use Rattle.am_timer.specs.declared.key.FlushKey.{FlushKey}
 use Rattle.am_timer.specs.declared.key.TimerKey.TheVariants.{Operation, Group, Retry, Push}
@@ -174,18 +175,50 @@ next_for t paces groups i d x due old mid new within first then =
 
 -- the groups of what is kept of alerts
 abbrev pub groups_among : List Known → List Name
-groups_among knowns = flat_map (λ known. known.groups) knowns
+groups_among knowns = flat_map (λ known. flat_map groups_by known.groups) knowns
 
 -- they are those of the alerts
 pub among_values : (es : List (List Label × Known)) → groups_among (map (λ e. e.1) es) ≡ all_groups es
 among_values [] = refl
-among_values (e ∷ es) = ap (λ gs. e.1.groups ++ gs) (among_values es)
+among_values (e ∷ es) = ap (λ gs. flat_map groups_by e.1.groups ++ gs) (among_values es)
+
+-- a test of lists that are joined
+pub one_among : {X Y : Type 0} (r : Y → Bool) (f : X → List Y) (xs : List X) → list_any r (flat_map f xs) ≡ list_any (λ x. list_any r (f x)) xs
+one_among r f [] = refl
+one_among {Y = Y} r f (x ∷ xs) = joined (f x) ∙ ap (λ b. list_any r (f x) || b) (one_among r f xs)
+  where
+    joined : (ys : List Y) → list_any r (ys ++ flat_map f xs) ≡ (list_any r ys || list_any r (flat_map f xs))
+    joined [] = refl
+    joined (y ∷ ys) = ap (λ b. r y || b) (joined ys) ∙ turned (r y) (list_any r ys) (list_any r (flat_map f xs))
+      where
+        turned : (a b c : Bool) → (a || (b || c)) ≡ ((a || b) || c)
+        turned true b c = refl
+        turned false b c = refl
+
+-- the groups of one part after the other
+pub next_parts : (t : List ℕ) (paces : List Pace) (parts : List Part) (i : ℕ) (d part : Part) (x : Timer) (due old mid new : Bool) → i < length parts → part ≡ get_or parts i d
+    → mid ≡ cond (is_for_one t paces (flat_map groups_by (take i parts)) x) due old → new ≡ cond (is_for_one t paces (groups_by part) x) due mid
+    → new ≡ cond (is_for_one t paces (flat_map groups_by (take (i + 1) parts)) x) due old
+next_parts t paces parts i d part x due old mid new within is first then =
+    either (list_any own (take i parts)) (own part) (first ∙ ap (λ b. cond b due old) (one_among (λ g. is_for t paces g x) groups_by (take i parts))) then
+    ∙ ap (λ p. cond (list_any own (take i parts) || own p) due old) is
+    ∙ ap (λ b. cond b due old) (sym (list_any_more own parts i d within))
+    ∙ ap (λ b. cond b due old) (sym (one_among (λ g. is_for t paces g x) groups_by (take (i + 1) parts)))
+  where
+    own : Part → Bool
+    own p = is_for_one t paces (groups_by p) x
+
+    either : (a b : Bool) → mid ≡ cond a due old → new ≡ cond b due mid → new ≡ cond (a || b) due old
+    either true true h k = k
+    either true false h k = k ∙ h
+    either false true h k = k
+    either false false h k = k ∙ h
 
 -- the groups of one alert after the other
-pub next_among : (t : List ℕ) (paces : List Pace) (known : Known) (rest : List Known) (x : Timer) (due old new : Bool) → new ≡ cond (is_for_one t paces known.groups x) due old
+pub next_among : (t : List ℕ) (paces : List Pace) (known : Known) (rest : List Known) (x : Timer) (due old new : Bool) → new ≡ cond (is_for_one t paces (flat_map groups_by known.groups) x) due old
     → cond (is_for_one t paces (groups_among rest) x) due new ≡ cond (is_for_one t paces (groups_among (known ∷ rest)) x) due old
 next_among t paces known rest x due old new set =
-    either (is_for_one t paces known.groups x) (is_for_one t paces (groups_among rest) x) set ∙ ap (λ b. cond b due old) (sym (joined known.groups (groups_among rest)))
+    either (is_for_one t paces (flat_map groups_by known.groups) x) (is_for_one t paces (groups_among rest) x) set ∙ ap (λ b. cond b due old) (sym (joined (flat_map groups_by known.groups) (groups_among rest)))
   where
     either : (a b : Bool) → new ≡ cond a due old → cond b due new ≡ cond (a || b) due old
     either true true h = refl

@@ -1,22 +1,24 @@
 -- What is planned goes with its timers as an alert is put.
-use Rattle.std.proofs.Common.{◌≡◌, ℕ, Bool, true, false, ◌||◌, cond, List, [], ◌∷◌, Option, Some, None, Result, Ok, Err, OnOk, IfSome, refl, sym, ap, ◌∙◌, subst}
+use Rattle.std.proofs.Common.{◌≡◌, ℕ, Bool, true, false, ◌||◌, cond, List, [], ◌∷◌, Option, Some, None, Result, Ok, Err, OnOk, refl, sym, ap, ◌∙◌, subst}
 use Rattle.std.specs.List.Sorted.{IsStrictlySortedBy}
-use Rattle.std.specs.Map.{keys_of, lookup}
+use Rattle.std.specs.Map.{keys_of}
 use Rattle.std.specs.Prelude.{slice_get}
 use Rattle.std.specs.Result.{is_err}
 use Rattle.std.specs.Str.{bytes_eq}
 use Rattle.std.proofs.lemmas.Bool.{true≢false}
 use Rattle.am_labels.specs.declared.Label.{Label}
-use Rattle.am_labels.specs.Labels.{labels_cmp}
+use Rattle.am_labels.specs.Labels.{labels_cmp, labels_total}
 use Rattle.am_tenant.specs.Names.{same}
 use Rattle.am_tenant.proofs.Same.{same-refl}
 use Rattle.am_members.specs.declared.group.Group.{Group as Name}
 use Rattle.am_members.specs.declared.known.Known.{Known}
 use Rattle.am_members.specs.Grouped.{Grouped, flushed_at, grouped_of, flush_of, kept_after as flushes_after, living, members, put_in}
 use Rattle.am_members.specs.Members.{gave, is_bare, least_of}
-use Rattle.am_members.specs.Names.{is_set, without as absent}
+use Rattle.am_members.specs.Names.{without as absent}
 use Rattle.am_members.proofs.Flushes.{flush_living}
-use Rattle.am_members.proofs.Putting.{rising_put, rising_without}
+use Rattle.am_members.proofs.Entries as entries
+use Rattle.am_members.proofs.Putting.{rising_without}
+use Rattle.am_members.specs.Exact.{labels_same}
 use Rattle.am_outlet.specs.Desks.{Desks, desk_of}
 use Rattle.am_timer.specs.declared.key.FlushKey.{FlushKey}
 use Rattle.am_timer.specs.declared.key.TimerKey.TheVariants.{Operation, Group, Retry, Push}
@@ -25,7 +27,7 @@ use Rattle.am_timer.specs.Timer.{Key, Timer}
 use Rattle.am_planning.specs.declared.pace.Pace.{Pace}
 use Rattle.am_agenda.specs.Paces.{paces_of}
 use Rattle.am_agenda.specs.Plan.{Plan, due_by, due_for, due_of, flush_due, group_due, group_in, with_living}
-use Rattle.am_agenda.specs.Planned.{IsKept, Plans, flush_due_of, groups_known, is_for, is_for_one, plan_of}
+use Rattle.am_agenda.specs.Planned.{AreLeastElsewhere, IsKept, Plans, flush_due_of, is_for, is_for_one, plan_of}
 use Rattle.am_agenda.proofs.Keeping.{grouped_parts, grouped_put, kept_after, same_at}
 use Rattle.am_agenda.proofs.Moving.{flush_others, put_others, remove_others}
 use Rattle.am_agenda.proofs.Timing.{due_as_before}
@@ -38,20 +40,19 @@ went_well (Err e) h x = absurd (true≢false h)
 -- an alert was put, and the timers of its groups were set anew
 pub kept_put : (book : List (List ℕ × List Pace)) (desks : Desks) (groups others : List (List ℕ × Grouped)) (t : List ℕ) (l : List Label) (v : Known) (paces : List Pace) (timers after : List Timer) → paces ≡ paces_of t book
     → IsKept (record { paces = book; groups = groups; desks = desks }) timers
-    → IfSome (lookup (is_set l) (plan_of t (record { paces = book; groups = groups; desks = desks })).grouped.alerts) (λ held. held.groups ≡ v.groups)
     → ((s : List ℕ) → (grouped_of s others).alerts ≡ cond (same s t) (put_in l v (grouped_of s groups).alerts) (grouped_of s groups).alerts)
     → ((s : List ℕ) → (grouped_of s others).flushes ≡ (grouped_of s groups).flushes)
-    → ((x : Timer) → has_timer after x ≡ cond (is_for_one t paces v.groups x) (gave (flush_due_of paces (grouped_of t others) x.name.key) x.due) (has_timer timers x))
+    → ((changed : List Name) × AreLeastElsewhere changed (grouped_of t groups) (grouped_of t others)
+    × ((x : Timer) → has_timer after x ≡ cond (is_for_one t paces changed x) (gave (flush_due_of paces (grouped_of t others) x.name.key) x.due) (has_timer timers x)))
     → IsKept (record { paces = book; groups = others; desks = desks }) after
 unfolding plan_of
-kept_put book desks groups others t l v paces timers after are kept own alerts flushes set =
+kept_put book desks groups others t l v paces timers after are kept alerts flushes set =
     let old : Plans = record { paces = book; groups = groups; desks = desks } in
     let new : Plans = record { paces = book; groups = others; desks = desks } in
-    let put : (grouped_of t others).alerts ≡ put_in l v (grouped_of t groups).alerts = alerts t ∙ ap (λ b. cond b (put_in l v (grouped_of t groups).alerts) (grouped_of t groups).alerts) (same-refl t) in
-    kept_after book desks groups others t (λ g. record g { alerts = put_in l v g.alerts }) v.groups timers after (grouped_put groups others t l v alerts flushes) kept
-    (rising_put l v (grouped_of t groups).alerts)
-    (due_as_before v.groups (plan_of t old) (plan_of t new) refl (put_others l v (grouped_of t groups) (grouped_of t others) (kept.rising t) own put (flushes t)))
-    (subst (λ ps. (x : Timer) → has_timer after x ≡ cond (is_for_one t ps v.groups x) (gave (flush_due_of ps (grouped_of t others) x.name.key) x.due) (has_timer timers x)) are set)
+    kept_after book desks groups others t (λ g. record g { alerts = put_in l v g.alerts }) set.0 timers after (grouped_put groups others t l v alerts flushes) kept
+    (entries.rising_put labels_cmp labels_total labels_same l v (grouped_of t groups).alerts)
+    (due_as_before set.0 (plan_of t old) (plan_of t new) refl (put_others set.0 (grouped_of t groups) (grouped_of t others) set.1 (flushes t)))
+    (subst (λ ps. (x : Timer) → has_timer after x ≡ cond (is_for_one t ps set.0 x) (gave (flush_due_of ps (grouped_of t others) x.name.key) x.due) (has_timer timers x)) are set.2)
 
 -- what is grouped without an alert
 abbrev pub gone_from : List Label → Grouped → Grouped
@@ -62,19 +63,20 @@ pub kept_removed : (book : List (List ℕ × List Pace)) (desks : Desks) (groups
     → IsKept (record { paces = book; groups = groups; desks = desks }) timers
     → ((s : List ℕ) → (grouped_of s others).alerts ≡ cond (same s t) (absent l (grouped_of s groups).alerts) (grouped_of s groups).alerts)
     → ((s : List ℕ) → (grouped_of s others).flushes ≡ cond (same s t) (flushes_after l (grouped_of s groups)) (grouped_of s groups).flushes)
-    → ((x : Timer) → has_timer after x ≡ cond (is_for_one t paces (groups_known (lookup (is_set l) (grouped_of t groups).alerts)) x) (gave (flush_due_of paces (grouped_of t others) x.name.key) x.due) (has_timer timers x))
+    → ((changed : List Name) × AreLeastElsewhere changed (grouped_of t groups) (grouped_of t others)
+    × ((x : Timer) → has_timer after x ≡ cond (is_for_one t paces changed x) (gave (flush_due_of paces (grouped_of t others) x.name.key) x.due) (has_timer timers x)))
     → IsKept (record { paces = book; groups = others; desks = desks }) after
 unfolding plan_of
 kept_removed book desks groups others t l paces timers after are kept alerts flushes set =
     let old : Plans = record { paces = book; groups = groups; desks = desks } in
     let new : Plans = record { paces = book; groups = others; desks = desks } in
-    let changed = groups_known (lookup (is_set l) (grouped_of t groups).alerts) in
+    let changed = set.0 in
     let made = grouped_parts groups others t (gone_from l) alerts flushes in
     let own : grouped_of t others ≡ gone_from l (grouped_of t groups) = made t ∙ ap (λ b. cond b (gone_from l (grouped_of t groups)) (grouped_of t groups)) (same-refl t) in
     kept_after book desks groups others t (gone_from l) changed timers after made kept (rising_without l (grouped_of t groups).alerts)
     (due_as_before changed (plan_of t old) (plan_of t new) refl
-    (remove_others l (grouped_of t groups) (grouped_of t others) (kept.rising t) (ap (λ (g : Grouped). g.alerts) own) (ap (λ (g : Grouped). g.flushes) own)))
-    (subst (λ ps. (x : Timer) → has_timer after x ≡ cond (is_for_one t ps changed x) (gave (flush_due_of ps (grouped_of t others) x.name.key) x.due) (has_timer timers x)) are set)
+    (remove_others changed l (grouped_of t groups) (grouped_of t others) set.1 (ap (λ (g : Grouped). g.alerts) own) (ap (λ (g : Grouped). g.flushes) own)))
+    (subst (λ ps. (x : Timer) → has_timer after x ≡ cond (is_for_one t ps changed x) (gave (flush_due_of ps (grouped_of t others) x.name.key) x.due) (has_timer timers x)) are set.2)
 
 -- what is grouped with a flush
 abbrev pub flushed_in : Name → ℕ → Grouped → Grouped

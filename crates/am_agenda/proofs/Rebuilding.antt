@@ -1,6 +1,6 @@
 -- What is planned goes with its timers as all alerts of a tenant are replaced.
 use Rattle.std.proofs.Common.{◌≡◌, ℕ, Bool, true, false, ◌&&◌, ◌||◌, cond, List, [], ◌∷◌, ◌++◌, Option, Some, None, refl, sym, ap, ◌∙◌, subst}
-use Rattle.std.specs.List.{list_any}
+use Rattle.std.specs.List.{flat_map, list_any}
 use Rattle.std.specs.List.Sorted.{IsStrictlySortedBy}
 use Rattle.std.specs.Map.{keys_of}
 use Rattle.std.specs.Prelude.{slice_get}
@@ -14,7 +14,7 @@ use Rattle.am_members.specs.declared.group.Group.{Group as Name}
 use Rattle.am_members.specs.declared.known.Known.{Known}
 use Rattle.am_members.specs.Grouped.{Grouped, flush_of, grouped_of, in_group, members}
 use Rattle.am_members.specs.Members.{gave, least_of}
-use Rattle.am_members.specs.Names.{is_group}
+use Rattle.am_members.specs.Names.{groups_by, is_group}
 use Rattle.am_outlet.specs.Desks.{Desks, desk_of}
 use Rattle.am_timer.specs.declared.key.FlushKey.{FlushKey}
 use Rattle.am_timer.specs.Tied.{has_timer}
@@ -24,13 +24,14 @@ use Rattle.am_agenda.specs.Paces.{paces_of}
 use Rattle.am_agenda.specs.Plan.{Plan, all_groups, due_by, due_for, flush_due, group_due, group_in, rebuilt}
 use Rattle.am_agenda.specs.Planned.{IsKept, flush_due_of, has_receiver, is_for_one, plan_of}
 use Rattle.am_agenda.proofs.Keeping.{grouped_parts, kept_after, same_at}
+use Rattle.am_agenda.proofs.Named.{one_among}
 use Rattle.am_agenda.proofs.Timing.{is_changed, timed_after}
 
 -- a group that is none of the alerts' has no members
 no_members : (g : Name) (ys : List (List Label × Known)) → list_any (is_group g) (all_groups ys) ≡ false → members g ys ≡ []
 no_members g [] h = refl
 no_members g (a ∷ ys) h =
-    let apart = neither (in_group g a.1) _ (sym (joined a.1.groups) ∙ h) in
+    let apart = neither (in_group g a.1) _ (sym (joined (flat_map groups_by a.1.groups) ∙ ap (λ b. b || list_any (is_group g) (all_groups ys)) (one_among (is_group g) groups_by a.1.groups)) ∙ h) in
     rw apart.0 (no_members g ys apart.1)
   where
     neither : (b c : Bool) → (b || c) ≡ false → (b ≡ false) × (c ≡ false)

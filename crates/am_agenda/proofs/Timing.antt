@@ -6,7 +6,7 @@ use Rattle.std.proofs.lemmas.Bool.{false≢true}
 use Rattle.am_tenant.specs.Names.{same}
 use Rattle.am_tenant.proofs.Same.{eq_from_same, same-refl}
 use Rattle.am_members.specs.declared.group.Group.{Group as Name}
-use Rattle.am_members.specs.Grouped.{Grouped, flush_of, members}
+use Rattle.am_members.specs.Grouped.{Grouped, flush_of}
 use Rattle.am_members.specs.Members.{gave}
 use Rattle.am_members.specs.Names.{is_group}
 use Rattle.am_members.proofs.Orders.{group-sym}
@@ -16,11 +16,11 @@ use Rattle.am_timer.specs.Tied.{has_timer}
 use Rattle.am_timer.specs.Timer.{Key, Timer}
 use Rattle.am_planning.specs.declared.pace.Pace.{Pace}
 use Rattle.am_agenda.specs.Plan.{Plan, due_for, due_of, flush_due, group_in}
-use Rattle.am_agenda.specs.Planned.{AreTimed, Plans, flush_due_of, has_receiver, is_for_one, is_planned, names_flush, plan_of}
+use Rattle.am_agenda.specs.Planned.{AreLeastElsewhere, AreTimed, Plans, flush_due_of, has_receiver, is_for_one, is_planned, names_flush, plan_of}
 
 -- of what is grouped, only these groups may have changed
 pub record AreTheOthers (changed : List Name) (old new : Grouped) : Type 0 where
-  pub held : (q : Name) → list_any (is_group q) changed ≡ false → members q new.alerts ≡ members q old.alerts
+  pub held : AreLeastElsewhere changed old new
   pub flushed : (q : Name) → list_any (is_group q) changed ≡ false → flush_of q new.flushes ≡ flush_of q old.flushes
 
 -- one of the tests passes only where what they share does

@@ -9,7 +9,7 @@ use Rattle.am_members.specs.declared.known.Known.{Known}
 use Rattle.am_members.specs.declared.group.Group.{Group as Name}
 use Rattle.am_members.specs.Grouped.{Grouped, flush_of, flushed_at, kept_after, living, members, nothing, put_in}
 use Rattle.am_members.specs.Members.{least_of}
-use Rattle.am_members.specs.Names.{without as absent}
+use Rattle.am_members.specs.Names.{groups_by, without as absent}
 use Rattle.am_outlet.specs.Attempts.{Desk, attempt_at, cleared, no_attempts}
 use Rattle.am_timer.specs.declared.key.FlushKey.{FlushKey}
 use Rattle.am_timer.specs.declared.key.TimerKey.TheVariants.{Operation, Group, Retry, Push}
@@ -86,7 +86,7 @@ retry_timer t plan number = timer_of t (Retry number) (retry_due plan.desk numbe
 
 -- all groups of alerts
 abbrev pub all_groups : List (List Label × Known) → List Name
-all_groups alerts = flat_map (λ a. a.1.groups) alerts
+all_groups alerts = flat_map (λ a. flat_map groups_by a.1.groups) alerts
 
 -- .. of a plan
 abbrev pub groups_in : Plan → List Name

@@ -1,5 +1,5 @@
 -- The plans of all tenants, and the timers that go with them.
-use Rattle.std.specs.Prelude.{◌≡◌, ℕ, Bool, false, ◌&&◌, ◌==◌, List, [], Option, Some, None, slice_get}
+use Rattle.std.specs.Prelude.{◌≡◌, ℕ, Bool, false, ◌&&◌, ◌==◌, List, Option, Some, None, slice_get}
 use Rattle.std.specs.List.{list_any}
 use Rattle.std.specs.List.Sorted.{IsStrictlySortedBy}
 use Rattle.std.specs.Map.{keys_of}
@@ -7,9 +7,8 @@ use Rattle.std.specs.Str.{bytes_eq}
 use Rattle.am_tenant.specs.Names.{same}
 use Rattle.am_labels.specs.Labels.{labels_cmp}
 use Rattle.am_members.specs.declared.group.Group.{Group as Name}
-use Rattle.am_members.specs.declared.known.Known.{Known}
-use Rattle.am_members.specs.Grouped.{Grouped, grouped_of}
-use Rattle.am_members.specs.Members.{gave}
+use Rattle.am_members.specs.Grouped.{Grouped, grouped_of, members}
+use Rattle.am_members.specs.Members.{gave, least_of}
 use Rattle.am_members.specs.Names.{is_group}
 use Rattle.am_outlet.specs.declared.outcome.Outcome.{Outcome}
 use Rattle.am_outlet.specs.declared.outcome.Outcome.TheVariants.{NotOpen, Delivered, Again, GivenUp}
@@ -54,11 +53,6 @@ pub record IsKept (plans : Plans) (timers : List Timer) : Type 0 where
   pub rising : (t : List ℕ) → IsStrictlySortedBy labels_cmp (keys_of (plan_of t plans).grouped.alerts)
   pub timed : AreTimed plans timers
 
--- the groups of what is kept of an alert
-abbrev pub groups_known : Option Known → List Name
-groups_known None = []
-groups_known (Some known) = known.groups
-
 -- ---- the timers of groups that changed
 
 -- a key names the flush of a group, with the receiver that its route has
@@ -79,6 +73,11 @@ is_for t paces group x = same t x.name.tenant && names_flush paces group x.name.
 -- .. of one of these groups
 abbrev pub is_for_one : List ℕ → List Pace → List Name → Timer → Bool
 is_for_one t paces groups x = list_any (λ group. is_for t paces group x) groups
+
+-- other groups than these have the least moment that they had
+abbrev pub AreLeastElsewhere : List Name → (old new : Grouped) → Type 0
+AreLeastElsewhere changed old new = (q : Name) → list_any (is_group q) changed ≡ false
+    → least_of (members q new.alerts) ≡ least_of (members q old.alerts)
 
 -- when the flush that a key names is due
 abbrev pub flush_due_of : List Pace → Grouped → Key → Option ℕ

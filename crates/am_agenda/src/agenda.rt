@@ -4,7 +4,7 @@ ghost use Rattle.std.specs.List.Sorted.{IsStrictlySortedBy};
 ghost use Rattle.std.specs.Map.{keys_of, lookup};
 ghost use Rattle.std.specs.Option.{option_copied};
 ghost use Rattle.am_tenant.specs.Names.{same};
-ghost use Rattle.am_members.specs.Grouped.{flushed_at, grouped_of, kept_after, listed, members, nothing, put_in};
+ghost use Rattle.am_members.specs.Grouped.{flushed_at, grouped_of, kept_after, members, nothing, put_in};
 ghost use Rattle.am_members.specs.Members.{gave, is_bare};
 ghost use Rattle.am_members.specs.Names.{is_set, without as absent};
 ghost use Rattle.am_outlet.specs.Attempts.{added, after_outcome, after_tick, attempt_at, awaits_outcome, next_of, no_attempts, outcome_of, sending_of, without, without_key};
@@ -16,7 +16,7 @@ ghost use Rattle.am_labels.specs.Labels.{labels_cmp};
 ghost use Rattle.am_planning.specs.Planning.{default_paces};
 ghost use Rattle.am_agenda.specs.Paces.{paces_of};
 ghost use Rattle.am_agenda.specs.Plan.{all_groups, dropped, flush_due, no_plan, rebuilt, timers_in, with_alert, with_alerts, with_desk, with_flush, with_living, without_alert};
-ghost use Rattle.am_agenda.specs.Planned.{flush_due_of, groups_known, is_for, is_for_one, plan_of};
+ghost use Rattle.am_agenda.specs.Planned.{flush_due_of, is_for, is_for_one, plan_of};
 
 use crate::grouping::{flush_in, put_all, put_in, remove_from, take_out_of};
 use crate::paces::Paces;
@@ -24,7 +24,7 @@ use crate::refresh::due;
 use crate::trying::{drop_attempt, take_outcome, try_again};
 use am_item::{EntryKey, Fault};
 use am_labels::LabelSet;
-use am_members::{Group, Groups, Known, Members};
+use am_members::{Group, Groups, Known};
 use am_outlet::{Attempts, Notice, Outcome, Sending};
 use am_planning::Pace;
 use am_share::Shared;
@@ -120,12 +120,23 @@ impl Agenda {
         self.groups.known(tenant, labels)
     }
 
-    /// The members of a group, which are the alerts that are in it; `None` where it has none.
+    /// The members of a group, which are the alerts that are in it: their label sets in order, each with the moment
+    /// since which its alert is held.
+    ///
+    /// An error is out of memory.
     #[tactic(auto, unfolding(crate::specs::Planned::plan_of))]
-    pub fn members(&self, tenant: &TenantName, group: &Group) -> Option<&Members>
-        ensures { listed (option_copied result) ≡ members group.now (plan_of tenant.now self.now).grouped.alerts }
+    pub fn members(
+        &self,
+        alloc: Global,
+        tenant: &TenantName,
+        group: &Group,
+    ) -> Result<BTreeMap<LabelSet, Moment>, AllocError>
+        ensures members { IfOk result (λ all. all.entries
+            ≡ members group.now (plan_of tenant.now self.now).grouped.alerts) }
+        ensures rising { IfOk result (λ all. IsStrictlySortedBy labels_cmp (keys_of all.entries)) }
     {
-        self.groups.members(tenant, group)
+        let _ = &self.timers;
+        self.groups.members(alloc, tenant, group)
     }
 
     /// When the flush of a tenant's group to this receiver is due; `None` where the group has no members, or its route another

@@ -2,29 +2,30 @@
 
 ghost use Rattle.std.specs.Prelude.{◌≡◌, ℕ, false, List, [], IfOk, OnOk, if◌then◌else◌};
 ghost use Rattle.std.specs.List.Sorted.{IsStrictlySortedBy};
-ghost use Rattle.std.specs.Map.{keys_of, lookup};
+ghost use Rattle.std.specs.Map.{keys_of};
 ghost use Rattle.am_labels.specs.Labels.{labels_cmp};
 ghost use Rattle.am_tenant.specs.Names.{same};
 ghost use Rattle.am_members.specs.Grouped.{flushed_at, grouped_of, kept_after, members, put_in};
 ghost use Rattle.am_members.specs.Members.{gave, is_bare};
-ghost use Rattle.am_members.specs.Names.{is_set, without as absent};
+ghost use Rattle.am_members.specs.declared.group.Group.{Group as Name};
+ghost use Rattle.am_members.specs.Names.{without as absent};
 ghost use Rattle.am_timer.specs.Tied.{has_timer};
 ghost use Rattle.am_timer.specs.Timer.{Timer as Timed};
 ghost use Rattle.am_agenda.specs.Paces.{paces_of};
 ghost use Rattle.am_agenda.specs.Plan.{all_groups};
-ghost use Rattle.am_agenda.specs.Planned.{flush_due_of, groups_known, is_for, is_for_one};
+ghost use Rattle.am_agenda.specs.Planned.{AreLeastElsewhere, flush_due_of, is_for, is_for_one};
 
 use crate::paces::Paces;
-use crate::refresh::{refresh, refresh_alerts, refresh_all};
+use crate::refresh::{refresh, refresh_alerts, refresh_parts};
 use am_labels::LabelSet;
-use am_members::{Group, Groups, Known, copy_groups};
+use am_members::{Group, Groups, Known};
 use am_planning::Pace;
 use am_tenant::TenantName;
 use am_text::{Listed, Moment};
 use am_timer::TimerQueue;
 use std::alloc::{AllocError, Global};
 
-/// Puts an alert, and sets the timers of its groups anew.
+/// Puts an alert, and sets the timers of those groups anew whose least moment may have changed.
 pub fn put_in(
     alloc: Global,
     groups: &mut Groups,
@@ -34,18 +35,20 @@ pub fn put_in(
     labels: &LabelSet,
     known: Known,
 ) -> Result<(), AllocError>
-    ensures alerts { OnOk result ((t : List ℕ) → (grouped_of t groups.new).alerts ≡ (if same t tenant.now then put_in labels.now known (grouped_of t groups.old).alerts else (grouped_of t groups.old).alerts)) }
+    ensures alerts { OnOk result ((t : List ℕ) → (grouped_of t groups.new).alerts ≡ (if same t tenant.now
+        then put_in labels.now known (grouped_of t groups.old).alerts else (grouped_of t groups.old).alerts)) }
     ensures flushes { OnOk result ((t : List ℕ) → (grouped_of t groups.new).flushes ≡ (grouped_of t groups.old).flushes) }
-    ensures timers { OnOk result ((x : Timed) → has_timer timers.new.timers x ≡ (if is_for_one tenant.now paces.now known.groups x
+    ensures timers { OnOk result ((changed : List Name)
+        × AreLeastElsewhere changed (grouped_of tenant.now groups.old) (grouped_of tenant.now groups.new)
+        × ((x : Timed) → has_timer timers.new.timers x ≡ (if is_for_one tenant.now paces.now changed x
         then gave (flush_due_of paces.now (grouped_of tenant.now groups.new) x.name.key) x.due
-        else has_timer timers.old.timers x)) }
+        else has_timer timers.old.timers x))) }
 {
-    let changed = copy_groups(alloc, known.groups.as_slice())?;
-    groups.put(alloc, tenant, labels, known)?;
-    refresh_all(alloc, timers, groups, paces, tenant, changed.as_slice())
+    let changed = groups.put(alloc, tenant, labels, known)?;
+    refresh_parts(alloc, timers, groups, paces, tenant, &changed)
 }
 
-/// Removes an alert, and sets the timers of its groups anew.
+/// Removes an alert, and sets the timers of those groups anew whose least moment may have changed.
 pub fn remove_from(
     alloc: Global,
     groups: &mut Groups,
@@ -54,24 +57,18 @@ pub fn remove_from(
     tenant: &TenantName,
     labels: &LabelSet,
 ) -> Result<(), AllocError>
-    ensures alerts { (t : List ℕ) → (grouped_of t groups.new).alerts ≡ (if same t tenant.now then absent labels.now (grouped_of t groups.old).alerts else (grouped_of t groups.old).alerts) }
-    ensures flushes { (t : List ℕ) → (grouped_of t groups.new).flushes ≡ (if same t tenant.now then kept_after labels.now (grouped_of t groups.old) else (grouped_of t groups.old).flushes) }
-    ensures timers { OnOk result ((x : Timed) → has_timer timers.new.timers x ≡
-        (if is_for_one tenant.now paces.now (groups_known (lookup (is_set labels.now) (grouped_of tenant.now groups.old).alerts)) x
+    ensures alerts { OnOk result ((t : List ℕ) → (grouped_of t groups.new).alerts ≡ (if same t tenant.now
+        then absent labels.now (grouped_of t groups.old).alerts else (grouped_of t groups.old).alerts)) }
+    ensures flushes { OnOk result ((t : List ℕ) → (grouped_of t groups.new).flushes ≡ (if same t tenant.now
+        then kept_after labels.now (grouped_of t groups.old) else (grouped_of t groups.old).flushes)) }
+    ensures timers { OnOk result ((changed : List Name)
+        × AreLeastElsewhere changed (grouped_of tenant.now groups.old) (grouped_of tenant.now groups.new)
+        × ((x : Timed) → has_timer timers.new.timers x ≡ (if is_for_one tenant.now paces.now changed x
         then gave (flush_due_of paces.now (grouped_of tenant.now groups.new) x.name.key) x.due
-        else has_timer timers.old.timers x)) }
+        else has_timer timers.old.timers x))) }
 {
-    match groups.remove(tenant, labels) {
-        Some(known) => refresh_all(
-            alloc,
-            timers,
-            groups,
-            paces,
-            tenant,
-            known.groups.as_slice(),
-        ),
-        None => Ok(()),
-    }
+    let changed = groups.remove(alloc, tenant, labels)?;
+    refresh_parts(alloc, timers, groups, paces, tenant, &changed)
 }
 
 /// Notes the flush of a group, and sets its timer anew.

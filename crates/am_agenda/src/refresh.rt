@@ -1,8 +1,10 @@
 //! The timers of groups' flushes.
 
 ghost use Rattle.std.specs.Prelude.{◌≡◌, OnOk, if◌then◌else◌};
+ghost use Rattle.std.specs.List.{flat_map};
 ghost use Rattle.am_members.specs.Grouped.{grouped_of};
 ghost use Rattle.am_members.specs.Members.{gave};
+ghost use Rattle.am_members.specs.Names.{groups_by};
 ghost use Rattle.am_timer.specs.Tied.{has_timer};
 ghost use Rattle.am_timer.specs.Timer.{Timer as Timed};
 ghost use Rattle.am_agenda.specs.Plan.{all_groups, group_due};
@@ -10,7 +12,7 @@ ghost use Rattle.am_agenda.specs.Planned.{flush_due_of, is_for, is_for_one};
 
 use crate::naming::flush_name;
 use am_labels::LabelSet;
-use am_members::{Group, Groups, Known};
+use am_members::{Group, Groups, Known, Part};
 use am_planning::Pace;
 use am_tenant::TenantName;
 use am_text::Moment;
@@ -32,7 +34,7 @@ pub fn refresh_alerts(
         else has_timer timers.old.timers x)) }
 {
     for known in alerts.values() {
-        refresh_all(
+        refresh_parts(
             alloc,
             timers,
             groups,
@@ -40,6 +42,27 @@ pub fn refresh_alerts(
             tenant,
             known.groups.as_slice(),
         )?;
+    }
+    Ok(())
+}
+
+/// Sets the timers of the flushes of the groups of these parts anew, and cancels those of groups without members.
+pub fn refresh_parts(
+    alloc: Global,
+    timers: &mut TimerQueue,
+    groups: &Groups,
+    paces: &[Pace],
+    tenant: &TenantName,
+    changed: &[Part],
+) -> Result<(), AllocError>
+    ensures { OnOk result ((x : Timed) → has_timer timers.new.timers x
+        ≡ (if is_for_one tenant.now paces.now (flat_map groups_by changed.now) x
+        then gave (flush_due_of paces.now (grouped_of tenant.now groups.now) x.name.key) x.due
+        else has_timer timers.old.timers x)) }
+{
+    for part in changed {
+        let own = part.groups(alloc)?;
+        refresh_all(alloc, timers, groups, paces, tenant, &own)?;
     }
     Ok(())
 }

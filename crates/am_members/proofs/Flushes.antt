@@ -15,11 +15,15 @@ use Rattle.am_labels.specs.declared.Label.{Label}
 use Rattle.am_labels.specs.Labels.{labels_cmp}
 use Rattle.am_members.specs.declared.group.Group.{Group}
 use Rattle.am_members.specs.declared.known.Known.{Known}
-use Rattle.am_members.specs.Grouped.{AreGrouped, Grouped, flush_of, flushed_at, held_at, in_group, kept_after, living, lost, members, put_in}
+use Rattle.am_members.specs.declared.part.Part.{Part}
+use Rattle.am_members.specs.Exact.{groups_exact}
+use Rattle.am_members.specs.Grouped.{AreGrouped, AreLinked, Grouped, Notes, flush_of, flushed_at, held_at, in_group, kept_after, living, lost, members, put_in}
 use Rattle.am_members.specs.Members.{is_bare}
-use Rattle.am_members.specs.Names.{group_cmp, is_group, is_set, without}
+use Rattle.am_members.specs.Names.{group_cmp, holds, is_group, is_set, without}
+use Rattle.am_members.proofs.Leasts.{bare_linked}
+use Rattle.am_members.proofs.Linking.{Groups, Parts}
 use Rattle.am_members.proofs.Grouping.{Alerts, members_put, member_elsewhere, members-without, not_bare}
-use Rattle.am_members.proofs.Orders.{group_tells, groups_exact, group-refl, group-sym}
+use Rattle.am_members.proofs.Orders.{group_tells, group-refl, group-sym}
 use Rattle.am_members.proofs.Tables.{all_left}
 
 -- groups without members have no flush
@@ -76,9 +80,9 @@ flush_flushed q g moment x = flush_put q g moment x.flushes
 pub lost_by : (q : Group) (l : List Label) (k : Known) (ys : Alerts) → IsStrictlySortedBy labels_cmp (keys_of ys) → lookup (is_set l) ys ≡ Some k
     → (in_group q k && is_bare (members q (without l ys))) ≡ lost q ys (without l ys)
 lost_by q l k ys up there = elim (cases_Bool (in_group q k)) [
-  | inl y ↦ rw (y, not_bare q l k ys there y) refl
+  | inl y ↦ rw (y, not_bare (in_group q) l k ys there y) refl
   | inr n ↦
-      let stay : members q (without l ys) ≡ members q ys = members-without q l ys ∙ all_left (is_set l) (members q ys) (member_elsewhere q l k ys up there n) in
+      let stay : members q (without l ys) ≡ members q ys = members-without (in_group q) l ys ∙ all_left (is_set l) (members q ys) (member_elsewhere (in_group q) l k ys up there n) in
       rw (n, stay) (sym (not_both (is_bare (members q ys))))
 ]
   where
@@ -120,7 +124,7 @@ swept_put ys l v flushes up absent swept q bare = swept q (by_case (in_group q v
     all = all_left (is_set l) ys absent
 
     now_bare : is_bare (cond (in_group q v) (insert_entry labels_cmp (members q ys) l v.since) (members q ys)) ≡ true
-    now_bare = ap is_bare (sym (members_put q l v ys up absent)) ∙ ap (λ zs. is_bare (members q (insert_entry labels_cmp zs l v))) (sym all) ∙ bare
+    now_bare = ap is_bare (sym (members_put (in_group q) l v ys up absent)) ∙ ap (λ zs. is_bare (members q (insert_entry labels_cmp zs l v))) (sym all) ∙ bare
 
     not_none : (x y z : List Label × ℕ) (us vs ws : List (List Label × ℕ)) (o : Ordering) → is_bare (match_ordering o (x ∷ us) (y ∷ vs) (z ∷ ws)) ≡ true → ⊥
     not_none x y z us vs ws Less h = false≢true h
@@ -153,15 +157,15 @@ pub all_kept : {A : Type 0} (p : A → Bool) → ((x : A) → p x ≡ false) →
 all_kept p none [] = refl
 all_kept p none (x ∷ xs) = rw (none x) (ap (λ rest. x ∷ rest) (all_kept p none xs))
 
--- the flushes after those of the next group were forgotten, if it has no members
-pub lost_next : (gs : List Group) (i : ℕ) (d : Group) (bare : Group → Bool) (old was now : List (Group × ℕ)) → i < length gs
-    → was ≡ filter (λ e. not (list_any (is_group e.0) (take i gs) && bare e.0)) old
-    → now ≡ filter (λ e. not (is_group e.0 (get_or gs i d) && bare e.0)) was
-    → now ≡ filter (λ e. not (list_any (is_group e.0) (take (i + 1) gs) && bare e.0)) old
-lost_next gs i d bare old was now within first then =
+-- the flushes after those of the next groups were forgotten, if they have no members
+pub lost_next : {P : Type 0} (test : Group → P → Bool) (ps : List P) (i : ℕ) (d : P) (bare : Group → Bool) (old was now : List (Group × ℕ)) → i < length ps
+    → was ≡ filter (λ e. not (list_any (test e.0) (take i ps) && bare e.0)) old
+    → now ≡ filter (λ e. not (test e.0 (get_or ps i d) && bare e.0)) was
+    → now ≡ filter (λ e. not (list_any (test e.0) (take (i + 1) ps) && bare e.0)) old
+lost_next test ps i d bare old was now within first then =
     then
-    ∙ ap (filter (λ e. not (is_group e.0 (get_or gs i d) && bare e.0))) first
-    ∙ kept_twice (λ e. list_any (is_group e.0) (take i gs) && bare e.0) (λ e. is_group e.0 (get_or gs i d) && bare e.0) (λ e. list_any (is_group e.0) (take (i + 1) gs) && bare e.0) (λ e. ap (λ b. b && bare e.0) (list_any_more (is_group e.0) gs i d within) ∙ either (list_any (is_group e.0) (take i gs)) (is_group e.0 (get_or gs i d)) (bare e.0)) old
+    ∙ ap (filter (λ e. not (test e.0 (get_or ps i d) && bare e.0))) first
+    ∙ kept_twice (λ e. list_any (test e.0) (take i ps) && bare e.0) (λ e. test e.0 (get_or ps i d) && bare e.0) (λ e. list_any (test e.0) (take (i + 1) ps) && bare e.0) (λ e. ap (λ b. b && bare e.0) (list_any_more (test e.0) ps i d within) ∙ either (list_any (test e.0) (take i ps)) (test e.0 (get_or ps i d)) (bare e.0)) old
   where
     either : (a b c : Bool) → ((a || b) && c) ≡ (a && c || b && c)
     either true true true = refl
@@ -193,15 +197,25 @@ one_kept g bare was is = all_kept (λ e. is_group e.0 g && bare e.0) (λ e. neit
       | inr n ↦ rw n.0 refl
     ]
 
--- so the flushes of all lost groups were
-pub all_lost : (x : Grouped) (zs : Alerts) (lists : List (Group × List (List Label × ℕ))) (new : List (Group × ℕ)) (l : List Label) (k : Known) (gs : List Group)
-    → AreGrouped zs lists → zs ≡ without l x.alerts → IsStrictlySortedBy labels_cmp (keys_of x.alerts) → lookup (is_set l) x.alerts ≡ Some k → gs ≡ k.groups
-    → new ≡ filter (λ e. not (list_any (is_group e.0) gs && is_bare (held_at e.0 lists))) x.flushes
+-- so the flushes of all lost groups were: only those of noted parts can be lost
+pub all_lost : (x : Grouped) (was parts : Parts) (before after : Groups) (zs : Alerts) (new : List (Group × ℕ)) (l : List Label) (k : Known) (noted : List Part)
+    → AreGrouped x.alerts was → AreLinked was before → AreGrouped zs parts → AreLinked parts after
+    → zs ≡ without l x.alerts → lookup (is_set l) x.alerts ≡ Some k → ((q : Group) → Notes q (in_group q k) [] noted before after)
+    → new ≡ filter (λ e. not (list_any (holds e.0) noted && is_bare (held_at e.0 after))) x.flushes
     → new ≡ kept_after l x
-all_lost x zs lists new l k gs are left up there own forgot =
+all_lost x was parts before after zs new l k noted were links are linked left there notes forgot =
     forgot
-    ∙ filter_agree (λ e. not (list_any (is_group e.0) gs && is_bare (held_at e.0 lists))) (λ e. not (lost e.0 x.alerts (without l x.alerts)))
-    (λ e. ap not (rw (own, are.held e.0, left) (lost_by e.0 l k x.alerts up there))) x.flushes
+    ∙ filter_agree (λ e. not (list_any (holds e.0) noted && is_bare (held_at e.0 after))) (λ e. not (lost e.0 x.alerts (without l x.alerts)))
+    (λ e. ap not (by_case e.0 (in_group e.0 k) (list_any (holds e.0) noted) refl refl ∙ lost_by e.0 l k x.alerts were.rising there)) x.flushes
+  where
+    now : (q : Group) → is_bare (held_at q after) ≡ is_bare (members q (without l x.alerts))
+    now q = bare_linked q zs parts after are linked ∙ ap (λ ys. is_bare (members q ys)) left
+
+    by_case : (q : Group) (b a : Bool) → in_group q k ≡ b → list_any (holds q) noted ≡ a → (a && is_bare (held_at q after)) ≡ (b && is_bare (members q (without l x.alerts)))
+    by_case q false true out within = absurd (false≢true (sym ((notes q).own out refl) ∙ within))
+    by_case q false false out apart = refl
+    by_case q true true in' within = now q
+    by_case q true false in' apart = sym (sym (now q) ∙ ap is_bare ((notes q).stays apart) ∙ bare_linked q x.alerts was before were links ∙ not_bare (in_group q) l k x.alerts there in')
 
 -- where no alert goes, all flushes stay
 pub all_stay : (x : Grouped) (l : List Label) → without l x.alerts ≡ x.alerts → x.flushes ≡ kept_after l x
@@ -210,9 +224,9 @@ all_stay x l same = rw same (all_kept (λ e. lost e.0 x.alerts x.alerts) (λ e. 
 -- ---- a sweep
 
 -- flushes of groups without members were taken out
-pub sweep : (x : Grouped) (lists : List (Group × List (List Label × ℕ))) (new : List (Group × ℕ)) → AreGrouped x.alerts lists → new ≡ filter (λ e. not (is_bare (held_at e.0 lists))) x.flushes → new ≡ living x
-sweep x lists new are filtered =
-    filtered ∙ filter_agree (λ e. not (is_bare (held_at e.0 lists))) (λ e. not (is_bare (members e.0 x.alerts))) (λ e. ap (λ ms. not (is_bare ms)) (are.held e.0)) x.flushes
+pub sweep : (x : Grouped) (parts : Parts) (groups : Groups) (new : List (Group × ℕ)) → AreGrouped x.alerts parts → AreLinked parts groups → new ≡ filter (λ e. not (is_bare (held_at e.0 groups))) x.flushes → new ≡ living x
+sweep x parts groups new are links filtered =
+    filtered ∙ filter_agree (λ e. not (is_bare (held_at e.0 groups))) (λ e. not (is_bare (members e.0 x.alerts))) (λ e. ap not (bare_linked e.0 x.alerts parts groups are links)) x.flushes
 
 -- where all was swept, nothing is left to sweep
 pub nothing_to_sweep : (ys : Alerts) (flushes : List (Group × ℕ)) → AreSwept ys flushes → flushes ≡ filter (λ e. not (is_bare (members e.0 ys))) flushes
@@ -230,8 +244,8 @@ nothing_to_sweep ys (e ∷ es) swept = elim (cases_Bool (is_bare (members e.0 ys
     behind false o h = h
 
 -- and then nothing is left to sweep
-pub swept_now : (x : Grouped) (lists : List (Group × List (List Label × ℕ))) (new : List (Group × ℕ)) → AreGrouped x.alerts lists → new ≡ filter (λ e. not (is_bare (held_at e.0 lists))) x.flushes → AreSwept x.alerts new
-swept_now x lists new are filtered q bare = ap (flush_of q) (sweep x lists new are filtered) ∙ flush_living q x ∙ rw bare refl
+pub swept_now : (x : Grouped) (parts : Parts) (groups : Groups) (new : List (Group × ℕ)) → AreGrouped x.alerts parts → AreLinked parts groups → new ≡ filter (λ e. not (is_bare (held_at e.0 groups))) x.flushes → AreSwept x.alerts new
+swept_now x parts groups new are links filtered q bare = ap (flush_of q) (sweep x parts groups new are links filtered) ∙ flush_living q x ∙ rw bare refl
 
 -- an alert that took no other's place
 pub swept_new : (ys zs : Alerts) (l : List Label) (v : Known) (flushes : List (Group × ℕ)) (unswept replaced : Bool) → IsStrictlySortedBy labels_cmp (keys_of ys) → replaced ≡ is_some (lookup (is_set l) ys) → zs ≡ put_in l v ys

@@ -1,9 +1,13 @@
-pub mod Orders
 pub mod Tables
+pub mod Orders
 pub mod Ties
 pub mod Changes
+pub mod Entries
+pub mod Linking
 pub mod Grouping
+pub mod Putting
+pub mod Leasts
+pub mod Gathering
 pub mod Flushes
 pub mod Tenants
-pub mod Putting
 pub mod Sweeping

@@ -94,6 +94,19 @@ module _ (unswept : BTreeSet (List ℕ)) (ps ns : Tenants) (tenant : List ℕ) (
       by_case t false other is =
           swept_same (grouped_of t ns) (grouped_of t ps) (alerts t ∙ rw other refl) (flushes t ∙ rw other refl) is
 
+  -- or after an error, which left nothing of its tenant
+  pub gone_or_removed : {T E : Type 0} (r : Result T E) (l : List Label)
+      → OnOk r ((t : List ℕ) → (grouped_of t ns).alerts ≡ cond (same t tenant) (without l (grouped_of t ps).alerts) (grouped_of t ps).alerts)
+      → OnOk r ((t : List ℕ) → (grouped_of t ns).flushes ≡ cond (same t tenant) (kept_after l (grouped_of t ps)) (grouped_of t ps).flushes)
+      → OnErr r (grouped_of tenant ns ≡ nothing) → OnErr r ((t : List ℕ) → same t tenant ≡ false → grouped_of t ns ≡ grouped_of t ps)
+      → AreSweptBut unswept ns
+  gone_or_removed (Ok _) l alerts flushes gone others = removed_swept l alerts flushes
+  gone_or_removed (Err _) l alerts flushes gone others = record { swept = λ t out. by_case t (same t tenant) refl (was.swept t out) }
+    where
+      by_case : (t : List ℕ) (b : Bool) → same t tenant ≡ b → IsSwept (grouped_of t ps) → IsSwept (grouped_of t ns)
+      by_case t true own is = swept_equal (grouped_of t ns) nothing (ap (λ s. grouped_of s ns) (eq_from_same t tenant own) ∙ gone) refl
+      by_case t false other is = swept_equal (grouped_of t ns) (grouped_of t ps) (others t other) is
+
   -- after a flush of a group that has members, or after an error, which left all flushes
   pub flushed_swept : {T E : Type 0} (r : Result T E) (g : Group) (moment : ℕ)
       → is_bare (members g (grouped_of tenant ps).alerts) ≡ false

@@ -1,3 +1,5 @@
+pub mod Routes
 pub mod Names
+pub mod Exact
 pub mod Members
 pub mod Grouped

@@ -1,54 +1,94 @@
-//! What becomes of groups as one alert joins them or leaves them.
+//! What becomes of groups as one thing joins them or leaves them.
 
 ghost use Rattle.std.specs.Prelude.{◌≡◌, true, IfSome, OnOk, None, if◌then◌else◌};
-ghost use Rattle.std.specs.BTreeMap.{insert_entry};
+ghost use Rattle.std.specs.BTreeMap.{insert_entry, is_at};
 ghost use Rattle.std.specs.List.{list_any};
 ghost use Rattle.std.specs.Map.{lookup};
-ghost use Rattle.am_labels.specs.Labels.{labels_cmp};
-ghost use Rattle.am_members.specs.Names.{is_group, is_set, without};
-ghost use Rattle.am_members.specs.Grouped.{AreFull, AreFullBut, held_at};
-ghost use Rattle.am_members.specs.Members.{is_bare};
-ghost use Rattle.am_members.specs.declared.group.Group.{Group as Name};
+ghost use Rattle.am_members.specs.Names.{left_out};
+ghost use Rattle.am_members.specs.Members.{AreFull, AreFullBut, held_in, is_bare, least_of};
 
-use crate::group::Group;
-use crate::members::Members;
-use am_labels::LabelSet;
+use crate::held::Held;
+use crate::name::Name;
 use am_text::Moment;
 use std::alloc::{AllocError, Global};
 use std::collections::BTreeMap;
 
-/// The alert of these labels leaves all these groups. A group without members is kept no longer.
-pub fn leave_all(groups: &mut BTreeMap<Group, Members>, left: &[Group], labels: &LabelSet)
-    ensures members { (q : Name) → held_at q groups.new.entries ≡ (if list_any (is_group q) left.now then without labels.now (held_at q groups.old.entries) else held_at q groups.old.entries) }
-    ensures full { AreFull groups.old.entries → AreFull groups.new.entries }
+/// A thing leaves all these groups. A group without members is kept no longer.
+pub fn leave_all<G: Name, K: Name>(groups: &mut BTreeMap<G, Held<K>>, left: &[G], name: &K)
+    ensures members { (q : G) → held_in (is_at (G.cmp q)) groups.new.entries ≡ (if list_any (is_at (G.cmp q)) left.now
+        then left_out (is_at (K.cmp name.now)) (held_in (is_at (G.cmp q)) groups.old.entries)
+        else held_in (is_at (G.cmp q)) groups.old.entries) }
+    ensures full { AreFull G.cmp groups.old.entries → AreFull G.cmp groups.new.entries }
 {
     for group in left {
-        leave_one(groups, group, labels);
-        tidy(groups, group);
+        leave(groups, group, name);
     }
 }
 
-/// The alert of these labels, which is in none of these groups, joins them all.
-pub fn join_all(
+/// A thing that is in none of these groups joins them all.
+pub fn join_all<G: Name, K: Name>(
     alloc: Global,
-    groups: &mut BTreeMap<Group, Members>,
-    joined: &[Group],
-    labels: &LabelSet,
+    groups: &mut BTreeMap<G, Held<K>>,
+    joined: &[G],
+    name: &K,
     since: Moment,
 ) -> Result<(), AllocError>
-    requires { (q : Name) → list_any (is_group q) joined.now ≡ true → lookup (is_set labels.now) (held_at q groups.old.entries) ≡ None }
-    ensures members { OnOk result ((q : Name) → held_at q groups.new.entries ≡ (if list_any (is_group q) joined.now then insert_entry labels_cmp (held_at q groups.old.entries) labels.now since else held_at q groups.old.entries)) }
-    ensures full { OnOk result (AreFull groups.old.entries → AreFull groups.new.entries) }
+    requires { (q : G) → list_any (is_at (G.cmp q)) joined.now ≡ true
+        → lookup (is_at (K.cmp name.now)) (held_in (is_at (G.cmp q)) groups.old.entries) ≡ None }
+    ensures members { OnOk result ((q : G) → held_in (is_at (G.cmp q)) groups.new.entries
+        ≡ (if list_any (is_at (G.cmp q)) joined.now
+        then insert_entry K.cmp (held_in (is_at (G.cmp q)) groups.old.entries) name.now since
+        else held_in (is_at (G.cmp q)) groups.old.entries)) }
+    ensures full { OnOk result (AreFull G.cmp groups.old.entries → AreFull G.cmp groups.new.entries) }
 {
     for group in joined {
-        join_one(alloc, groups, group, labels, since)?;
+        join(alloc, groups, group, name, since)?;
     }
     Ok(())
 }
 
+/// A thing leaves one group. Without members that is kept no longer.
+pub fn leave<G: Name, K: Name>(groups: &mut BTreeMap<G, Held<K>>, group: &G, name: &K)
+    ensures members { (q : G) → held_in (is_at (G.cmp q)) groups.new.entries ≡ (if is_at (G.cmp q) group.now
+        then left_out (is_at (K.cmp name.now)) (held_in (is_at (G.cmp q)) groups.old.entries)
+        else held_in (is_at (G.cmp q)) groups.old.entries) }
+    ensures full { AreFull G.cmp groups.old.entries → AreFull G.cmp groups.new.entries }
+{
+    take_out(groups, group, name);
+    tidy(groups, group);
+}
+
+/// A thing joins one group, unless it is in it since then.
+pub fn join<G: Name, K: Name>(
+    alloc: Global,
+    groups: &mut BTreeMap<G, Held<K>>,
+    group: &G,
+    name: &K,
+    since: Moment,
+) -> Result<(), AllocError>
+    requires { IfSome (lookup (is_at (K.cmp name.now)) (held_in (is_at (G.cmp group.now)) groups.old.entries))
+        (λ held. held ≡ since) }
+    ensures members { OnOk result ((q : G) → held_in (is_at (G.cmp q)) groups.new.entries
+        ≡ (if is_at (G.cmp q) group.now
+        then insert_entry K.cmp (held_in (is_at (G.cmp q)) groups.old.entries) name.now since
+        else held_in (is_at (G.cmp q)) groups.old.entries)) }
+    ensures full { OnOk result (AreFull G.cmp groups.old.entries → AreFull G.cmp groups.new.entries) }
+{
+    let own = group.copy()?;
+    let held = groups.entry(own)?.or_insert(Held::new(alloc));
+    held.add(name, since)
+}
+
+/// The least moment since which a member of a group is held; `None` where it has none.
+pub fn least_in<G: Name, K: Name>(groups: &BTreeMap<G, Held<K>>, group: &G) -> Option<Moment>
+    ensures { result ≡ least_of (held_in (is_at (G.cmp group.now)) groups.now.entries) }
+{
+    groups.get(group)?.least_since()
+}
+
 /// Whether a group has no members.
-pub fn is_bare_in(groups: &BTreeMap<Group, Members>, group: &Group) -> bool
-    ensures { result ≡ is_bare (held_at group.now groups.now.entries) }
+pub fn is_bare_in<G: Name, K: Name>(groups: &BTreeMap<G, Held<K>>, group: &G) -> bool
+    ensures { result ≡ is_bare (held_in (is_at (G.cmp group.now)) groups.now.entries) }
 {
     match groups.get(group) {
         Some(members) => members.is_empty(),
@@ -56,39 +96,25 @@ pub fn is_bare_in(groups: &BTreeMap<Group, Members>, group: &Group) -> bool
     }
 }
 
-// The alert leaves one group.
-fn leave_one(groups: &mut BTreeMap<Group, Members>, group: &Group, labels: &LabelSet)
-    ensures members { (q : Name) → held_at q groups.new.entries ≡ (if is_group q group.now then without labels.now (held_at q groups.old.entries) else held_at q groups.old.entries) }
-    ensures full { AreFull groups.old.entries → AreFullBut group.now groups.new.entries }
+// A thing goes out of one group.
+fn take_out<G: Name, K: Name>(groups: &mut BTreeMap<G, Held<K>>, group: &G, name: &K)
+    ensures members { (q : G) → held_in (is_at (G.cmp q)) groups.new.entries ≡ (if is_at (G.cmp q) group.now
+        then left_out (is_at (K.cmp name.now)) (held_in (is_at (G.cmp q)) groups.old.entries)
+        else held_in (is_at (G.cmp q)) groups.old.entries) }
+    ensures full { AreFull G.cmp groups.old.entries → AreFullBut G.cmp group.now groups.new.entries }
 {
     if let Some(held) = groups.get_mut(group) {
-        held.remove(labels);
+        held.remove(name);
     }
 }
 
 // The group goes where it has no members.
-fn tidy(groups: &mut BTreeMap<Group, Members>, group: &Group)
-    ensures members { (q : Name) → held_at q groups.new.entries ≡ held_at q groups.old.entries }
-    ensures full { AreFullBut group.now groups.old.entries → AreFull groups.new.entries }
+fn tidy<G: Name, K: Name>(groups: &mut BTreeMap<G, Held<K>>, group: &G)
+    ensures members { (q : G) → held_in (is_at (G.cmp q)) groups.new.entries
+        ≡ held_in (is_at (G.cmp q)) groups.old.entries }
+    ensures full { AreFullBut G.cmp group.now groups.old.entries → AreFull G.cmp groups.new.entries }
 {
     if is_bare_in(groups, group) {
         groups.remove(group);
     }
-}
-
-// The alert joins one group, unless it is in it since then.
-fn join_one(
-    alloc: Global,
-    groups: &mut BTreeMap<Group, Members>,
-    group: &Group,
-    labels: &LabelSet,
-    since: Moment,
-) -> Result<(), AllocError>
-    requires { IfSome (lookup (is_set labels.now) (held_at group.now groups.old.entries)) (λ held. held ≡ since) }
-    ensures members { OnOk result ((q : Name) → held_at q groups.new.entries ≡ (if is_group q group.now then insert_entry labels_cmp (held_at q groups.old.entries) labels.now since else held_at q groups.old.entries)) }
-    ensures full { OnOk result (AreFull groups.old.entries → AreFull groups.new.entries) }
-{
-    let own = group.copy()?;
-    let held = groups.entry(own)?.or_insert(Members::new(alloc));
-    held.add(labels, since)
 }

@@ -1,8 +1,9 @@
 ghost use Rattle.std.specs.Prelude.{◌≡◌, IfOk};
+ghost use Rattle.am_members.specs.Exact.{groups_exact, labels_same};
 
+use crate::name::Name;
 use am_labels::LabelSet;
-use am_text::Listed;
-use std::alloc::{AllocError, Global};
+use std::alloc::AllocError;
 
 /// The name of a group of alerts: a route, and the labels that the route groups its members by.
 ///
@@ -15,11 +16,10 @@ pub struct Group {
     pub labels: LabelSet,
 }
 
-impl Group {
-    /// A copy of the name.
-    pub fn copy(&self) -> Result<Group, AllocError>
-        ensures { IfOk result (λ group. group ≡ self.now) }
-    {
+impl Name for Group {
+    ghost exact = { groups_exact };
+
+    fn copy(&self) -> Result<Group, AllocError> {
         Ok(Group {
             route: self.route,
             labels: self.labels.copy()?,
@@ -27,13 +27,10 @@ impl Group {
     }
 }
 
-/// A copy of the names of groups.
-pub fn copy_groups(alloc: Global, groups: &[Group]) -> Result<Listed<Group>, AllocError>
-    ensures { IfOk result (λ copy. copy ≡ groups.now) }
-{
-    let mut copies = Vec::with_capacity(alloc, groups.len())?;
-    for group in groups {
-        copies.push(group.copy()?)?;
+impl Name for LabelSet {
+    ghost exact = { labels_same };
+
+    fn copy(&self) -> Result<LabelSet, AllocError> {
+        LabelSet::copy(self)
     }
-    Ok(Listed::from_vec(copies))
 }

@@ -1,20 +1,26 @@
 //! The groups of one tenant.
 
-ghost use Rattle.std.specs.Prelude.{◌≡◌, ◌&&◌, not, filter, [], IfOk, OnErr, OnOk, None, false};
+ghost use Rattle.std.specs.Prelude.{◌≡◌, ◌&&◌, not, false, filter, [], IfOk, OnErr, OnOk, None};
 ghost use Rattle.std.specs.BTreeMap.{insert_entry};
 ghost use Rattle.std.specs.List.{list_any};
 ghost use Rattle.std.specs.List.Sorted.{IsStrictlySortedBy};
 ghost use Rattle.std.specs.Map.{keys_of, lookup};
 ghost use Rattle.std.specs.Option.{is_some, option_copied};
 ghost use Rattle.am_labels.specs.Labels.{labels_cmp};
-ghost use Rattle.am_members.specs.Grouped.{AreFull, AreGrouped, flush_of, flushed_at, held_at, kept_after, listed, living, members, nothing, put_in};
-ghost use Rattle.am_members.specs.Members.{is_bare};
-ghost use Rattle.am_members.specs.Names.{is_group, is_set, without};
+ghost use Rattle.am_members.specs.Grouped.{AreGrouped, AreLinked, Notes, flush_of, flushed_at, held_at};
+ghost use Rattle.am_members.specs.Grouped.{kept_after, living, members, nothing, put_in};
+ghost use Rattle.am_members.specs.Members.{AreFull, is_bare, least_of};
+ghost use Rattle.am_members.specs.Names.{holds, is_group, is_set, part_cmp, without};
+ghost use Rattle.am_members.specs.declared.group.Group.{Group as GroupName};
 
-use crate::change::{is_bare_in, join_all, leave_all};
+use crate::change::{is_bare_in, least_in};
+use crate::gather::gather;
 use crate::group::Group;
+use crate::held::Held;
 use crate::known::Known;
-use crate::members::Members;
+use crate::links::{join_parts, leave_parts};
+use crate::name::Name;
+use crate::part::Part;
 use am_labels::LabelSet;
 use am_text::Moment;
 use std::alloc::{AllocError, Global};
@@ -23,11 +29,13 @@ use std::collections::btree_map::Entry;
 use std::marker::Model;
 use std::mem;
 
-/// The alerts of a tenant, the members of their groups, and the last flush of each group.
+/// The alerts of a tenant, the members of their parts, the parts of their groups, and the last flush of each group.
 #[derive(Drop)]
 pub struct Index {
     alerts: BTreeMap<LabelSet, Known>,
-    groups: BTreeMap<Group, Members>,
+    parts: BTreeMap<Part, Held<LabelSet>>,
+    // of each group the parts that have members, each with the least moment since which one of them is held
+    groups: BTreeMap<Group, Held<Part>>,
     flushes: BTreeMap<Group, Moment>,
     // a group without members may have a flush
     unswept: bool,
@@ -40,7 +48,7 @@ impl Model for Index {
 
     ghost view = { λ index. record { alerts = index.alerts.entries; flushes = index.flushes.entries } };
 
-    ghost invariant = { λ index. IsIndex index.alerts.entries index.groups.entries index.flushes.entries index.unswept };
+    ghost invariant = { λ index. IsIndex index.alerts.entries index.parts.entries index.groups.entries index.flushes.entries index.unswept };
 }
 
 impl Index {
@@ -50,6 +58,7 @@ impl Index {
     {
         Index {
             alerts: BTreeMap::new(alloc),
+            parts: BTreeMap::new(alloc),
             groups: BTreeMap::new(alloc),
             flushes: BTreeMap::new(alloc),
             unswept: false,
@@ -70,11 +79,25 @@ impl Index {
         &self.alerts
     }
 
-    /// The members of a group.
-    pub fn members(&self, group: &Group) -> Option<&Members>
-        ensures { listed (option_copied result) ≡ members group.now self.now.alerts }
+    /// The members of a group: their label sets in order, each with the moment since which its alert is held.
+    pub fn members(
+        &self,
+        alloc: Global,
+        group: &Group,
+    ) -> Result<BTreeMap<LabelSet, Moment>, AllocError>
+        ensures { IfOk result (λ all. all.entries ≡ members group.now self.now.alerts) }
     {
-        self.groups.get(group)
+        match self.groups.get(group) {
+            Some(held) => gather(alloc, &self.parts, held.sinces()),
+            None => Ok(BTreeMap::new(alloc)),
+        }
+    }
+
+    /// The least moment since which a member of a group is held.
+    pub fn least_since(&self, group: &Group) -> Option<Moment>
+        ensures { result ≡ least_of (members group.now self.now.alerts) }
+    {
+        least_in(&self.groups, group)
     }
 
     /// The moment of a group's last flush.
@@ -84,19 +107,37 @@ impl Index {
         self.flushes.get(group).copied()
     }
 
-    /// Puts an alert in the place of any that has its labels. Out of memory leaves nothing.
-    pub fn put(&mut self, alloc: Global, labels: &LabelSet, known: Known) -> Result<(), AllocError>
+    /// Puts an alert in the place of any that has its labels, and answers parts: other groups than theirs have the least
+    /// moment that they had. Out of memory leaves nothing.
+    pub fn put(
+        &mut self,
+        alloc: Global,
+        labels: &LabelSet,
+        known: Known,
+    ) -> Result<Vec<Part>, AllocError>
         ensures alerts { OnOk result (self.new.alerts ≡ put_in labels.now known self.old.alerts) }
         ensures flushes { OnOk result (self.new.flushes ≡ self.old.flushes) }
+        ensures changed { IfOk result (λ changed. (q : GroupName) → list_any (holds q) changed.items ≡ false
+            → least_of (members q self.new.alerts) ≡ least_of (members q self.old.alerts)) }
         ensures err { OnErr result (self.new ≡ nothing) }
     {
-        match replace(alloc, &mut self.alerts, &mut self.groups, labels, known) {
+        let mut changed = Vec::new(alloc);
+        match replace(
+            alloc,
+            &mut self.alerts,
+            &mut self.parts,
+            &mut self.groups,
+            &mut changed,
+            labels,
+            known,
+        ) {
             Ok(replaced) => {
                 self.unswept |= replaced;
-                Ok(())
+                Ok(changed)
             }
             Err(error) => {
                 self.alerts.clear();
+                self.parts.clear();
                 self.groups.clear();
                 self.flushes.clear();
                 Err(error)
@@ -104,15 +145,32 @@ impl Index {
         }
     }
 
-    /// Removes an alert, and the flushes of the groups that lose their last member by it.
-    pub fn remove(&mut self, labels: &LabelSet) -> Option<Known>
-        ensures known { result ≡ lookup (is_set labels.now) self.old.alerts }
-        ensures alerts { self.new.alerts ≡ without labels.now self.old.alerts }
-        ensures flushes { self.new.flushes ≡ kept_after labels.now self.old }
+    /// Removes an alert, and the flushes of the groups that lose their last member by it; answers parts as
+    /// [`Index::put`] does. Out of memory leaves nothing.
+    pub fn remove(&mut self, alloc: Global, labels: &LabelSet) -> Result<Vec<Part>, AllocError>
+        ensures alerts { OnOk result (self.new.alerts ≡ without labels.now self.old.alerts) }
+        ensures flushes { OnOk result (self.new.flushes ≡ kept_after labels.now self.old) }
+        ensures changed { IfOk result (λ changed. (q : GroupName) → list_any (holds q) changed.items ≡ false
+            → least_of (members q self.new.alerts) ≡ least_of (members q self.old.alerts)) }
+        ensures err { OnErr result (self.new ≡ nothing) }
     {
-        let known = forget(&mut self.alerts, &mut self.groups, labels)?;
-        forget_lost(&self.groups, known.groups.as_slice(), &mut self.flushes);
-        Some(known)
+        match forget(
+            alloc,
+            &mut self.alerts,
+            &mut self.parts,
+            &mut self.groups,
+            &mut self.flushes,
+            labels,
+        ) {
+            Ok(changed) => Ok(changed),
+            Err(error) => {
+                self.alerts.clear();
+                self.parts.clear();
+                self.groups.clear();
+                self.flushes.clear();
+                Err(error)
+            }
+        }
     }
 
     /// The last flush of a group, which has members, is that at this moment.
@@ -141,9 +199,11 @@ impl Index {
         ensures err { OnErr result (self.new.alerts ≡ self.old.alerts) }
     {
         let mut alerts = BTreeMap::new(alloc);
+        let mut parts = BTreeMap::new(alloc);
         let mut groups = BTreeMap::new(alloc);
-        hold_all(alloc, &mut alerts, &mut groups, list)?;
+        hold_all(alloc, &mut alerts, &mut parts, &mut groups, list)?;
         let before = mem::replace(&mut self.alerts, alerts);
+        self.parts = parts;
         self.groups = groups;
         self.unswept = true;
         Ok(before)
@@ -165,64 +225,125 @@ impl Index {
 fn replace(
     alloc: Global,
     alerts: &mut BTreeMap<LabelSet, Known>,
-    groups: &mut BTreeMap<Group, Members>,
+    parts: &mut BTreeMap<Part, Held<LabelSet>>,
+    groups: &mut BTreeMap<Group, Held<Part>>,
+    changed: &mut Vec<Part>,
     labels: &LabelSet,
     known: Known,
 ) -> Result<bool, AllocError>
-    requires { AreGrouped alerts.old.entries groups.old.entries }
-    ensures grouped { OnOk result (AreGrouped alerts.new.entries groups.new.entries) }
-    ensures full { OnOk result (AreFull groups.old.entries → AreFull groups.new.entries) }
+    requires grouped { AreGrouped alerts.old.entries parts.old.entries }
+    requires linked { AreLinked parts.old.entries groups.old.entries }
+    ensures grouped { OnOk result (AreGrouped alerts.new.entries parts.new.entries) }
+    ensures linked { OnOk result (AreLinked parts.new.entries groups.new.entries) }
+    ensures full { OnOk result (AreFull part_cmp parts.old.entries → AreFull part_cmp parts.new.entries) }
     ensures put { OnOk result (alerts.new.entries ≡ put_in labels.now known alerts.old.entries) }
     ensures replaced { IfOk result (λ replaced. replaced ≡ is_some (lookup (is_set labels.now) alerts.old.entries)) }
+    ensures noted { OnOk result ((q : GroupName) → list_any (holds q) changed.new.items ≡ false
+        → held_at q groups.new.entries ≡ held_at q groups.old.entries) }
 {
     let own = labels.copy()?;
     match alerts.entry(own)? {
         Entry::Vacant(place) => {
-            join_all(alloc, groups, known.groups.as_slice(), labels, known.since)?;
+            join_parts(
+                alloc,
+                parts,
+                groups,
+                changed,
+                known.groups.as_slice(),
+                labels,
+                known.since,
+            )?;
             place.insert(known);
             Ok(false)
         }
         Entry::Occupied(mut place) => {
-            leave_all(groups, place.get().groups.as_slice(), labels);
-            join_all(alloc, groups, known.groups.as_slice(), labels, known.since)?;
+            leave_parts(
+                alloc,
+                parts,
+                groups,
+                changed,
+                place.get().groups.as_slice(),
+                labels,
+            )?;
+            join_parts(
+                alloc,
+                parts,
+                groups,
+                changed,
+                known.groups.as_slice(),
+                labels,
+                known.since,
+            )?;
             place.insert(known);
             Ok(true)
         }
     }
 }
 
-// Takes out an alert, which leaves its groups.
+// Removes an alert, and the flushes of the groups that lose their last member by it. Answers the parts whose least moment
+// has changed.
 fn forget(
+    alloc: Global,
     alerts: &mut BTreeMap<LabelSet, Known>,
-    groups: &mut BTreeMap<Group, Members>,
+    parts: &mut BTreeMap<Part, Held<LabelSet>>,
+    groups: &mut BTreeMap<Group, Held<Part>>,
+    flushes: &mut BTreeMap<Group, Moment>,
     labels: &LabelSet,
-) -> Option<Known>
-    requires { AreGrouped alerts.old.entries groups.old.entries }
-    ensures grouped { AreGrouped alerts.new.entries groups.new.entries }
-    ensures full { AreFull groups.old.entries → AreFull groups.new.entries }
-    ensures left { alerts.new.entries ≡ without labels.now alerts.old.entries }
-    ensures known { result ≡ lookup (is_set labels.now) alerts.old.entries }
+) -> Result<Vec<Part>, AllocError>
+    requires grouped { AreGrouped alerts.old.entries parts.old.entries }
+    requires linked { AreLinked parts.old.entries groups.old.entries }
+    ensures grouped { OnOk result (AreGrouped alerts.new.entries parts.new.entries) }
+    ensures linked { OnOk result (AreLinked parts.new.entries groups.new.entries) }
+    ensures full { OnOk result (AreFull part_cmp parts.old.entries → AreFull part_cmp parts.new.entries) }
+    ensures left { OnOk result (alerts.new.entries ≡ without labels.now alerts.old.entries) }
+    ensures flushes { OnOk result (flushes.new.entries ≡ kept_after labels.now
+        (record { alerts = alerts.old.entries; flushes = flushes.old.entries })) }
+    ensures noted { IfOk result (λ changed. (q : GroupName) → list_any (holds q) changed.items ≡ false
+        → held_at q groups.new.entries ≡ held_at q groups.old.entries) }
 {
-    let known = alerts.remove(labels)?;
-    leave_all(groups, known.groups.as_slice(), labels);
-    Some(known)
+    let mut changed = Vec::new(alloc);
+    let Some(known) = alerts.remove(labels) else {
+        return Ok(changed);
+    };
+    leave_parts(
+        alloc,
+        parts,
+        groups,
+        &mut changed,
+        known.groups.as_slice(),
+        labels,
+    )?;
+    forget_lost(alloc, groups, &changed, flushes)?;
+    Ok(changed)
 }
 
-// Adds an alert, which joins its groups.
+// Adds an alert, which joins its parts.
 fn hold(
     alloc: Global,
     alerts: &mut BTreeMap<LabelSet, Known>,
-    groups: &mut BTreeMap<Group, Members>,
+    parts: &mut BTreeMap<Part, Held<LabelSet>>,
+    groups: &mut BTreeMap<Group, Held<Part>>,
     labels: LabelSet,
     known: Known,
 ) -> Result<(), AllocError>
-    requires grouped { AreGrouped alerts.old.entries groups.old.entries }
+    requires grouped { AreGrouped alerts.old.entries parts.old.entries }
+    requires linked { AreLinked parts.old.entries groups.old.entries }
     requires absent { lookup (is_set labels) alerts.old.entries ≡ None }
-    ensures grouped { OnOk result (AreGrouped alerts.new.entries groups.new.entries) }
-    ensures full { OnOk result (AreFull groups.old.entries → AreFull groups.new.entries) }
+    ensures grouped { OnOk result (AreGrouped alerts.new.entries parts.new.entries) }
+    ensures linked { OnOk result (AreLinked parts.new.entries groups.new.entries) }
+    ensures full { OnOk result (AreFull part_cmp parts.old.entries → AreFull part_cmp parts.new.entries) }
     ensures held { OnOk result (alerts.new.entries ≡ insert_entry labels_cmp alerts.old.entries labels known) }
 {
-    join_all(alloc, groups, known.groups.as_slice(), &labels, known.since)?;
+    let mut changed = Vec::new(alloc);
+    join_parts(
+        alloc,
+        parts,
+        groups,
+        &mut changed,
+        known.groups.as_slice(),
+        &labels,
+        known.since,
+    )?;
     alerts.insert(labels, known)?;
     Ok(())
 }
@@ -231,29 +352,50 @@ fn hold(
 fn hold_all(
     alloc: Global,
     alerts: &mut BTreeMap<LabelSet, Known>,
-    groups: &mut BTreeMap<Group, Members>,
+    parts: &mut BTreeMap<Part, Held<LabelSet>>,
+    groups: &mut BTreeMap<Group, Held<Part>>,
     mut list: Vec<(LabelSet, Known)>,
 ) -> Result<(), AllocError>
-    requires grouped { AreGrouped alerts.old.entries groups.old.entries }
+    requires grouped { AreGrouped alerts.old.entries parts.old.entries }
+    requires linked { AreLinked parts.old.entries groups.old.entries }
     requires none { alerts.old.entries ≡ [] }
     requires rising { IsStrictlySortedBy labels_cmp (keys_of list.items) }
-    ensures grouped { OnOk result (AreGrouped alerts.new.entries groups.new.entries) }
-    ensures full { OnOk result (AreFull groups.old.entries → AreFull groups.new.entries) }
+    ensures grouped { OnOk result (AreGrouped alerts.new.entries parts.new.entries) }
+    ensures linked { OnOk result (AreLinked parts.new.entries groups.new.entries) }
+    ensures full { OnOk result (AreFull part_cmp parts.old.entries → AreFull part_cmp parts.new.entries) }
     ensures held { OnOk result (alerts.new.entries ≡ list.items) }
 {
     while let Some((labels, known)) = list.pop() {
-        hold(alloc, alerts, groups, labels, known)?;
+        hold(alloc, alerts, parts, groups, labels, known)?;
+    }
+    Ok(())
+}
+
+// Forgets the flushes of those groups of the parts that have no members.
+fn forget_lost(
+    alloc: Global,
+    groups: &BTreeMap<Group, Held<Part>>,
+    left: &[Part],
+    flushes: &mut BTreeMap<Group, Moment>,
+) -> Result<(), AllocError>
+    ensures { OnOk result (flushes.new.entries ≡ filter (λ e. not (list_any (holds e.0) left.now
+        && is_bare (held_at e.0 groups.now.entries))) flushes.old.entries) }
+{
+    for part in left {
+        let own = part.groups(alloc)?;
+        forget_bare(groups, &own, flushes);
     }
     Ok(())
 }
 
 // Forgets the flushes of those of the groups that have no members.
-fn forget_lost(
-    groups: &BTreeMap<Group, Members>,
+fn forget_bare(
+    groups: &BTreeMap<Group, Held<Part>>,
     left: &[Group],
     flushes: &mut BTreeMap<Group, Moment>,
 )
-    ensures { flushes.new.entries ≡ filter (λ e. not (list_any (is_group e.0) left.now && is_bare (held_at e.0 groups.now.entries))) flushes.old.entries }
+    ensures { flushes.new.entries ≡ filter (λ e. not (list_any (is_group e.0) left.now
+        && is_bare (held_at e.0 groups.now.entries))) flushes.old.entries }
 {
     for group in left {
         if is_bare_in(groups, group) {
@@ -263,7 +405,7 @@ fn forget_lost(
 }
 
 // Forgets the flushes of all groups that have no members.
-fn sweep(groups: &BTreeMap<Group, Members>, flushes: &mut BTreeMap<Group, Moment>)
+fn sweep(groups: &BTreeMap<Group, Held<Part>>, flushes: &mut BTreeMap<Group, Moment>)
     ensures { flushes.new.entries ≡ filter (λ e. not (is_bare (held_at e.0 groups.now.entries))) flushes.old.entries }
 {
     flushes.retain(|group, _| !is_bare_in(groups, group));

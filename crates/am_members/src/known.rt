@@ -1,4 +1,4 @@
-use crate::group::Group;
+use crate::part::Part;
 use am_text::{Listed, Moment};
 
 /// What is kept of an alert.
@@ -6,6 +6,6 @@ use am_text::{Listed, Moment};
 pub struct Known {
     /// The moment since which it is held.
     pub since: Moment,
-    /// The groups that it is in, each once.
-    pub groups: Listed<Group>,
+    /// The groups that it is in, in parts.
+    pub groups: Listed<Part>,
 }

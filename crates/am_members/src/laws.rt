@@ -12,6 +12,7 @@ ghost use Rattle.am_members.specs.declared.known.Known.{Known as Kept};
 
 /// Puts of different alerts give the same in any order, and so the same groups.
 pub fn putting_in_any_order()
-    ensures { (puts others : List (List Label × Kept)) (alerts : List (List Label × Kept)) → IsPermutation puts others → IsDistinct is_set (keys_of puts)
+    ensures { (puts others : List (List Label × Kept)) (alerts : List (List Label × Kept))
+        → IsPermutation puts others → IsDistinct is_set (keys_of puts)
         → IsStrictlySortedBy labels_cmp (keys_of alerts) → put_all puts alerts ≡ put_all others alerts }
 {}

@@ -2,14 +2,22 @@
 #![tactic(auto)]
 
 mod change;
+mod gather;
 mod group;
 mod groups;
+mod held;
 mod index;
 mod known;
 pub mod laws;
-mod members;
+mod links;
+mod name;
+mod part;
+mod routes;
 
-pub use group::{Group, copy_groups};
+pub use group::Group;
 pub use groups::Groups;
+pub use held::Held;
 pub use known::Known;
-pub use members::Members;
+pub use name::Name;
+pub use part::{Part, copy_parts};
+pub use routes::Routes;

@@ -120,15 +120,12 @@ impl Notifier {
         group: &Group,
         basis: &Basis,
     ) -> Result<Vec<Telling>, AllocError>
-        requires members { is_bare (members group.now (notifies_of tenant.now self.now).plan.grouped.alerts) ≡ false }
         requires route { group.now.route < length basis.now.config.now.routes }
         ensures { IfOk result (λ v. v.items ≡ tellings basis.now.config.now group.now (sent_among basis.now.held.now)
             (alerts_but basis.now.muted.now basis.now.held.now (members group.now (notifies_of tenant.now self.now).plan.grouped.alerts)) moment) }
     {
-        let Some(members) = self.agenda.members(tenant, group) else {
-            unreachable!()
-        };
-        let alerts = unmuted(alloc, members, basis.held, basis.muted)?;
+        let members = self.agenda.members(alloc, tenant, group)?;
+        let alerts = unmuted(alloc, &members, basis.held, basis.muted)?;
         let sent = basis.held.sent_entries();
         let tellings = tell(alloc, basis.config, group, sent, &alerts, moment)?;
         Ok(tellings)

@@ -27,7 +27,7 @@ use am_agenda::Agenda;
 use am_config::Config;
 use am_context::Came;
 use am_labels::LabelSet;
-use am_members::{Known, copy_groups};
+use am_members::{Known, copy_parts};
 use am_pattern::{PatternCache, PatternRefusal};
 use am_planning::{Pace, paces_of, plan_alerts};
 use am_tenant::TenantName;
@@ -171,7 +171,7 @@ fn meet_one(
         return Ok(false);
     };
     if moment < known.since {
-        let groups = copy_groups(alloc, known.groups.as_slice())?;
+        let groups = copy_parts(alloc, known.groups.as_slice())?;
         let known = Known {
             since: moment,
             groups,

@@ -2,30 +2,33 @@
 
 ghost use Rattle.std.specs.Prelude.{◌≡◌, map, option_map, IfOk};
 ghost use Rattle.std.specs.List.{list_any};
+ghost use Rattle.std.specs.List.Sorted.{IsStrictlySortedBy};
+ghost use Rattle.std.specs.Map.{keys_of};
 ghost use Rattle.am_alert.specs.Held.{AreRising};
 ghost use Rattle.am_alert.specs.HeldAlert.{held_alert};
+ghost use Rattle.am_labels.specs.Labels.{labels_cmp};
 ghost use Rattle.am_members.specs.Names.{is_set};
 ghost use Rattle.am_notifier.specs.Flushing.{alerts_but, unmuted_among, unmuted_at};
 
 use am_alert::HeldAlert;
 use am_item::{AlertDetails, Held, LabelSets, SharedMap};
 use am_labels::LabelSet;
-use am_members::Members;
 use am_text::Moment;
 use std::alloc::{AllocError, Global};
 use std::collections::BTreeMap;
 
-/// The alerts of the members that aren't muted.
+/// The alerts of these label sets, which are in order, that aren't muted.
 pub(crate) fn unmuted<'a>(
     alloc: Global,
-    members: &'a Members,
+    sinces: &'a BTreeMap<LabelSet, Moment>,
     held: &'a Held,
     muted: &LabelSets,
 ) -> Result<Vec<HeldAlert<'a>>, AllocError>
-    ensures alerts { IfOk result (λ v. map held_alert v.items ≡ alerts_but muted.now held.now members.now) }
+    requires { IsStrictlySortedBy labels_cmp (keys_of sinces.now.entries) }
+    ensures alerts { IfOk result (λ v. map held_alert v.items ≡ alerts_but muted.now held.now sinces.now.entries) }
     ensures rising { IfOk result (λ v. AreRising (map held_alert v.items)) }
 {
-    let alerts = unmuted_among(alloc, members.sinces(), held.alerts(), muted)?;
+    let alerts = unmuted_among(alloc, sinces, held.alerts(), muted)?;
     Ok(alerts)
 }
 

@@ -1,2 +1,3 @@
 mod Groups
+mod Joined
 mod Pairs

@@ -1,2 +1,4 @@
+-- groups in parts
+pub mod Parting
 -- what a configuration plans
 pub mod Planning

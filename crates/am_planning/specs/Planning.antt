@@ -8,6 +8,7 @@ use Rattle.am_config.specs.declared.parts.Settings.{Settings}
 use Rattle.am_group.specs.Grouping.{group_by, groups_of}
 use Rattle.am_labels.specs.declared.Label.{Label}
 use Rattle.am_members.specs.declared.known.Known.{Known}
+use Rattle.am_planning.specs.Parting.{parted}
 use Rattle.am_planning.specs.declared.pace.Pace.{Pace}
 use Rattle.am_text.specs.declared.tree.Node.{Node}
 
@@ -36,9 +37,9 @@ paces_of c position = map (λ (node : Node Route). pace_of c position node.item.
 unfoldable pub default_paces : List Pace
 default_paces = paces_of default_configuration 0
 
--- an alert that is held since a moment, with its groups
+-- an alert that is held since a moment, with its groups, in parts
 abbrev pub planned : Configuration → List Label × ℕ → List Label × Known
-planned c alert = (alert.0, record { since = alert.1; groups = groups_of c alert.0 })
+planned c alert = (alert.0, record { since = alert.1; groups = parted (groups_of c alert.0) })
 
 -- alerts, each with the moment since which it is held, with their groups
 unfoldable pub planned_alerts : Configuration → List (List Label × ℕ) → List (List Label × Known)
@@ -46,4 +47,4 @@ planned_alerts c alerts = map (planned c) alerts
 
 -- an alert with its groups by these routes
 abbrev pub with_routes : Configuration → (List Label × ℕ) × List ℕ → List Label × Known
-with_routes c (alert, routes) = (alert.0, record { since = alert.1; groups = map (group_by c alert.0) routes })
+with_routes c (alert, routes) = (alert.0, record { since = alert.1; groups = parted (map (group_by c alert.0) routes) })

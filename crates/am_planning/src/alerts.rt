@@ -8,6 +8,7 @@ ghost use Rattle.am_match.specs.Matchers.{patterns_of};
 ghost use Rattle.am_route.specs.Asked.{route_matchers};
 ghost use Rattle.am_planning.specs.Planning.{planned_alerts, with_routes};
 
+use crate::parting::parted;
 use am_config::Config;
 use am_group::groups_by;
 use am_labels::LabelSet;
@@ -92,7 +93,7 @@ fn with_routes(
     let groups = groups_by(alloc, config, labels, routes)?;
     let known = Known {
         since: *since,
-        groups: Listed::from_vec(groups),
+        groups: parted(alloc, groups)?,
     };
     Ok((labels.copy()?, known))
 }

@@ -4,6 +4,7 @@
 mod alerts;
 mod pace;
 mod paces;
+mod parting;
 
 pub use alerts::plan_alerts;
 pub use pace::Pace;

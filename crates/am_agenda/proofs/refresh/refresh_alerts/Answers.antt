@@ -1,4 +1,6 @@
 use Rattle.std.proofs.Common.{rules, ◌≡◌, ◌∷◌, cond, map, ap, sym, ◌∙◌}
+use Rattle.std.specs.List.{flat_map}
+use Rattle.am_members.specs.Names.{groups_by}
 use Rattle.am_members.specs.Grouped.{grouped_of}
 use Rattle.am_members.specs.Members.{gave}
 use Rattle.am_timer.specs.Tied.{has_timer}
@@ -19,6 +21,6 @@ loop-known-preserved c x =
     let due = gave (flush_due_of paces (grouped_of t c.args.groups.now) x.name.key) x.due in
     let old = has_timer c.loop-known.timers.timers x in
     let split : c.loop-known.known-iterator ≡ c.in-Some.known.now ∷ c.next.new.self = search rules in
-    next_among t paces c.in-Some.known.now c.next.new.self x due old (has_timer c.refresh_all.new.timers.timers x)
-    (c.in_ok-refresh_all.ensures x ∙ ap (λ gs. cond (is_for_one t paces gs x) due old) c.as_slice.ensures)
+    next_among t paces c.in-Some.known.now c.next.new.self x due old (has_timer c.refresh_parts.new.timers.timers x)
+    (c.in_ok-refresh_parts.ensures x ∙ ap (λ ps. cond (is_for_one t paces (flat_map groups_by ps) x) due old) c.as_slice.ensures)
     ∙ ap (λ ks. cond (is_for_one t paces (groups_among ks) x) due old) (sym split) ∙ c.loop-known.invariant x

@@ -17,4 +17,4 @@ loop-labels-preserved c =
     let whole : left ++ ((c.in-Some.labels, c.in-Some.known) ∷ there) ≡ c.args.list.items =
     sym (append_assoc left ((c.in-Some.labels, c.in-Some.known) ∷ []) there) ∙ ap (λ xs. xs ++ there) (sym c.in-Some.ensures.items) ∙ c.loop-labels.invariant.all in
     let put = put_before c.in-Some.labels c.in-Some.known there (rising_behind left ((c.in-Some.labels, c.in-Some.known) ∷ there) (rw whole c.requires.rising)) in
-    record { all = ap (λ xs. left ++ xs) (c.in_ok-hold.ensures.held ∙ put) ∙ whole; grouped = c.in_ok-hold.ensures.grouped; full = λ full. c.in_ok-hold.ensures.full (c.loop-labels.invariant.full full) }
+    record { all = ap (λ xs. left ++ xs) (c.in_ok-hold.ensures.held ∙ put) ∙ whole; grouped = c.in_ok-hold.ensures.grouped; linked = c.in_ok-hold.ensures.linked; full = λ full. c.in_ok-hold.ensures.full (c.loop-labels.invariant.full full) }

@@ -16,7 +16,7 @@ pub invariant_of-self-else-is_err : goal.invariant_of-self-else-is_err
 invariant_of-self-else-is_err c =
     let well : is_err c.put_in-put.result ≡ false = sym c.is_err.ensures.value ∙ c.if-is_err.false in
     kept_put c.self.inside.paces c.self.inside.attempts c.self.inside.groups c.put_in-put.new.groups c.args.tenant.now c.args.labels.now c.args.known c.of-paces.result.now
-    c.self.inside.timers.timers c.put_in-put.new.timers.timers c.of-paces.ensures c.self.invariant (rw (← c.self.view_is) at c.requires)
+    c.self.inside.timers.timers c.put_in-put.new.timers.timers c.of-paces.ensures c.self.invariant
     (went_well c.put_in-put.result well c.put_in-put.ensures.alerts) (went_well c.put_in-put.result well c.put_in-put.ensures.flushes) (went_well c.put_in-put.result well c.put_in-put.ensures.timers)
 
 pub returns-else-is_err-clause-plans : goal.returns-else-is_err-clause-plans

@@ -6,6 +6,7 @@ use Rattle.am_members.proofs.index.Index.flush_at.Goals as goal
 pub invariant_of-self-2 : goal.invariant_of-self-2
 invariant_of-self-2 c = record {
   grouped = c.self.invariant.grouped;
+  linked = c.self.invariant.linked;
   full = c.self.invariant.full;
   swept = λ swept.
       let x : Grouped = record { alerts = c.self.inside.alerts.entries; flushes = c.self.inside.flushes.entries } in

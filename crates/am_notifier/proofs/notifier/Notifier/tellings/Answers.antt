@@ -1,16 +1,10 @@
-use Rattle.std.proofs.Common.{◌≡◌, ◌∙◌, map, true, false, ap}
-use Rattle.std.proofs.lemmas.Bool.{true≢false}
+use Rattle.std.proofs.Common.{◌≡◌, ◌∙◌, map, ap}
 use Rattle.am_alert.specs.HeldAlert.{held_alert}
-use Rattle.am_members.specs.Members.{is_bare}
 use Rattle.am_telling.specs.Tellings.{tellings}
 use Rattle.am_notifier.specs.Flushing.{alerts_but, sent_among}
 use Rattle.am_notifier.specs.Notifies.{notifies_of}
 use Rattle.am_notifier.proofs.Unmuted.{sent_are}
 use Rattle.am_notifier.proofs.notifier.Notifier.tellings.Goals as goal
-
-pub unreachable-requires : goal.unreachable-requires
-unfolding notifies_of
-unreachable-requires c = let bare : true ≡ false = ap is_bare c.in_default.ensures ∙ c.requires.members in true≢false bare
 
 pub returns : goal.returns
 unfolding notifies_of
@@ -23,7 +17,7 @@ returns c =
     let held = c.args.basis.now.held.now in
     let sent = c.sent_entries-sent.result.now in
     let told = map held_alert c.deref.result.now in
-    let alerts = ap (map held_alert) c.deref.ensures.value ∙ c.in_ok-alerts.ensures.alerts ∙ ap (alerts_but muted held) c.in-Some.ensures in
+    let alerts = ap (map held_alert) c.deref.ensures.value ∙ c.in_ok-alerts.ensures.alerts ∙ ap (alerts_but muted held) c.in_ok-members.ensures.members in
     c.in_ok-tellings.ensures
     ∙ ap (λ before. tellings config group before told moment) (sent_are sent held c.sent_entries-sent.ensures.items)
     ∙ ap (λ those. tellings config group (sent_among held) those moment) alerts

@@ -1,0 +1,1 @@
+use Rattle.am_planning.proofs.parting.parted.Goals as goal
