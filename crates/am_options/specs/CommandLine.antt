@@ -6,6 +6,8 @@ use Rattle.std.specs.Result.{result_ok}
 use Rattle.std.specs.Net.Grammar.{IsIpv4Text}
 use Rattle.std.specs.Net.Reader.{read_ipv4, whole_value}
 use Rattle.std.specs.declared.net.ipv4_addr.Ipv4Addr.{Ipv4Addr}
+use Rattle.am_limit.specs.Limits.{default_limits}
+use Rattle.am_limit.specs.declared.limits.Limits.{Limits}
 use Rattle.am_setup.specs.Setup.{Settings}
 use Rattle.clap.specs.Words.{App, Row, Rule, Text, IsAmong, fault_of, first_of, new_app, new_rule, subcommand_of, with_rule, with_subcommand}
 use Rattle.clap.specs.Kinds.{Kinds}
@@ -129,7 +131,7 @@ settings_in rows = do
   start ← given_in (codes "start") (2 ^ 32 - 1) rows
   ring ← ring_in rows
   Some (record {
-    origin = record { service_key = key; ring = ring; first = unwrap_or start 1 };
+    origin = record { service_key = key; ring = ring; first = unwrap_or start 1; limits = default_limits };
     cache = cache;
   })
 
@@ -163,6 +165,10 @@ address_in rows = do
   text ← first_of (codes "address") rows
   address_of text
 
+-- the limits of a tenant that is served, until others are set for it: the default ones, and so many bytes of its alerts
+abbrev pub served_limits : Limits
+served_limits = record default_limits { alert_bytes = Some 67_108_864 }
+
 -- how the options say to serve: by these settings, whose first incarnation is given or not, over these stores, at an
 -- address and a port, with a port or none for those who run it, so many connections
 abbrev pub serving_in : List Row → Option Serving
@@ -173,7 +179,7 @@ serving_in rows = do
   admin ← given_in (codes "admin") 65535 rows
   count ← given_in (codes "count") (2 ^ 64 - 1) rows
   Some (record {
-    setup = setup;
+    setup = record setup { origin = record (setup.origin) { limits = served_limits } };
     has_start = has_start rows;
     store = store_in rows;
     address = address;

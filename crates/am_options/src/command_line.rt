@@ -3,8 +3,9 @@ ghost use Rattle.std.specs.Prelude.{◌≡◌, IfOk, MatchResult, None, Some, co
 ghost use Rattle.clap.specs.Words.{app_of, found_of, has_subcommand, kind_of, rows_of, rule_of};
 ghost use Rattle.clap.specs.Simple.{subcommand_rows_of};
 ghost use Rattle.clap.specs.declared.builder.command.Command.TheViews.{out-Command as fields_of};
-ghost use Rattle.am_options.specs.CommandLine.{Asks, Spells, Tells, address_in, address_of, app_named, asked_by, asked_of, check, command_line, file_in, given_in, has_start, instances_in, instances_of, key_in, number_in, number_within, operand, option, option_or, running_in, serve, serving_in, settings_in, store_in, world_asked};
+ghost use Rattle.am_options.specs.CommandLine.{Asks, Spells, Tells, address_in, address_of, app_named, asked_by, asked_of, check, command_line, file_in, given_in, has_start, instances_in, instances_of, key_in, number_in, number_within, operand, option, option_or, running_in, serve, served_limits, serving_in, settings_in, store_in, world_asked};
 
+use am_limit::Limits;
 use am_scenario::number;
 use am_setup::Setup;
 use am_text::Text;
@@ -53,6 +54,9 @@ const MOST_START: u64 = 4_294_967_295;
 
 /// The first incarnation where none is given.
 const START: u64 = 1;
+
+/// How many bytes the alerts of a tenant that is served take together at most, until another limit is set for it.
+const ALERT_BYTES: u64 = 67_108_864;
 
 /// How the program plays a scenario.
 #[derive(Drop)]
@@ -348,7 +352,7 @@ fn serving_in(
     let admin = given_in(serve, "admin", MOST_PORT).ok_or(BadOption::Admin)?;
     let count = given_in(serve, "count", u64::MAX).ok_or(BadOption::Count)?;
     Ok(Serving {
-        setup,
+        setup: setup.with_limits(served_limits()),
         has_start: has_start(serve),
         store,
         address,
@@ -356,6 +360,15 @@ fn serving_in(
         admin: admin.map(|port| port as u16),
         count,
     })
+}
+
+/// The limits of a tenant that is served, until others are set for it.
+fn served_limits() -> Limits
+    ensures { result ≡ served_limits }
+{
+    let mut limits = Limits::default();
+    limits.alert_bytes = Some(ALERT_BYTES);
+    limits
 }
 
 /// Whether the options say a first incarnation.
