@@ -30,6 +30,7 @@ export const REFUSALS = {
   A1: { cause: "an alert has no labels.", remedy: "" },
   A2: { cause: "it ends before it starts, judged with its defaults.", remedy: "" },
   Li1: { cause: "with the post more alerts would be held than the limit, even if it adds none.", remedy: "Send fewer." },
+  Li5: { cause: "with the post the alerts that are held would take more bytes together than the limit, even if it adds none, as when that was lowered; nothing of it is stored.", remedy: "Send fewer, or with shorter annotations; a resolved alert goes an hour after its end." },
   Li3: { cause: "a posted configuration has more bytes than the limit; before C1.", remedy: "Shorten it." },
   Q1: { cause: "too few of the tenant's replicas answered within five seconds; of a write nothing is known, it may be kept.", remedy: "Ask again: a write may be repeated. A new silence may then stand twice." },
   Q2: { cause: "while the request was open, the tenant's replicas changed or one was restarted; of a write nothing is known, it may be kept.", remedy: "Ask again: a write may be repeated. A new silence may then stand twice." },

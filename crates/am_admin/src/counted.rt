@@ -1,43 +1,74 @@
 //! A gateway of which is counted what it does.
 
-ghost use Rattle.std.specs.Prelude.{◌≡◌};
+ghost use Rattle.std.specs.Prelude.{◌≡◌, false};
 
+use crate::called::{Called, name_call};
 use am_gateway::{Gateway, Try};
+use am_limit::Limits;
+use am_log::{Entry, Incidents, LetGo, WebhookFailure};
 use am_rows::Rows;
 use am_serve::{Host, Verdict};
 use am_server::{Notice, Service};
-use am_tally::Tally;
-use std::alloc::AllocError;
+use am_tally::{Load, Parting, Tally};
+use am_tenant::TenantName;
+use am_text::Text;
+use am_world::Event;
+use std::alloc::{AllocError, Global};
+use std::mem;
 
-/// A gateway, and how often it did what.
+/// For which connections that are let go it is told why.
+const TOLD: [(Parting, LetGo); 3] = [
+    (Parting::Crowded, LetGo::Crowded),
+    (Parting::Unread, LetGo::Unread),
+    (Parting::Late, LetGo::Late),
+];
+
+/// A gateway, how often it did what, and what failed and is to be told.
 pub struct Counted<'w, R: Rows> {
+    alloc: Global,
     gateway: Gateway<'w, R>,
     tally: Tally,
+    incidents: Incidents,
+    // What the server had open and held when it last said so.
+    load: Load,
     // The moment of what happens now, in milliseconds since 1970.
     moment: u64,
+    // Whether the world was told the time since that was last asked.
+    has_ticked: bool,
 }
 
 // Written out, so that a crate which owns one has no need to prove anew how each of its parts is dropped.
 impl<R: Rows> Drop for Counted<'_, R> {
     fn drop(self) {
         let Counted {
+            alloc: _alloc,
             gateway,
-            tally: _tally,
+            tally,
+            incidents,
+            load: _load,
             moment: _moment,
+            has_ticked: _has_ticked,
         } = self;
         drop(gateway);
+        drop(tally);
+        drop(incidents);
     }
 }
 
 impl<'w, R: Rows> Counted<'w, R> {
-    /// A gateway of which nothing was counted.
-    pub fn new(gateway: Gateway<'w, R>) -> Counted<'w, R>
+    /// A gateway of which nothing was counted. What becomes of notices is counted tenant by tenant, where that is asked
+    /// for.
+    pub fn new(alloc: Global, gateway: Gateway<'w, R>, by_tenant: bool) -> Counted<'w, R>
         ensures { result.gateway ≡ gateway.entry }
     {
         Counted {
+            alloc,
             gateway,
-            tally: Tally::new(),
+            tally: Tally::new(alloc, by_tenant),
+            incidents: Incidents::new(alloc),
+            load: Load::none(),
             moment: 0,
+            has_ticked: false,
         }
     }
 
@@ -54,6 +85,64 @@ impl<'w, R: Rows> Counted<'w, R> {
     /// How often it did what.
     pub(crate) fn tally(&self) -> &Tally {
         &self.tally
+    }
+
+    /// What the server had open and held when it last said so.
+    pub(crate) fn load(&self) -> &Load {
+        &self.load
+    }
+
+    /// The server has this open and holds this. Whom it let go of its own accord since it last said so is to be told.
+    pub fn note_load(&mut self, load: Load) {
+        for (parting, reason) in TOLD {
+            let connections = load.partings.since(&self.load.partings, parting);
+            self.incidents.count_let_go(reason, connections);
+        }
+        self.load = load;
+    }
+
+    /// What is to be told next of what failed.
+    pub fn next_entry(&mut self) -> Option<Entry> {
+        self.incidents.next(self.moment)
+    }
+
+    /// The moment of what happens now, in milliseconds since 1970.
+    pub fn moment(&self) -> u64
+        ensures { result ≡ self.now.moment }
+    {
+        self.moment
+    }
+
+    /// Whether the world was told the time since this was last asked.
+    pub fn take_tick(&mut self) -> bool
+        ensures value { result ≡ self.old.has_ticked }
+        ensures taken { self.new ≡ record self.old { has_ticked = false } }
+    {
+        mem::replace(&mut self.has_ticked, false)
+    }
+
+    /// Gives a tenant its limits.
+    ///
+    /// # Errors
+    /// Out of memory: the limits hold, and of what was put out all but a first part is lost.
+    pub fn set_limits(&mut self, tenant: TenantName, limits: Limits) -> Result<(), AllocError> {
+        let event = Event::Limits { tenant, limits };
+        self.gateway.operate(&event)?;
+        Ok(())
+    }
+
+    // A try failed. It isn't told where memory is refused.
+    fn note_failure(&mut self, failed: &Try, receiver: Option<Text>, status: Option<u16>) {
+        let Some(receiver) = receiver else {
+            return;
+        };
+        let failure = WebhookFailure {
+            tenant: failed.attempt.tenant,
+            receiver,
+            status,
+            tries: failed.tries,
+        };
+        let _ = self.incidents.note_failure(failure, self.moment);
     }
 }
 
@@ -84,7 +173,7 @@ impl<R: Rows> Host for Counted<'_, R> {
 }
 
 impl<R: Rows> Service for Counted<'_, R> {
-    type Name = Try;
+    type Name = Called;
 
     fn is_up(&self) -> bool {
         self.gateway.is_up()
@@ -98,6 +187,8 @@ impl<R: Rows> Service for Counted<'_, R> {
     fn tick(&mut self) -> Result<(), AllocError> {
         if self.gateway.is_tick_due() {
             self.tally.count_tick(self.moment);
+            self.incidents.forget(self.moment);
+            self.has_ticked = true;
         }
         self.gateway.tick()
     }
@@ -108,20 +199,26 @@ impl<R: Rows> Service for Counted<'_, R> {
         Some((connection, reply))
     }
 
-    fn next_notice(&mut self, free: usize) -> Option<Notice<Try>> {
+    fn next_notice(&mut self, free: usize) -> Option<Notice<Called>> {
         let notice = self.gateway.next_notice(free)?;
-        self.tally.count_call();
-        Some(notice)
+        self.tally.count_call(&notice.name.attempt.tenant);
+        Some(name_call(self.alloc, notice))
     }
 
-    fn next_given_up(&mut self) -> Option<Notice<Try>> {
+    fn next_given_up(&mut self) -> Option<Notice<Called>> {
         let notice = self.gateway.next_given_up()?;
-        self.tally.count_given_up();
-        Some(notice)
+        self.tally.count_given_up(&notice.name.attempt.tenant);
+        Some(name_call(self.alloc, notice))
     }
 
-    fn end_call(&mut self, name: Try, status: Option<u16>) -> Result<(), AllocError> {
-        self.tally.count_end(status);
-        self.gateway.end_call(name, status)
+    fn end_call(&mut self, name: Called, status: Option<u16>) -> Result<(), AllocError> {
+        let Called {
+            attempted,
+            receiver,
+        } = name;
+        if self.tally.count_end(&attempted.attempt.tenant, status) {
+            self.note_failure(&attempted, receiver, status);
+        }
+        self.gateway.end_call(attempted, status)
     }
 }

@@ -2,6 +2,7 @@
 //! and changes of the ring.
 #![tactic(auto)]
 
+mod called;
 mod calm;
 mod counted;
 mod desk;
@@ -9,5 +10,6 @@ mod metrics;
 mod port;
 mod telling;
 
+pub use called::Called;
 pub use counted::Counted;
 pub use port::AdminPort;

@@ -2,7 +2,7 @@
 
 use crate::counted::Counted;
 use am_rows::Rows;
-use am_tally::{Metric, add, add_counts, add_each};
+use am_tally::{Metric, add, add_counts, add_each, add_load};
 use am_text::Octets;
 use am_world::World;
 use std::alloc::{AllocError, Global};
@@ -38,7 +38,7 @@ const BEHIND: Metric = Metric {
     help: "Whether an instance has yet to learn the newest ring.",
 };
 
-/// A reply with all that was counted, and how the ring stands.
+/// A reply with all that was counted, what is open and held, and how the ring stands.
 ///
 /// # Errors
 /// Out of memory.
@@ -46,6 +46,8 @@ pub fn reply<R: Rows>(alloc: Global, counted: &Counted<'_, R>) -> Result<Octets,
     let mut text = String::new(alloc);
     let world = counted.gateway().world();
     add_counts(alloc, &mut text, counted.tally(), world.faults())?;
+    let waiting = counted.gateway().waiting_bytes() as u64;
+    add_load(alloc, &mut text, counted.load(), waiting)?;
     add_ring(alloc, &mut text, world)?;
     let length = text.len();
     let mut head = format!(in alloc; "{START}Content-Length: {length}\r\n\r\n")?.into_bytes();

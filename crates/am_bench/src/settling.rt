@@ -6,7 +6,7 @@
 //! What is held stays to the end. `ticks TENANTS TICKS` asks so often what is sent again, of so many tenants whose push
 //! runs, where nothing is due.
 use crate::number;
-use am_item::{Item, SharedItem, Stamp, Thing};
+use am_item::{Held, Item, Matchers, SharedItem, Silence, SilenceId, Stamp, Thing};
 use am_ring::Instance;
 use am_tenant::TenantName;
 use am_text::{Moment, Text};
@@ -28,14 +28,14 @@ const LEFT: u8 = 3;
 /// The incarnation of each.
 const INCARNATION: u32 = 1;
 
-/// What is known of a configuration's text, so that an item has some 200 bytes.
-const TEXT_LENGTH: usize = 170;
+/// How many bytes a silence's comment has, so that an item has some 200 bytes.
+const COMMENT_LENGTH: usize = 128;
 
 /// A tenant and what is held of it.
 #[derive(Drop)]
 struct Holding {
     tenant: TenantName,
-    held: Vec<SharedItem>,
+    held: Held,
 }
 
 /// Does what the words say.
@@ -68,31 +68,45 @@ fn peer(number: u8) -> Result<Peer> {
     })
 }
 
-/// An item of some 200 bytes.
-fn item(alloc: Global, count: u32) -> Result<SharedItem> {
-    let text = String::from_utf8(vec![in alloc; b'x'; TEXT_LENGTH]?)?;
+/// A silence of some 200 bytes.
+fn item(alloc: Global, number: u32) -> Result<SharedItem> {
+    let text = String::from_utf8(vec![in alloc; b'x'; COMMENT_LENGTH]?)?;
+    let [first, second, third, fourth] = number.to_be_bytes();
+    let mut id = [0; 16];
+    id[0] = first;
+    id[1] = second;
+    id[2] = third;
+    id[3] = fourth;
     let stamp = Stamp {
         moment: moment(0)?,
         instance: SENDER,
         incarnation: INCARNATION,
-        count: u64::from(count),
+        count: u64::from(number),
     };
-    let thing = Thing::Configuration(Some(Text::from_string(text)));
+    let thing = Thing::Silence(Silence {
+        id: SilenceId::from_bytes(id),
+        starts_at: moment(0)?,
+        ends_at: moment(0)?,
+        kept_until: moment(0)?,
+        created_by: Text::from_string(String::new(alloc)),
+        comment: Text::from_string(text),
+        matchers: Matchers::from_vec(Vec::new(alloc)),
+    });
     Ok(SharedItem::new(alloc, Item { stamp, thing })?)
 }
 
-fn items(alloc: Global, count: u32) -> Result<Vec<SharedItem>> {
+fn held_of(alloc: Global, count: u32) -> Result<Held> {
     let mut items = Vec::new(alloc);
     for number in 0..count {
         items.push(item(alloc, number)?)?;
     }
-    Ok(items)
+    Ok(Held::best_of(alloc, &items)?)
 }
 
 fn holding_of(alloc: Global, number: u32, count: u32) -> Result<Holding> {
     let name = format!(in alloc; "tenant-{number}")?;
     let tenant = TenantName::read(name.as_bytes()).ok().context("no tenant")?;
-    let held = items(alloc, count)?;
+    let held = held_of(alloc, count)?;
     Ok(Holding { tenant, held })
 }
 

@@ -17,7 +17,7 @@ use Rattle.am_cluster.specs.Messages.{Message}
 use Rattle.am_cluster.specs.Moments.{effective}
 use Rattle.am_cluster.specs.Naming.{IsPast, NamesOnce}
 use Rattle.am_cluster.specs.Operating.{Decide, decision_on, start}
-use Rattle.am_cluster.specs.Origins.{Origin}
+use Rattle.am_setup.specs.Setup.{Origin}
 use Rattle.am_cluster.specs.PrivateCluster.{Course, PrivateCluster, here_at, opened, react, react_all, react_one, reaction_at, stopped, unchanged, unopened, with_all_opened, with_opened}
 use Rattle.am_cluster.specs.Reactions.{Reaction, messages_in, stays}
 use Rattle.am_cluster.specs.RingChanges.{just_opened, opened as opened_with, ring_learned}
@@ -413,7 +413,7 @@ nothing_sent [] p e = record {
 nothing_sent (i ∷ is) p e = nothing_sent is (with_opened i p) e
 
 pub first_kept : (origin : Origin) (tenant : List ℕ) (rows : ℕ → List Item) → NamesOnce (opened origin tenant rows)
-first_kept origin tenant rows = nothing_sent origin.setting.ring (unopened (replicas tenant) origin tenant rows) refl
+first_kept origin tenant rows = nothing_sent origin.ring (unopened (replicas tenant) origin tenant rows) refl
 
 pub names_are_given_once : (origin : Origin) (tenant : List ℕ) (rows : ℕ → List Item) (hs : List Happening)
     → AreNamedOnce (after_all (opened origin tenant rows) hs).sent

@@ -9,7 +9,7 @@ use Rattle.am_ring.specs.declared.refusal.RingRefusal.{RingRefusal}
 use Rattle.am_ring.proofs.Admitted.{may_join, may_leave}
 use Rattle.am_ring.proofs.Flags.{flagged-flags_of, flagged-set_false, flagged-set_true, members_again, stranger}
 use Rattle.am_ring.proofs.Replaced.{joins_one, leaves_one, same_ring}
-use Rattle.am_setup.specs.Setup.{Origin as Setting}
+use Rattle.am_setup.specs.Setup.{Origin}
 use Rattle.am_cluster.specs.Refused.{Refused}
 use Rattle.am_cluster.specs.Rings.{Rings, newest_ring}
 use Rattle.am_cluster.specs.Roster.{Crashes, Joins, Learns, Leaves, Restarts, RingEvent, Roster, by_ring, opened_roster, ring_event_refusal, ring_now, roster_after, unless_last}
@@ -101,5 +101,5 @@ pub in_order_after : (roster : Roster) (event : RingEvent) → ring_now roster �
 in_order_after roster event e none = (changes roster event e none).1
 
 -- the ring with which all begins
-pub in_order_first : (setting : Setting) → ring_now (opened_roster setting) ≡ in_order (ring_now (opened_roster setting))
-in_order_first setting = subst (λ r. r ≡ in_order r) (flagged-flags_of setting.ring) (flags_in_order (flags_of setting.ring))
+pub in_order_first : (origin : Origin) → ring_now (opened_roster origin) ≡ in_order (ring_now (opened_roster origin))
+in_order_first origin = subst (λ r. r ≡ in_order r) (flagged-flags_of origin.ring) (flags_in_order (flags_of origin.ring))

@@ -12,7 +12,7 @@ use Rattle.am_cluster.specs.Messages.{Ack, Answer, Ask, Body, Get, Got, Message,
 use Rattle.am_cluster.specs.Moments.{effective}
 use Rattle.am_cluster.specs.Naming.{IsPast, NamesOnce}
 use Rattle.am_cluster.specs.Operating.{Decide, decision_on, start}
-use Rattle.am_cluster.specs.Origins.{Origin}
+use Rattle.am_setup.specs.Setup.{Origin}
 use Rattle.am_transfer.specs.Pieces.{Piece, cut}
 use Rattle.am_cluster.specs.PrivateCluster.{PrivateCluster, opened, unchanged, unopened, with_all_opened, with_opened}
 use Rattle.am_cluster.specs.Sent.{Sent, is_named}
@@ -167,7 +167,7 @@ pub states_are_lists : (origin : Origin) (tenant : List ℕ) (rows : ℕ → Lis
 states_are_lists origin tenant rows hs name =
     let start_p : PrivateCluster = unopened (replicas tenant) origin tenant rows in
     let a = run_one (opened origin tenant rows) hs
-    (none_yet (opened origin tenant rows) (sent_nothing origin.setting.ring start_p refl) (nothing_sent origin.setting.ring start_p refl)) in
+    (none_yet (opened origin tenant rows) (sent_nothing origin.ring start_p refl) (nothing_sent origin.ring start_p refl)) in
     let one = a.one name in
     record {
       list = one.list;

@@ -12,7 +12,7 @@ use Rattle.am_cluster.specs.Courses.{after_all}
 use Rattle.am_cluster.specs.Happening.{Happening}
 use Rattle.am_cluster.specs.Messages.{Message}
 use Rattle.am_cluster.specs.Naming.{NamesOnce}
-use Rattle.am_cluster.specs.Origins.{Origin}
+use Rattle.am_setup.specs.Setup.{Origin}
 use Rattle.am_cluster.specs.PrivateCluster.{PrivateCluster, here_at, opened}
 use Rattle.am_cluster.specs.Reactions.{Reaction, messages_in}
 use Rattle.am_cluster.specs.Sent.{Sent, is_lost, is_named, message_life, posted, sent_at, unlost, with_given_up}

@@ -16,7 +16,7 @@ use Rattle.am_cluster.specs.Happening.{Happening, Asked, Changed, Delivered, For
 use Rattle.am_cluster.specs.Here.{Here, is_replica_here}
 use Rattle.am_cluster.specs.Local.{Local, blank, is_settled}
 use Rattle.am_cluster.specs.Operating.{Decide, decision_on, replicas_changed}
-use Rattle.am_cluster.specs.Origins.{Origin}
+use Rattle.am_setup.specs.Setup.{Origin}
 use Rattle.am_cluster.specs.Plans.{grouped_of, plan_of}
 use Rattle.am_cluster.specs.PrivateCluster.{Course, PrivateCluster, here_at, opened, put_out_at, react, react_all, react_one, reaction_at, stopped, unchanged, unopened, with_all_opened, with_opened}
 use Rattle.am_cluster.specs.Reactions.{Reaction, in_turn, only_if, stays, ◌>>◌}
@@ -222,5 +222,5 @@ all_opened (i ∷ more) p u = all_opened more (with_opened i p) (opened_quiet i 
 
 pub opened_unnamed : (origin : Origin) (tenant : List ℕ) → IsUnnamed (opened origin tenant (λ i. []))
 opened_unnamed origin tenant =
-    all_opened origin.setting.ring (unopened (replicas tenant) origin tenant (λ i. []))
+    all_opened origin.ring (unopened (replicas tenant) origin tenant (λ i. []))
     (record { at = λ i. refl; rows = λ i. refl; sent = refl })

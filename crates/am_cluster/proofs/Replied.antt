@@ -20,7 +20,7 @@ use Rattle.am_cluster.specs.Messages.{Message}
 use Rattle.am_cluster.specs.Moments.{effective}
 use Rattle.am_cluster.specs.Operating.{Decide, decision_on, start}
 use Rattle.am_cluster.specs.Operations.{Operation}
-use Rattle.am_cluster.specs.Origins.{Origin}
+use Rattle.am_setup.specs.Setup.{Origin}
 use Rattle.am_cluster.specs.PrivateCluster.{Course, PrivateCluster, here_at, opened, output_of, put_out_at, react, react_all, react_one, reaction_at, stopped, unchanged, unopened, with_all_opened, with_opened}
 use Rattle.am_cluster.specs.Reactions.{Reaction, Replies, Said, Sends, Tells, stays}
 use Rattle.am_cluster.specs.Replying.{AsksAs, GoesOver, IsOutOver, IsOver, KeepsAskers, ReplyOver, WaitOver, connection_in, connections_of}
@@ -183,7 +183,7 @@ module _ (P : (connection : ℕ) → Request → Type 0) where
   pub opened_over : (origin : Origin) (tenant : List ℕ) (rows : ℕ → List Item)
       → AllWaitOver P (opened origin tenant rows)
   opened_over origin tenant rows =
-      all_opened_over origin.setting.ring (unopened (replicas tenant) origin tenant rows) (λ i. none_over)
+      all_opened_over origin.ring (unopened (replicas tenant) origin tenant rows) (λ i. none_over)
 
 -- ---- the connections over which requests came
 

@@ -20,7 +20,7 @@ use Rattle.am_cluster.specs.Local.{Local, blank, is_settled}
 use Rattle.am_cluster.specs.Messages.{Message}
 use Rattle.am_cluster.specs.Moments.{effective}
 use Rattle.am_cluster.specs.Operating.{Decide, decision_on, start}
-use Rattle.am_cluster.specs.Origins.{Origin}
+use Rattle.am_setup.specs.Setup.{Origin}
 use Rattle.am_cluster.specs.PrivateCluster.{Course, PrivateCluster, here_at, opened, react, react_all, react_one, reaction_at, unchanged, unopened, with_all_opened, with_opened}
 use Rattle.am_cluster.specs.Reactions.{Reaction, messages_in, stays}
 use Rattle.am_cluster.specs.Refused.{Refused, NothingToLearn}
@@ -254,8 +254,8 @@ stayed_by false a first e = ap (λ c. 0 == first && (c && true)) (e refl) ∙ ne
 first_steady : (origin : Origin) (tenant : List ℕ) (rows : ℕ → List Item) → IsSteady (unopened (replicas tenant) origin tenant rows)
 unfolding has_stayed three_at is_always_replica
 first_steady origin tenant rows = record {
-  stayed = λ i. stayed_by (is_instance i) (is_among i (replicas tenant (in_order origin.setting.ring))) origin.setting.first
-      (λ e. no_replica tenant (in_order origin.setting.ring) i (ordered_out origin.setting.ring i e));
+  stayed = λ i. stayed_by (is_instance i) (is_among i (replicas tenant (in_order origin.ring))) origin.first
+      (λ e. no_replica tenant (in_order origin.ring) i (ordered_out origin.ring i e));
   newest = λ i. refl;
   settling = λ i. refl;
   sent = refl;
@@ -277,4 +277,4 @@ opened_all (i ∷ is) p s =
 
 pub opened_steady : (origin : Origin) (tenant : List ℕ) (rows : ℕ → List Item) → IsSteady (opened origin tenant rows)
 opened_steady origin tenant rows =
-    opened_all origin.setting.ring (unopened (replicas tenant) origin tenant rows) (first_steady origin tenant rows)
+    opened_all origin.ring (unopened (replicas tenant) origin tenant rows) (first_steady origin tenant rows)

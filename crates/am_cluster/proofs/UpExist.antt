@@ -19,7 +19,7 @@ use Rattle.am_cluster.specs.Local.{Local}
 use Rattle.am_cluster.specs.Messages.{Message}
 use Rattle.am_cluster.specs.Moments.{effective}
 use Rattle.am_cluster.specs.Operating.{Decide, start}
-use Rattle.am_cluster.specs.Origins.{Origin}
+use Rattle.am_setup.specs.Setup.{Origin}
 use Rattle.am_cluster.specs.PrivateCluster.{Course, PrivateCluster, opened, react, react_all, react_one, unchanged, unopened, with_all_opened, with_opened}
 use Rattle.am_cluster.specs.Reactions.{Reaction}
 use Rattle.am_cluster.specs.Refused.{Refused, InstanceNotUp}
@@ -154,23 +154,23 @@ up_exist_after decide p h ordered up =
 -- ---- its start
 
 -- where the ring has instances alone
-pub up_exist_first : (origin : Origin) → list_all is_instance origin.setting.ring ≡ true
-    → AreInstancesUp (opened_roster origin.setting)
-up_exist_first origin instances i up = is_one_of i (among_instances origin.setting.ring i instances up)
+pub up_exist_first : (origin : Origin) → list_all is_instance origin.ring ≡ true
+    → AreInstancesUp (opened_roster origin)
+up_exist_first origin instances i up = is_one_of i (among_instances origin.ring i instances up)
 
 pub opened_all_roster : (is : List ℕ) (p : PrivateCluster) → (with_all_opened is p).roster ≡ p.roster
 opened_all_roster [] p = refl
 opened_all_roster (i ∷ is) p = opened_all_roster is (with_opened i p)
 
 module _ (origin : Origin) (tenant : List ℕ) (rows : ℕ → List Item) where
-  pub opened_so : (opened origin tenant rows).roster ≡ opened_roster origin.setting
-  opened_so = opened_all_roster origin.setting.ring (unopened (replicas tenant) origin tenant rows)
+  pub opened_so : (opened origin tenant rows).roster ≡ opened_roster origin
+  opened_so = opened_all_roster origin.ring (unopened (replicas tenant) origin tenant rows)
 
   pub ring_ordered_opened : ring_now (opened origin tenant rows).roster
       ≡ in_order (ring_now (opened origin tenant rows).roster)
   ring_ordered_opened =
-      subst (λ roster. ring_now roster ≡ in_order (ring_now roster)) (sym opened_so) (in_order_first origin.setting)
+      subst (λ roster. ring_now roster ≡ in_order (ring_now roster)) (sym opened_so) (in_order_first origin)
 
-  pub up_exist_opened : list_all is_instance origin.setting.ring ≡ true
+  pub up_exist_opened : list_all is_instance origin.ring ≡ true
       → AreInstancesUp (opened origin tenant rows).roster
   up_exist_opened instances = subst AreInstancesUp (sym opened_so) (up_exist_first origin instances)

@@ -18,7 +18,7 @@ use Rattle.am_cluster.specs.Events.{Join, Leave, Crash, Restart, Learn, Force}
 use Rattle.am_cluster.specs.Happening.{Happening, Asked, Changed, Delivered, Forced, Limited, Lost, Ticked, Tried}
 use Rattle.am_cluster.specs.Moments.{is_too_late}
 use Rattle.am_cluster.specs.Operating.{decision_on}
-use Rattle.am_cluster.specs.Origins.{Origin}
+use Rattle.am_setup.specs.Setup.{Origin}
 use Rattle.am_cluster.specs.PrivateCluster.{PrivateCluster, opened, unchanged}
 use Rattle.am_cluster.specs.Refused.{Refused, InstanceNotUp, NothingToLearn}
 use Rattle.am_cluster.specs.Rings.{Rings, newest_epoch, newest_ring}
@@ -264,7 +264,7 @@ module _ (t : List ℕ) (v : Watch) (p : PrivateCluster) (s : IsSameRoster p.ros
       read_known c moment piece (noted c piece (look c v.table) v.table) (look c v.table) (is_too_late moment)
   known_by (Close c) = s
   known_by (Limits tenant limits) =
-      named tenant (Limited (record { usual = limits; alert_bytes = None })) (λ event is. cc)
+      named tenant (Limited limits) (λ event is. cc)
   known_by (Tick moment) = rested (Ticked moment ∷ []) (one_rests p (Ticked moment) (λ event is. cc))
   known_by (Outcome a tries moment status) =
       named a.tenant (Tried a.instance a.incarnation a.number tries moment status) (λ event is. cc)
@@ -302,5 +302,5 @@ pub known_from_events : (origin : Origin) (t : List ℕ) (rows : ℕ → List It
     (watch_all (first_watch origin) es).roster
 known_from_events origin t rows es =
     known_all t (first_watch origin) es (opened origin t rows)
-    (subst (λ roster. IsSameRoster roster (opened_roster origin.setting)) (sym (opened_so origin t rows))
-    (itself (opened_roster origin.setting)))
+    (subst (λ roster. IsSameRoster roster (opened_roster origin)) (sym (opened_so origin t rows))
+    (itself (opened_roster origin)))

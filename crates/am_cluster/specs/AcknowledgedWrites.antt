@@ -14,7 +14,7 @@ use Rattle.am_cluster.specs.Courses.{after, after_all, refusal_of}
 use Rattle.am_cluster.specs.Deciding.{Deciding, deciding_at, written_at}
 use Rattle.am_cluster.specs.Happening.{Happening, Asked, Changed, Delivered, Forced, Limited, Lost, Ticked, Tried}
 use Rattle.am_cluster.specs.Local.{is_settled}
-use Rattle.am_cluster.specs.Origins.{Origin}
+use Rattle.am_setup.specs.Setup.{Origin}
 use Rattle.am_transfer.specs.Peers.{peer}
 use Rattle.am_transfer.specs.Pieces.{reach_of}
 use Rattle.am_cluster.specs.PrivateCluster.{PrivateCluster, here_at, opened, stored_at}
@@ -156,9 +156,9 @@ CalmWritesStay p hs = IsTrue (is_calm p hs) → WritesStay p hs
 -- as it stood, in whatever order it is given, with the same service key; and no incarnation is used again.
 pub record IsRestart (p : PrivateCluster) (hs : List Happening) (origin : Origin) : Type 0 where
   pub ready : IsTrue (are_ready (after_all p hs))
-  pub service_key : origin.setting.service_key ≡ p.service_key
-  pub ring : in_order origin.setting.ring ≡ ring_now (after_all p hs).roster
-  pub unused : (i : ℕ) → (after_all p hs).roster.incarnation i < origin.setting.first
+  pub service_key : origin.service_key ≡ p.service_key
+  pub ring : in_order origin.ring ≡ ring_now (after_all p hs).roster
+  pub unused : (i : ℕ) → (after_all p hs).roster.incarnation i < origin.first
 
 -- the cluster as it is opened from the stores that were left
 abbrev pub reopened : PrivateCluster → List Happening → Origin → PrivateCluster

@@ -1,14 +1,14 @@
 -- What can happen to one tenant.
 use Rattle.std.specs.Prelude.{ℕ, Option}
 use Rattle.am_http.specs.declared.request.Request.{Request}
-use Rattle.am_cluster.specs.Origins.{TenantLimits}
+use Rattle.am_limit.specs.declared.limits.Limits.{Limits}
 use Rattle.am_cluster.specs.Roster.{RingEvent}
 
 pub data Happening : Type 0 where
   -- a whole request of the tenant came over the connection to the instance, at an event with this moment of its own
   Asked : (connection instance moment : ℕ) (request : Request) → Happening
   -- the tenant got these limits
-  Limited : (limits : TenantLimits) → Happening
+  Limited : (limits : Limits) → Happening
   -- the clock was told this moment
   Ticked : (moment : ℕ) → Happening
   -- a try of the attempt of this number at the instance, in this incarnation, came to an end, at an event with this

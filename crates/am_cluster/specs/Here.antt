@@ -2,7 +2,7 @@
 use Rattle.std.specs.Prelude.{ℕ, ◌-◌, Bool, not, ◌==◌, List, Option, filter, position, slice_get, unwrap_or}
 use Rattle.am_context.specs.declared.context.Context.{Context as NodeContext}
 use Rattle.am_ring.specs.Instances.{is_among}
-use Rattle.am_cluster.specs.Origins.{TenantLimits}
+use Rattle.am_limit.specs.declared.limits.Limits.{Limits}
 use Rattle.am_transfer.specs.Peers.{Peer, peer}
 
 -- whose it is; its number and its incarnation; the moment; the tenant's limits; of the ring that it knows the epoch
@@ -14,7 +14,7 @@ pub record Here : Type 0 where
   pub instance : ℕ
   pub incarnation : ℕ
   pub moment : ℕ
-  pub limits : TenantLimits
+  pub limits : Limits
   pub epoch : ℕ
   pub three : List ℕ
   pub stayed : Bool
@@ -26,7 +26,7 @@ replica_here here = record {
   instance = here.instance;
   incarnation = here.incarnation;
   moment = here.moment;
-  limits = here.limits.usual;
+  limits = here.limits;
 }
 
 -- the instance is one of the tenant's three replicas

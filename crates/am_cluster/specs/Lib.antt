@@ -1,7 +1,5 @@
 -- moments of events
 pub mod Moments
--- limits, and what a cluster starts from
-pub mod Origins
 -- the rings so far
 pub mod Rings
 -- why an event is refused

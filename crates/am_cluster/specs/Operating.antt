@@ -1,6 +1,6 @@
 -- Operations: a request goes to the three replicas, is decided at the second answer, and is replied to at the second
 -- Ack.
-use Rattle.std.specs.Prelude.{ℕ, ◌+◌, ◌&&◌, nat_le, nat_lt, ◌==◌, Bool, true, false, sum_by, codes, List, [], ◌∷◌, ◌++◌, length, filter, Option, Some, None, option_map, if◌then◌else◌}
+use Rattle.std.specs.Prelude.{ℕ, ◌+◌, ◌&&◌, nat_le, nat_lt, ◌==◌, Bool, true, false, sum_by, codes, List, [], ◌∷◌, ◌++◌, length, Option, Some, None, option_map, if◌then◌else◌}
 use Rattle.am_alert.specs.Made.{counts_fit, greatest_count}
 use Rattle.am_alert.specs.declared.maker.Maker.{Maker}
 use Rattle.am_api.specs.Decision.{decided}
@@ -13,8 +13,8 @@ use Rattle.am_http.specs.declared.request.Method.TheVariants as method
 use Rattle.am_http.specs.declared.request.Request.{Request}
 use Rattle.am_item.specs.Best.{all_joined, merged}
 use Rattle.am_item.specs.declared.item.Item.{Item}
-use Rattle.am_item.specs.declared.item.Thing.{Thing}
-use Rattle.am_item.specs.declared.item.Thing.TheVariants as thing
+use Rattle.am_item.specs.Kinds.{alerts_of}
+use Rattle.am_length.specs.Capped.{capped}
 use Rattle.am_words.specs.Words.{generator_of}
 use Rattle.rand_chacha.specs.ChaCha.{ChaCha}
 pub use Rattle.am_quorum.specs.Operations.{reply_for}
@@ -106,29 +106,28 @@ posts_to_alerts (Silence text) m = false
 posts_to_alerts Receivers m = false
 posts_to_alerts Configuration m = false
 
-abbrev pub is_alert : Thing → Bool
-is_alert (thing.Alert alert) = true
-is_alert (thing.Configuration text) = false
-is_alert (thing.Silence silence) = false
-is_alert (thing.SentEntry entry) = false
-
--- how many bytes the alerts among items take, as they are spelled in messages
+-- how many bytes the alerts among items take, as they are spelled in messages: a number of 64 bits
 unfoldable pub alert_bytes_in : List Item → ℕ
-alert_bytes_in items = sum_by size_of (filter (λ (item : Item). is_alert item.thing) items)
+alert_bytes_in items = capped (sum_by size_of (alerts_of items))
 
--- posted alerts that every other check lets pass are refused where the alerts would then take more bytes than the limit
+-- Posted alerts that every other check lets pass, and with which the alerts would take more bytes than the limit.
+-- (A count past the greatest stops them before.)
+abbrev pub goes_past : (limit : Option ℕ) → Request → (held : List Item) → (status : ℕ) → List Item → Bool
+goes_past None request held status items = false
+goes_past (Some most) request held status items =
+    posts_to_alerts request.endpoint request.method && status == 200 && counts_fit items
+    && nat_lt most (alert_bytes_in (all_joined held items))
+
+-- .. are refused
 abbrev pub within_bytes : (limit : Option ℕ) → Request → (held : List Item) → Decision → Decision
-within_bytes None request held decision = decision
-within_bytes (Some most) request held decision =
-    if posts_to_alerts request.endpoint request.method && decision.status == 200
-    && nat_lt most (alert_bytes_in (all_joined held decision.items))
-    then refused 429 (codes "Li5") else decision
+within_bytes limit request held decision =
+    if goes_past limit request held decision.status decision.items then refused 429 (codes "Li5") else decision
 
 -- the decision on the request, where this list is held of the tenant
 unfoldable pub decision_on : (service_key : List ℕ) → Decide
 decision_on service_key here request held local =
     within_bytes here.limits.alert_bytes request held
-    (decided request held here.limits.usual here.moment (maker here local.ledger) (words service_key here local.ledger))
+    (decided request held here.limits here.moment (maker here local.ledger) (words service_key here local.ledger))
 
 -- ---- answers
 

@@ -10,7 +10,8 @@ use Rattle.am_ring.specs.Instances.{all_instances}
 use Rattle.am_cluster.specs.Events.{Notice, Output, Reply, Send}
 use Rattle.am_cluster.specs.Here.{Here}
 use Rattle.am_cluster.specs.Local.{Local, blank}
-use Rattle.am_cluster.specs.Origins.{Origin, TenantLimits}
+use Rattle.am_limit.specs.declared.limits.Limits.{Limits}
+use Rattle.am_setup.specs.Setup.{Origin}
 use Rattle.am_cluster.specs.Reactions.{Reaction, Replies, Said, Sends, Tells, stays}
 use Rattle.am_cluster.specs.RingChanges.{opened as opened_with}
 use Rattle.am_cluster.specs.Roster.{Roster, has_stayed, opened_roster, put_at, three_at}
@@ -24,7 +25,7 @@ pub record PrivateCluster : Type 0 where
   pub replicas_by : (ring : List ℕ) → List ℕ
   pub service_key : List ℕ
   pub clock : ℕ
-  pub limits : TenantLimits
+  pub limits : Limits
   pub roster : Roster
   pub at : ℕ → Local
   pub rows : ℕ → List Item
@@ -127,10 +128,10 @@ abbrev pub unopened : (replicas_by : List ℕ → List ℕ) → Origin → (tena
 unopened replicas_by origin tenant rows = record {
   tenant = tenant;
   replicas_by = replicas_by;
-  service_key = origin.setting.service_key;
+  service_key = origin.service_key;
   clock = 0;
   limits = origin.limits;
-  roster = opened_roster origin.setting;
+  roster = opened_roster origin;
   at = λ i. blank;
   rows = rows;
   sent = [];
@@ -143,7 +144,7 @@ with_all_opened (i ∷ more) p = with_all_opened more (with_opened i p)
 -- .. as it is opened: the instances of the ring open their stores
 abbrev pub opened_by : (replicas_by : List ℕ → List ℕ) → Origin → (tenant : List ℕ) → (rows : ℕ → List Item) → PrivateCluster
 opened_by replicas_by origin tenant rows =
-    with_all_opened origin.setting.ring (unopened replicas_by origin tenant rows)
+    with_all_opened origin.ring (unopened replicas_by origin tenant rows)
 
 -- the tenant's cluster as it is opened: its replicas are the three that are nearest to it
 abbrev pub opened : Origin → (tenant : List ℕ) → (rows : ℕ → List Item) → PrivateCluster

@@ -4,7 +4,7 @@ use Rattle.am_ring.specs.Changes.{join_refusal, leave_refusal, with_instance, wi
 use Rattle.am_ring.specs.Instances.{all_instances, in_order, is_among, is_instance}
 use Rattle.am_ring.specs.declared.refusal.RingRefusal.{RingRefusal}
 use Rattle.am_ring.specs.declared.refusal.RingRefusal.TheVariants as ring
-use Rattle.am_setup.specs.Setup.{Origin as Setting}
+use Rattle.am_setup.specs.Setup.{Origin}
 use Rattle.am_cluster.specs.Refused.{Refused, InstanceNotUp, NoIncarnation, NothingToLearn, RingFull, RingSmall, WrongInstance}
 use Rattle.am_cluster.specs.Rings.{Rings, is_always_replica, newest_epoch, newest_ring, ring_at}
 
@@ -22,13 +22,13 @@ pub record Roster : Type 0 where
   pub first : ℕ
 
 -- as all is opened: those of the ring are up, and the ring has epoch 0
-abbrev pub opened_roster : Setting → Roster
-opened_roster setting = record {
-  rings = in_order setting.ring ∷ [];
+abbrev pub opened_roster : Origin → Roster
+opened_roster origin = record {
+  rings = in_order origin.ring ∷ [];
   known = λ i. 0;
-  up = λ i. is_among i setting.ring;
-  incarnation = λ i. if is_instance i then setting.first else 0;
-  first = setting.first;
+  up = λ i. is_among i origin.ring;
+  incarnation = λ i. if is_instance i then origin.first else 0;
+  first = origin.first;
 }
 
 -- the same of every instance

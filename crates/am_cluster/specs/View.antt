@@ -9,7 +9,7 @@ use Rattle.am_cluster.specs.Events.{Event, Open, Bytes, Close, Limits, Tick, Out
 use Rattle.am_cluster.specs.Events.{Join, Leave, Crash, Restart, Learn, Force}
 use Rattle.am_cluster.specs.Happening.{Happening, Asked, Changed, Delivered, Forced, Limited, Lost, Ticked, Tried}
 use Rattle.am_cluster.specs.Moments.{is_too_late}
-use Rattle.am_cluster.specs.Origins.{Origin}
+use Rattle.am_setup.specs.Setup.{Origin}
 use Rattle.am_cluster.specs.Roster.{Crashes, Joins, Learns, Leaves, Restarts, RingEvent}
 use Rattle.am_cluster.specs.Roster.{Roster, opened_roster, ring_event_refusal, roster_after}
 
@@ -36,7 +36,7 @@ pub record Watch : Type 0 where
 
 -- before any event
 abbrev pub first_watch : Origin → Watch
-first_watch origin = record { table = []; roster = opened_roster origin.setting }
+first_watch origin = record { table = []; roster = opened_roster origin }
 
 -- what the table says of a connection
 abbrev pub look : ℕ → Table → Option Seen
@@ -137,7 +137,7 @@ unfoldable pub adds : List ℕ → Watch → Event → List Happening
 adds t v (Open c i) = []
 adds t v (Bytes c moment piece) = if is_too_late moment then [] else asked_on t c moment piece (look c v.table)
 adds t v (Close c) = []
-adds t v (Limits tenant limits) = only_of t tenant (Limited (record { usual = limits; alert_bytes = None }))
+adds t v (Limits tenant limits) = only_of t tenant (Limited limits)
 adds t v (Tick moment) = Ticked moment ∷ []
 adds t v (Outcome a tries moment status) =
     only_of t a.tenant (Tried a.instance a.incarnation a.number tries moment status)

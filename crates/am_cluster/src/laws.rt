@@ -6,14 +6,13 @@ ghost use Rattle.std.specs.List.{list_all, list_any};
 ghost use Rattle.am_item.specs.declared.item.Item.{Item};
 ghost use Rattle.am_ring.specs.Instances.{in_order, is_instance};
 ghost use Rattle.am_ring.specs.Replicas.{ReplacesOne};
-ghost use Rattle.am_setup.specs.Setup.{Origin as Setting};
 ghost use Rattle.am_cluster.specs.Courses.{after_all, told_all};
 ghost use Rattle.am_cluster.specs.Events.{Event, Reply};
 ghost use Rattle.am_cluster.specs.Happening.{Happening};
 ghost use Rattle.am_cluster.specs.Here.{Here, is_replica_here};
 ghost use Rattle.am_cluster.specs.Local.{Local, is_settled};
 ghost use Rattle.am_cluster.specs.Messages.{Get, Message};
-ghost use Rattle.am_cluster.specs.Origins.{Origin};
+ghost use Rattle.am_setup.specs.Setup.{Origin};
 ghost use Rattle.am_transfer.specs.Pieces.{Piece, cut};
 ghost use Rattle.am_cluster.specs.Plans.{plan_of};
 ghost use Rattle.am_cluster.specs.PrivateCluster.{PrivateCluster, here_at, opened};
@@ -41,7 +40,7 @@ pub fn unnamed_tenants()
 
 /// A join or a leave, as any other event of the ring, puts at most one replica of a tenant in another's place.
 pub fn one_replica_changes()
-    ensures opened { (setting : Setting) → ring_now (opened_roster setting) ≡ in_order (ring_now (opened_roster setting)) }
+    ensures opened { (origin : Origin) → ring_now (opened_roster origin) ≡ in_order (ring_now (opened_roster origin)) }
     ensures one { (tenant : List ℕ) (roster : Roster) (event : RingEvent) → ring_now roster ≡ in_order (ring_now roster)
         → ring_event_refusal event roster ≡ None → ReplacesOne tenant (ring_now roster) (ring_now (roster_after event roster)) }
     ensures ordered { (roster : Roster) (event : RingEvent) → ring_now roster ≡ in_order (ring_now roster)
@@ -52,7 +51,7 @@ pub fn one_replica_changes()
 /// Only instances are ever up, and the newest ring is in order, whatever comes; so an event of the ring that names
 /// another number is refused.
 pub fn only_instances_are_up()
-    ensures opened { (origin : Origin) → list_all is_instance origin.setting.ring ≡ true
+    ensures opened { (origin : Origin) → list_all is_instance origin.ring ≡ true
         → AreInstancesUp (first_watch origin).roster }
     ensures stay { (v : Watch) (e : Event) → ring_now v.roster ≡ in_order (ring_now v.roster)
         → AreInstancesUp v.roster → AreInstancesUp (watch v e).roster }

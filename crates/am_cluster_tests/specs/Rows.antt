@@ -3,9 +3,10 @@
 use Rattle.std.specs.Prelude.{ℕ, ◌+◌, Bool, List, [], ◌∷◌, ◌++◌, codes, length, Option, Some, None, ◌&&◌, ◌==◌, if◌then◌else◌}
 use Rattle.std.specs.List.{filter_map}
 use Rattle.am_http.specs.Replies.{refusal, reply}
+use Rattle.am_limit.specs.Limits.{default_limits}
 use Rattle.am_ring.specs.Replicas.{replicas}
+use Rattle.am_setup.specs.Setup.{Origin}
 use Rattle.am_cluster.specs.Messages.{Ack, Answer, Ask, Body, Get, Got, Message, Put, State}
-use Rattle.am_cluster.specs.Origins.{Origin, unset_limits}
 use Rattle.am_cluster.specs.PrivateCluster.{opened_by, stored_at}
 use Rattle.am_cluster.specs.Roster.{Crashes, Joins, Leaves, Restarts}
 use Rattle.am_cluster.specs.Sent.{Sent}
@@ -18,8 +19,10 @@ z = 1_750_000_000_000
 
 abbrev pub origin_of : (first : ℕ) → Origin
 origin_of first = record {
-  setting = record { service_key = []; ring = 1 ∷ 2 ∷ 3 ∷ []; first = first };
-  limits = unset_limits;
+  service_key = [];
+  ring = 1 ∷ 2 ∷ 3 ∷ [];
+  first = first;
+  limits = default_limits;
 }
 
 -- what a scenario leaves of the tenant's cluster, which is opened with empty stores, where its replicas are so by ring

@@ -1,7 +1,8 @@
 //! What stands between a server and its world.
-ghost use Rattle.std.specs.Prelude.{◌≡◌, ◌∷◌, ℕ, List, [], Some, false, true, min, IfOk, IfSome, IfNone, IsOk, MatchOption, OnErr, OnOk};
+ghost use Rattle.std.specs.Prelude.{◌≡◌, ◌∷◌, ℕ, List, [], Some, false, true, min, IfOk, IfSome, IfNone, IsOk, MatchOption, OnErr, OnOk, length};
 ghost use Rattle.am_http.specs.Replies.{ready_reply as the_ready_reply};
 ghost use Rattle.am_serve.specs.Lanes.{is_ready, under_way_of, waiting_of};
+ghost use Rattle.am_serve.specs.Weights.{all_bytes};
 ghost use Rattle.am_event.specs.declared.event.Event.TheVariants as event;
 ghost use Rattle.am_serve.specs.declared.host.Verdict.TheVariants as verdict;
 ghost use Rattle.am_world.specs.Consistent.{last_moment};
@@ -113,6 +114,13 @@ impl<'w, R: Rows> Gateway<'w, R> {
         ensures { result ≡ self.now.is_tick_due }
     {
         self.is_tick_due
+    }
+
+    /// How many bytes the requests of the notices hold that wait for their calls.
+    pub fn waiting_bytes(&self) -> usize
+        ensures { result ≡ all_bytes (λ notice. length notice.request) self.now.notices.lanes }
+    {
+        self.notices.bytes()
     }
 
     // Takes away what the world has put out: its notices wait behind those of their tenants, the first reply on a

@@ -1,9 +1,8 @@
 -- What an instance goes by for a tenant where something happens.
-use Rattle.std.specs.Prelude.{ℕ, Bool, ◌≡◌, ◌&&◌, ◌==◌, List, None, map}
+use Rattle.std.specs.Prelude.{ℕ, Bool, ◌≡◌, ◌&&◌, ◌==◌, List, map}
 use Rattle.am_cluster.specs.Here.{Here}
 use Rattle.am_cluster.specs.Rings.{Rings, is_always_replica, ring_at}
-use Rattle.am_limit.specs.Books.{limits_of}
-use Rattle.am_limit.specs.declared.limits.Limits.{Limits}
+use Rattle.am_limit.specs.Books.{Book, limits_of}
 use Rattle.am_ring.specs.Instances.{Members}
 use Rattle.am_ring.specs.Replicas.{replicas}
 use Rattle.am_site.specs.Here.{here_of}
@@ -16,7 +15,7 @@ use Rattle.am_instance.specs.declared.instance.Instance.{Instance}
 pub record Circumstances : Type 0 where
   pub moment : ℕ
   pub service_key : List ℕ
-  pub limits : List (List ℕ × Limits)
+  pub limits : Book
   pub rings : List Members
   pub first : ℕ
   pub incarnations : List ℕ
@@ -45,14 +44,14 @@ unfoldable pub has_stayed_on : Circumstances → Instance → List ℕ → Bool
 has_stayed_on around x t =
     x.incarnation == around.first && is_always_replica (replicas t) x.known (rings_on around) x.number
 
--- what it goes by. (No limit on the bytes of alerts is given.)
+-- what it goes by
 unfoldable pub here_on : Circumstances → Instance → List ℕ → Here
 here_on around x t = record {
   tenant = t;
   instance = x.number;
   incarnation = x.incarnation;
   moment = around.moment;
-  limits = record { usual = limits_of t around.limits; alert_bytes = None };
+  limits = limits_of t around.limits;
   epoch = x.known;
   three = three_on around x t;
   stayed = has_stayed_on around x t;

@@ -16,5 +16,5 @@ pub mod Entries
 pub mod Steps
 pub mod Found
 pub mod Removed
-pub mod Sharing
 pub mod Spelling
+pub mod Placed

@@ -1,4 +1,5 @@
-ghost use Rattle.std.specs.Prelude.{◌≡◌, ◌++◌, ℕ, List, [], None, Some, sum_by, IfOk, OnErr, OnOk};
+ghost use Rattle.std.specs.Prelude.{◌≡◌, ◌<◌, ◌≤◌, ◌++◌, ℕ, List, [], None, Some, length, sum_by};
+ghost use Rattle.std.specs.Prelude.{HoldsAt, IfOk, OnErr, OnOk};
 ghost use Rattle.std.specs.Cmp.Lexicographic.{slice_cmp};
 ghost use Rattle.std.specs.Option.{option_copied, option_map};
 ghost use Rattle.std.specs.Ordering.{nat_cmp};
@@ -12,16 +13,16 @@ ghost use Rattle.am_item.specs.Held.{silence_item};
 ghost use Rattle.am_item.specs.Lengths.{spelled_length};
 ghost use Rattle.am_item.specs.Newest.{newer, newest};
 ghost use Rattle.am_item.specs.Retirement.{put_over, standing_of};
+ghost use Rattle.am_item.specs.Shared.{held_as};
 ghost use Rattle.am_item.specs.Sorted.{IsOrdered, get};
 
 use crate::entry::{EntryDetails, EntryKey};
+use crate::held_item::{HeldItem, item_behind};
 use crate::item::AlertDetails;
 use crate::kept::KeptValue;
 use crate::key::ThingKey;
 use crate::map::SharedMap;
-use crate::shared_item::{
-    KeptItem, SharedItem, push_alerts, push_configuration, push_entries, push_silences,
-};
+use crate::shared_item::{KeptItem, SharedItem};
 use crate::silence::{SilenceDetails, SilenceId};
 use crate::stamp::{Stamp, Stamped};
 use am_labels::LabelSet;
@@ -91,6 +92,7 @@ impl Model for Held {
 impl Held {
     ghost use Rattle.am_item.specs.Best.{IsRising, best, item_at, joined, merged};
     ghost use Rattle.std.specs.Prelude.{filter, not};
+    ghost use Rattle.std.specs.List.{slice_range};
     ghost use Rattle.am_item.specs.declared.entry.EntryKey.{EntryKey};
     ghost use Rattle.am_item.specs.Key.{AlertKey, ConfigurationKey, SentEntryKey, SilenceKey, has_key, key_of};
     ghost use Rattle.am_item.specs.Kinds.{alerts_of, entries_of, silences_of};
@@ -222,16 +224,68 @@ impl Held {
         })
     }
 
+    /// How many items are held.
+    pub fn len(&self) -> usize
+        ensures { result ≡ length self.now }
+    {
+        let configurations = usize::from(self.configuration.is_some());
+        let silences = self.silences.entries().len();
+        let alerts = self.alerts.entries().len();
+        let sent = self.sent.entries().len();
+        configurations + silences + alerts + sent
+    }
+
+    // The item at a place, from 0 on, in the order of keys.
+    fn at(&self, place: usize) -> HeldItem<'_>
+        requires { place < length self.now }
+        ensures { HoldsAt (λ item. held_as result ≡ item) self.now place }
+    {
+        let silences = self.silences.entries();
+        let alerts = self.alerts.entries();
+        let sent = self.sent.entries();
+        match &self.configuration {
+            None => item_behind(silences, alerts, sent, place),
+            Some(kept) => {
+                if place == 0 {
+                    HeldItem::Configuration(kept)
+                } else {
+                    item_behind(silences, alerts, sent, place - 1)
+                }
+            }
+        }
+    }
+
+    /// How many bytes spell the item at a place, from 0 on, in the order of keys. It reads nothing of the item itself.
+    pub fn spelled_at(&self, place: usize) -> u64
+        requires { place < length self.now }
+        ensures { HoldsAt (λ item. result ≡ capped (spelled_length item)) self.now place }
+    {
+        self.at(place).spelled_len()
+    }
+
+    /// The items from one place up to another, in the order of keys, shared with those who hold them.
+    ///
+    /// An error is out of memory.
+    pub fn part(&self, alloc: Global, from: usize, to: usize) -> Result<Vec<SharedItem>, AllocError>
+        requires order { from ≤ to }
+        requires within { to ≤ length self.now }
+        ensures { IfOk result (λ items. items.items ≡ slice_range self.now from to) }
+    {
+        let mut items = Vec::with_capacity(alloc, to - from)?;
+        for place in from..to {
+            items.push(self.at(place).share()?)?;
+        }
+        Ok(items)
+    }
+
     /// All that is held, in the order of keys, shared with those who hold it.
+    ///
+    /// An error is out of memory.
+    #[tactic(auto, using(crate::proofs::Placed::whole_part))]
     pub fn items(&self, alloc: Global) -> Result<Vec<SharedItem>, AllocError>
         ensures { IfOk result (λ items. items.items ≡ self.now) }
     {
-        let mut items = Vec::new(alloc);
-        push_configuration(&mut items, &self.configuration)?;
-        push_silences(&mut items, self.silences.entries())?;
-        push_alerts(&mut items, self.alerts.entries())?;
-        push_entries(&mut items, self.sent.entries())?;
-        Ok(items)
+        self.part(alloc, 0, self.len())
     }
 
     /// The merge of two holdings: of each key the item with the greater stamp, of two with one stamp the own. Its items

@@ -1,4 +1,5 @@
-//! Keys and stamped values that several holdings share.
+//! Keys and stamped values that several holdings share. How many bytes spell the item of one stands beside the pointer
+//! to it, so that the lengths of a list are read one behind the other.
 
 ghost use Rattle.std.specs.Prelude.{◌≡◌, ◌+◌, IfOk};
 ghost use Rattle.am_length.specs.Capped.{capped};
@@ -14,8 +15,9 @@ use std::rc::Rc;
 /// A key and what stands under it, shared by those who hold it.
 #[derive(Drop)]
 pub struct Kept<K: Spelled, V: Spelled> {
-    // The key, what stands under it, and how many bytes spell the item of both.
-    entry: Rc<(K, Stamped<V>, u64)>,
+    entry: Rc<(K, Stamped<V>)>,
+    // How many bytes spell the item of both.
+    spelled: u64,
 }
 
 impl<K: Spelled, V: Spelled> Model for Kept<K, V> {
@@ -28,7 +30,7 @@ impl<K: Spelled, V: Spelled> Model for Kept<K, V> {
 
     ghost view = { λ kept. (kept.entry.value.0, kept.entry.value.1) };
 
-    ghost invariant = { λ kept. kept.entry.value.2
+    ghost invariant = { λ kept. kept.spelled
         ≡ capped (kept_length K.spelled V.spelled (kept.entry.value.0, kept.entry.value.1)) };
 }
 
@@ -37,7 +39,7 @@ impl<K: Spelled, V: Spelled> Kept<K, V> {
     pub fn key(&self) -> &K
         ensures { result.now ≡ self.now.0 }
     {
-        let (key, _, _) = self.entry.as_ref();
+        let (key, _) = self.entry.as_ref();
         key
     }
 
@@ -45,7 +47,7 @@ impl<K: Spelled, V: Spelled> Kept<K, V> {
     pub fn value(&self) -> &Stamped<V>
         ensures { result.now ≡ self.now.1 }
     {
-        let (_, value, _) = self.entry.as_ref();
+        let (_, value) = self.entry.as_ref();
         value
     }
 
@@ -53,8 +55,7 @@ impl<K: Spelled, V: Spelled> Kept<K, V> {
     pub(crate) fn spelled_len(&self) -> u64
         ensures { result ≡ capped (kept_length K.spelled V.spelled self.now) }
     {
-        let (_, _, spelled) = self.entry.as_ref();
-        *spelled
+        self.spelled
     }
 }
 
@@ -66,8 +67,8 @@ impl<K: Spelled + Drop, V: Spelled + Drop> Kept<K, V> {
         let spelled = HEAD_LEN
             .saturating_add(key.spelled_len())
             .saturating_add(value.value.spelled_len());
-        let entry = Rc::new(alloc, (key, value, spelled))?;
-        Ok(Kept { entry })
+        let entry = Rc::new(alloc, (key, value))?;
+        Ok(Kept { entry, spelled })
     }
 
     /// The same entry, held once more.
@@ -75,7 +76,8 @@ impl<K: Spelled + Drop, V: Spelled + Drop> Kept<K, V> {
         ensures { IfOk result (λ kept. kept ≡ self.now) }
     {
         let entry = self.entry.clone()?;
-        Ok(Kept { entry })
+        let spelled = self.spelled;
+        Ok(Kept { entry, spelled })
     }
 }
 
@@ -91,8 +93,9 @@ impl<K: Spelled + Drop, V: Spelled + Drop> Clone for Kept<K, V> {
 /// A stamped value, shared by those who hold it.
 #[derive(Drop)]
 pub struct KeptValue<V: Spelled> {
-    // The value, and how many bytes spell the item of it.
-    shared: Rc<(Stamped<V>, u64)>,
+    shared: Rc<Stamped<V>>,
+    // How many bytes spell the item of it.
+    spelled: u64,
 }
 
 impl<V: Spelled> Model for KeptValue<V> {
@@ -103,9 +106,9 @@ impl<V: Spelled> Model for KeptValue<V> {
 
     ghost Value = { Stamped V };
 
-    ghost view = { λ kept. kept.shared.value.0 };
+    ghost view = { λ kept. kept.shared.value };
 
-    ghost invariant = { λ kept. kept.shared.value.1 ≡ capped (head_length + V.spelled kept.shared.value.0.value) };
+    ghost invariant = { λ kept. kept.spelled ≡ capped (head_length + V.spelled kept.shared.value.value) };
 }
 
 impl<V: Spelled + Drop> KeptValue<V> {
@@ -114,24 +117,22 @@ impl<V: Spelled + Drop> KeptValue<V> {
         ensures { IfOk result (λ kept. kept ≡ value) }
     {
         let spelled = HEAD_LEN.saturating_add(value.value.spelled_len());
-        let shared = Rc::new(alloc, (value, spelled))?;
-        Ok(KeptValue { shared })
+        let shared = Rc::new(alloc, value)?;
+        Ok(KeptValue { shared, spelled })
     }
 
     /// The value.
     pub fn get(&self) -> &Stamped<V>
         ensures { result.now ≡ self.now }
     {
-        let (value, _) = self.shared.as_ref();
-        value
+        self.shared.as_ref()
     }
 
     /// How many bytes spell the item of which this is held.
     pub(crate) fn spelled_len(&self) -> u64
         ensures { result ≡ capped (head_length + V.spelled self.now.value) }
     {
-        let (_, spelled) = self.shared.as_ref();
-        *spelled
+        self.spelled
     }
 
     /// The same value, held once more.
@@ -139,6 +140,7 @@ impl<V: Spelled + Drop> KeptValue<V> {
         ensures { IfOk result (λ kept. kept ≡ self.now) }
     {
         let shared = self.shared.clone()?;
-        Ok(KeptValue { shared })
+        let spelled = self.spelled;
+        Ok(KeptValue { shared, spelled })
     }
 }

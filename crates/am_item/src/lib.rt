@@ -6,6 +6,7 @@ mod edits;
 mod entry;
 mod fault;
 mod held;
+mod held_item;
 mod item;
 mod kept;
 mod key;

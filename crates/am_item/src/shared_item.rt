@@ -1,8 +1,7 @@
 //! An item that several lists share.
 
-ghost use Rattle.std.specs.Prelude.{◌≡◌, ◌++◌, IfOk, OnOk};
+ghost use Rattle.std.specs.Prelude.{◌≡◌, IfOk};
 ghost use Rattle.am_length.specs.Capped.{capped};
-ghost use Rattle.am_item.specs.Held.{alert_item, configuration_items, entry_item, items_by, silence_item};
 ghost use Rattle.am_item.specs.Key.{key_of};
 ghost use Rattle.am_item.specs.Lengths.{spelled_length};
 ghost use Rattle.am_item.specs.Retirement.{standing_of};
@@ -214,60 +213,4 @@ pub fn share_all(alloc: Global, items: &[SharedItem]) -> Result<Vec<SharedItem>,
         shared.push(item.share()?)?;
     }
     Ok(shared)
-}
-
-// Adds a configuration, where there is one.
-pub(crate) fn push_configuration(
-    items: &mut Vec<SharedItem>,
-    held: &Option<KeptValue<Option<Text>>>,
-) -> Result<(), AllocError>
-    ensures { OnOk result (items.new.items ≡ items.old.items ++ configuration_items held.now) }
-{
-    if let Some(kept) = held {
-        let kept = kept.copy()?;
-        items.push(SharedItem::of(KeptItem::Configuration(kept)))?;
-    }
-    Ok(())
-}
-
-// Adds silences.
-pub(crate) fn push_silences(
-    items: &mut Vec<SharedItem>,
-    entries: &[Kept<SilenceId, SilenceDetails>],
-) -> Result<(), AllocError>
-    ensures { OnOk result (items.new.items ≡ items.old.items ++ items_by silence_item entries.now) }
-{
-    for kept in entries {
-        let kept = kept.copy()?;
-        items.push(SharedItem::of(KeptItem::Silence(kept)))?;
-    }
-    Ok(())
-}
-
-// Adds alerts.
-pub(crate) fn push_alerts(
-    items: &mut Vec<SharedItem>,
-    entries: &[Kept<LabelSet, AlertDetails>],
-) -> Result<(), AllocError>
-    ensures { OnOk result (items.new.items ≡ items.old.items ++ items_by alert_item entries.now) }
-{
-    for kept in entries {
-        let kept = kept.copy()?;
-        items.push(SharedItem::of(KeptItem::Alert(kept)))?;
-    }
-    Ok(())
-}
-
-// Adds sent entries.
-pub(crate) fn push_entries(
-    items: &mut Vec<SharedItem>,
-    entries: &[Kept<EntryKey, EntryDetails>],
-) -> Result<(), AllocError>
-    ensures { OnOk result (items.new.items ≡ items.old.items ++ items_by entry_item entries.now) }
-{
-    for kept in entries {
-        let kept = kept.copy()?;
-        items.push(SharedItem::of(KeptItem::SentEntry(kept)))?;
-    }
-    Ok(())
 }

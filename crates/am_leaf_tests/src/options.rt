@@ -42,6 +42,9 @@ serve amring serve --port=1 --start 7 --store a/b
 serve amring serve --port=1 --admin=65535
 serve amring serve --port=1 --address 0.0.0.0
 serve amring serve --address=255.255.255.255 --port=1
+serve amring serve --port=1 --limits=limits.json
+serve amring serve --port=1 --log json
+serve amring serve --port=1 --log=plain --metrics-by-tenant
 bad amring serve --port=1 --address 0.0.0.256
 bad amring serve --port=1 --address 0.0.0
 bad amring serve --port=1 --address 127.0.0.01
@@ -53,6 +56,12 @@ bad amring serve --port=1 --address
 bad amring serve --port=1 --address 0.0.0.0 --address 0.0.0.0
 bad amring serve --address 0.0.0.0
 bad amring run --address 127.0.0.1
+bad amring serve --port=1 --limits
+bad amring serve --port=1 --log=JSON
+bad amring serve --port=1 --log
+bad amring serve --port=1 --metrics-by-tenant=true
+bad amring run --limits limits.json
+bad amring run --metrics-by-tenant
 bad amring serve --port=1 --start 0
 bad amring serve --port=1 --store
 bad amring serve
@@ -65,6 +74,11 @@ bad amring serve --port=1 --admin
 bad amring serve --admin=1
 bad amring run --admin=1
 bad amring run --port 1
+check amring check a.json
+check amring check -- -a
+bad amring check
+bad amring check a b
+bad amring check a --port 1
 bad amring 
 bad amring
 bad
@@ -74,7 +88,7 @@ help amring run -h
 help amring -V";
 
 // Command lines, and the text that is told of them.
-const TEXTS: [(&str, &str); 7] = [
+const TEXTS: [(&str, &str); 8] = [
     ("amring --version", "amring 0.1.0\n"),
     (
         "amring run --cache 0",
@@ -88,6 +102,10 @@ const TEXTS: [(&str, &str); 7] = [
     (
         "amring serve --port 1 --address ::1",
         "--address takes an IPv4 address, as 127.0.0.1",
+    ),
+    (
+        "amring serve --port 1 --log xml",
+        "--log takes plain or json",
     ),
     (
         "amring serve",
@@ -147,6 +165,7 @@ fn kind(asked: &CommandLine) -> &'static str {
     match asked {
         CommandLine::Run(_) => "run",
         CommandLine::Serve(_) => "serve",
+        CommandLine::Check(_) => "check",
         CommandLine::Help(_) => "help",
         CommandLine::Bad(_) => "bad",
     }
@@ -171,7 +190,9 @@ fn command_lines(rt: HostRuntime) -> Result<(), Fail> {
 fn tells(alloc: Global, line: &str, wanted: &str) -> Result<(), Fail> {
     match asked(alloc, line)? {
         CommandLine::Help(text) | CommandLine::Bad(text) => equal(text.as_str(), wanted, line),
-        CommandLine::Run(_) | CommandLine::Serve(_) => Err(Fail::new(line)),
+        CommandLine::Run(_) | CommandLine::Serve(_) | CommandLine::Check(_) => {
+            Err(Fail::new(line))
+        }
     }
 }
 

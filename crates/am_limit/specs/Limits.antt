@@ -1,9 +1,10 @@
 -- The limits of a tenant, and how many notices one instance may send it in a minute of the clock.
-use Rattle.std.specs.Prelude.{◌≡◌, ◌≤◌, ℕ, ◌+◌, ◌/◌, ◌==◌, nat_lt, Bool, if◌then◌else◌, List, [], ◌∷◌, ◌++◌}
+use Rattle.std.specs.Prelude.{◌≡◌, ◌≤◌, ℕ, ◌+◌, ◌/◌, ◌==◌, nat_lt, Bool, if◌then◌else◌, List, [], ◌∷◌, ◌++◌, None}
 use Rattle.std.specs.List.{count_by}
 use Rattle.am_limit.specs.declared.limits.Limits.{Limits}
 
--- the limits of a tenant for which none were set: 10,000 alerts, 1,000 silences, 131,072 and 16,384 bytes, 60 notices a minute
+-- the limits of a tenant for which none were set: 10,000 alerts, 1,000 silences, 131,072 and 16,384 bytes, 60 notices a
+-- minute, and none on the bytes of its alerts
 abbrev pub default_limits : Limits
 default_limits = record {
   alerts = 10_000;
@@ -11,6 +12,7 @@ default_limits = record {
   configuration = 131_072;
   silence = 16_384;
   notices = 60;
+  alert_bytes = None;
 }
 
 -- the minute of the clock in which a moment lies

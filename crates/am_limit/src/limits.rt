@@ -11,10 +11,12 @@ pub struct Limits {
     pub silence: u64,
     /// Notices from one instance in one minute of the clock.
     pub notices: u64,
+    /// Bytes that the alerts that are held take together, as messages spell them; `None` where they aren't limited.
+    pub alert_bytes: Option<u64>,
 }
 
 /// The limits of a tenant for which none were set: 10,000 alerts, 1,000 silences, configurations of
-/// 131,072 bytes, silences of 16,384 bytes and 60 notices a minute.
+/// 131,072 bytes, silences of 16,384 bytes, 60 notices a minute, and no limit on the bytes of its alerts.
 impl Default for Limits {
     ghost use Rattle.std.specs.Prelude.{◌≡◌};
     ghost use Rattle.am_limit.specs.Limits.{default_limits};
@@ -28,6 +30,7 @@ impl Default for Limits {
             configuration: 131_072,
             silence: 16_384,
             notices: 60,
+            alert_bytes: None,
         }
     }
 }

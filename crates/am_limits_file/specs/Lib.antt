@@ -1,1 +1,2 @@
 pub mod LimitsFiles
+pub mod Changes

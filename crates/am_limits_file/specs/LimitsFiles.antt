@@ -1,5 +1,5 @@
 -- The file of limits: what it says, or the first place at which it isn't of its form.
-use Rattle.std.specs.Prelude.{ℕ, Bool, true, List, [], ◌∷◌, codes, Option, Some, None, option_and_then, Result, Ok, Err}
+use Rattle.std.specs.Prelude.{ℕ, Bool, List, [], ◌∷◌, codes, Option, Some, None, option_and_then, Result, Ok, Err}
 use Rattle.std.specs.Prelude.{if◌then◌else◌}
 use Rattle.std.specs.List.{list_any}
 use Rattle.std.specs.Str.{bytes_eq}
@@ -8,7 +8,6 @@ use Rattle.serde_json.specs.Find.{get, as_number, as_object, as_u64}
 use Rattle.am_tenant.specs.Names.{is_tenant_name}
 use Rattle.am_text.specs.Outcome.{◌>>=◌, outcome_as}
 use Rattle.am_json.specs.Reading.{json}
-use Rattle.am_limit.specs.Limits.{default_limits}
 use Rattle.am_limit.specs.declared.limits.Limits.{Limits}
 use Rattle.am_place.specs.Places.{at_key}
 use Rattle.am_limits_file.specs.declared.reading.Level.{Level}
@@ -33,7 +32,8 @@ stated place fault (Some x) = Ok x
 abbrev pub keys_of : Level → List (List ℕ)
 keys_of level.File = codes "default" ∷ codes "tenants" ∷ []
 keys_of level.Limits =
-    codes "alerts" ∷ codes "silences" ∷ codes "configuration" ∷ codes "silence" ∷ codes "notices" ∷ []
+    codes "alerts" ∷ codes "silences" ∷ codes "configuration" ∷ codes "silence" ∷ codes "notices"
+    ∷ codes "alert_bytes" ∷ []
 
 -- each key is known
 abbrev pub known_among : List ℕ → Level → Members → Result (Unit {0}) LimitsRefusal
@@ -58,6 +58,16 @@ number_or place default (Some d) = number_in place d
 abbrev pub number_at : List ℕ → List ℕ → ℕ → Data → Result ℕ LimitsRefusal
 number_at place key default d = number_or (at_key place key) default (get key d)
 
+-- .. where there may be none either
+abbrev pub number_if : List ℕ → Option ℕ → Option Data → Result (Option ℕ) LimitsRefusal
+number_if place default None = Ok default
+number_if place default (Some d) = do
+  number ← number_in place d
+  Ok (Some number)
+
+abbrev pub number_if_at : List ℕ → List ℕ → Option ℕ → Data → Result (Option ℕ) LimitsRefusal
+number_if_at place key default d = number_if (at_key place key) default (get key d)
+
 -- the limits that an object says, and for the rest these
 unfoldable pub limits_in : List ℕ → Limits → Data → Result Limits LimitsRefusal
 limits_in place default d = do
@@ -67,12 +77,14 @@ limits_in place default d = do
   configuration ← number_at place (codes "configuration") default.configuration d
   silence ← number_at place (codes "silence") default.silence d
   notices ← number_at place (codes "notices") default.notices d
+  alert_bytes ← number_if_at place (codes "alert_bytes") default.alert_bytes d
   Ok (record {
     alerts = alerts;
     silences = silences;
     configuration = configuration;
     silence = silence;
     notices = notices;
+    alert_bytes = alert_bytes;
   })
 
 -- the tenant of this name
@@ -104,21 +116,21 @@ tenants_or_none default (Some d) = tenants_from default d
 abbrev pub tenants_in : Limits → Data → Result (List TenantLimits) LimitsRefusal
 tenants_in default d = tenants_or_none default (get (codes "tenants") d)
 
--- what holds for a tenant that says nothing
-abbrev pub default_from : Option Data → Result Limits LimitsRefusal
-default_from None = Ok default_limits
-default_from (Some d) = limits_in (codes "default") default_limits d
+-- what holds for a tenant that says nothing, where these limits are the usual ones
+abbrev pub default_from : Limits → Option Data → Result Limits LimitsRefusal
+default_from usual None = Ok usual
+default_from usual (Some d) = limits_in (codes "default") usual d
 
-abbrev pub default_in : Data → Result Limits LimitsRefusal
-default_in d = default_from (get (codes "default") d)
+abbrev pub default_in : Limits → Data → Result Limits LimitsRefusal
+default_in usual d = default_from usual (get (codes "default") d)
 
-unfoldable pub file_of : Data → Result LimitsFile LimitsRefusal
-file_of d = do
+unfoldable pub file_of : Limits → Data → Result LimitsFile LimitsRefusal
+file_of usual d = do
   known ← known_in [] level.File d
-  default ← default_in d
+  default ← default_in usual d
   tenants ← tenants_in default d
   Ok (record { default = default; tenants = tenants })
 
--- what the text of a file says
-abbrev pub file_in : List ℕ → Result LimitsFile LimitsRefusal
-file_in text = outcome_as (record { place = []; fault = NotJson }) (json text) >>= file_of
+-- what the text of a file says, where these limits are the usual ones
+abbrev pub file_in : Limits → List ℕ → Result LimitsFile LimitsRefusal
+file_in usual text = outcome_as (record { place = []; fault = NotJson }) (json text) >>= file_of usual

@@ -2,6 +2,7 @@
 //! `tenants`, an object of each tenant's numbers.
 #![tactic(auto)]
 
+mod changes;
 mod reading;
 mod refusal;
 

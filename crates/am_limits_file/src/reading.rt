@@ -5,8 +5,9 @@ ghost use Rattle.serde_json.specs.Find.{get};
 ghost use Rattle.serde_json.specs.View.{members_view, view};
 ghost use Rattle.am_text.specs.Outcome.{Gives};
 ghost use Rattle.am_limits_file.specs.LimitsFiles.{default_from, default_in, file_in, file_of, has_text, keys_of};
-ghost use Rattle.am_limits_file.specs.LimitsFiles.{known_among, known_in, limits_in, number_at, number_in, tenant_in};
-ghost use Rattle.am_limits_file.specs.LimitsFiles.{tenant_named, tenants_from, tenants_in, tenants_of};
+ghost use Rattle.am_limits_file.specs.LimitsFiles.{known_among, known_in, limits_in, number_at, number_if_at};
+ghost use Rattle.am_limits_file.specs.LimitsFiles.{number_in, tenant_in, tenant_named};
+ghost use Rattle.am_limits_file.specs.LimitsFiles.{tenants_from, tenants_in, tenants_of};
 ghost use Rattle.std.specs.List.{list_any};
 ghost use Rattle.std.specs.Str.{bytes_eq};
 
@@ -21,7 +22,14 @@ use std::alloc::Global;
 
 const FILE_KEYS: [&str; 2] = ["default", "tenants"];
 
-const LIMITS_KEYS: [&str; 5] = ["alerts", "silences", "configuration", "silence", "notices"];
+const LIMITS_KEYS: [&str; 6] = [
+    "alerts",
+    "silences",
+    "configuration",
+    "silence",
+    "notices",
+    "alert_bytes",
+];
 
 // A kind of object of a file.
 #[derive(Clone, Copy)]
@@ -47,16 +55,20 @@ pub struct LimitsFile {
 }
 
 /// What a text says of limits: a JSON object that may have `default` and `tenants`. A number that `default` doesn't
-/// say is that of a tenant for which no limits were set; one that a tenant doesn't say is the default's.
+/// say is that of `usual`; one that a tenant doesn't say is the default's.
 ///
 /// # Errors
 /// The first place at which the text isn't of its form: an object's keys come before what they hold, `default` before
 /// `tenants`, tenants in order of name. Out of memory says nothing of the text.
-pub fn read_limits(alloc: Global, text: &[u8]) -> Result<LimitsFile, Failure<LimitsRefusal>>
-    ensures { Gives (λ file. file) result (file_in text.now) }
+pub fn read_limits(
+    alloc: Global,
+    text: &[u8],
+    usual: Limits,
+) -> Result<LimitsFile, Failure<LimitsRefusal>>
+    ensures { Gives (λ file. file) result (file_in usual text.now) }
 {
     match read_json(alloc, text) {
-        Ok(value) => file_of(alloc, &value),
+        Ok(value) => file_of(alloc, usual, &value),
         Err(Failure::OutOfMemory) => Err(Failure::OutOfMemory),
         Err(Failure::Refused(_)) => {
             let place = Text::read(alloc, "")?;
@@ -69,12 +81,16 @@ pub fn read_limits(alloc: Global, text: &[u8]) -> Result<LimitsFile, Failure<Lim
 }
 
 #[tactic(auto, unfolding(crate::specs::LimitsFiles::file_of))]
-fn file_of(alloc: Global, value: &Value) -> Result<LimitsFile, Failure<LimitsRefusal>>
-    ensures { Gives (λ file. file) result (file_of (view value.now)) }
+fn file_of(
+    alloc: Global,
+    usual: Limits,
+    value: &Value,
+) -> Result<LimitsFile, Failure<LimitsRefusal>>
+    ensures { Gives (λ file. file) result (file_of usual (view value.now)) }
 {
     let top = Text::read(alloc, "")?;
     known_in(alloc, &top, Level::File, value)?;
-    let default = default_in(alloc, value)?;
+    let default = default_in(alloc, usual, value)?;
     let tenants = tenants_in(alloc, default, value)?;
     Ok(LimitsFile {
         default,
@@ -83,14 +99,14 @@ fn file_of(alloc: Global, value: &Value) -> Result<LimitsFile, Failure<LimitsRef
 }
 
 // What holds for a tenant that says nothing.
-fn default_in(alloc: Global, value: &Value) -> Result<Limits, Failure<LimitsRefusal>>
-    ensures { Gives (λ limits. limits) result (default_in (view value.now)) }
+fn default_in(alloc: Global, usual: Limits, value: &Value) -> Result<Limits, Failure<LimitsRefusal>>
+    ensures { Gives (λ limits. limits) result (default_in usual (view value.now)) }
 {
     match value.get("default") {
-        None => Ok(Limits::default()),
+        None => Ok(usual),
         Some(found) => {
             let place = Text::read(alloc, "default")?;
-            limits_in(alloc, &place, Limits::default(), found)
+            limits_in(alloc, &place, usual, found)
         }
     }
 }
@@ -187,12 +203,14 @@ fn limits_in(
     let configuration = number_at(alloc, place, "configuration", default.configuration, value)?;
     let silence = number_at(alloc, place, "silence", default.silence, value)?;
     let notices = number_at(alloc, place, "notices", default.notices, value)?;
+    let alert_bytes = number_if_at(alloc, place, "alert_bytes", default.alert_bytes, value)?;
     Ok(Limits {
         alerts,
         silences,
         configuration,
         silence,
         notices,
+        alert_bytes,
     })
 }
 
@@ -211,6 +229,26 @@ fn number_at(
         Some(found) => {
             let place = at_key(alloc, place, key)?;
             number_in(alloc, &place, found)
+        }
+    }
+}
+
+// The same where there may be no such limit either.
+fn number_if_at(
+    alloc: Global,
+    place: &Text,
+    key: &str,
+    default: Option<u64>,
+    value: &Value,
+) -> Result<Option<u64>, Failure<LimitsRefusal>>
+    ensures { Gives (λ number. number) result (number_if_at place.now key.now default (view value.now)) }
+{
+    match value.get(key) {
+        None => Ok(default),
+        Some(found) => {
+            let place = at_key(alloc, place, key)?;
+            let number = number_in(alloc, &place, found)?;
+            Ok(Some(number))
         }
     }
 }

@@ -20,6 +20,8 @@ pub enum LimitsFault {
     NotNumber,
     /// The key is no tenant's name.
     NotTenant,
+    /// The value stays as it was when the program began to serve.
+    Fixed,
 }
 
 impl fmt::Display for LimitsFault {
@@ -30,6 +32,7 @@ impl fmt::Display for LimitsFault {
             LimitsFault::UnknownKey => "is no key that is known",
             LimitsFault::NotNumber => "is no whole number",
             LimitsFault::NotTenant => "is no tenant's name",
+            LimitsFault::Fixed => "can't change while amring serves",
         })
     }
 }

@@ -9,6 +9,7 @@ pub mod RoundTrip
 pub mod FormsRead
 pub mod FormsFound
 pub mod FailureLemmas
-pub mod PlacesLemmas
+pub mod HolderLemmas
+pub mod ColumnLemmas
 pub mod QuestionLemmas
 pub mod TableLemmas

@@ -1,15 +1,9 @@
 -- Tables of answers, matcher by matcher.
-use Rattle.std.proofs.Common.{◌≡◌, ◌≢◌, ◌∙◌, ℕ, suc, zero, ◌+◌, ◌<◌, ◌==◌, ◌&&◌, ◌||◌, not, Bool, true, false, cond, List, All, [], ◌∷◌, ◌++◌, Option, None, Some, Bor, Vec, Global, length, map, take, get_or, slice_set, replicate, length-append, refl, sym, ap, subst, inl, inr, arith}
-use Rattle.std.specs.BTreeMap.{BTreeMap, get_by}
-use Rattle.std.specs.Cmp.Lexicographic.{bytes_decides, slice_cmp}
+use Rattle.std.proofs.Common.{◌≡◌, ◌≢◌, ◌∙◌, ℕ, suc, zero, ◌+◌, ◌<◌, ◌==◌, ◌&&◌, ◌||◌, not, Bool, true, false, List, All, [], ◌∷◌, ◌++◌, Vec, Global, length, map, take, get_or, slice_set, replicate, length-append, refl, sym, ap, subst, inl, inr, arith}
 use Rattle.std.specs.List.{Contains}
 use Rattle.std.specs.List.Sorted.{IsPermutation}
-use Rattle.std.specs.Map.{update}
-use Rattle.std.specs.Option.{ForSome, unwrap_or}
-use Rattle.std.specs.Ordering.{nat_cmp}
-use Rattle.std.specs.Str.{bytes_eq}
-use Rattle.std.proofs.lemmas.Bool.{cases_Bool, cases_eq, ne_eqb, eq-eqb}
-use Rattle.std.proofs.lemmas.List.{ext_get_or, get_or-map, get_or-set_other, get_or-set_same, length-map, length-replicate, get_or-replicate, map-append, length-set, take_more}
+use Rattle.std.proofs.lemmas.Bool.{cases_Bool, cases_eq, ne_eqb, eq-eqb, true≢false}
+use Rattle.std.proofs.lemmas.List.{ext_get_or, get_or-map, get_or-set_other, get_or-set_same, length-map, length-set}
 use Rattle.std.proofs.lemmas.List.Elements.{All-append, All-cons, All-get_or, All-nil}
 use Rattle.std.proofs.lemmas.List.Folds.{list_all_more}
 use Rattle.am_labels.specs.declared.Label.{Label}
@@ -17,67 +11,9 @@ use Rattle.am_match.specs.Asking.{narrowed, narrowed_by}
 use Rattle.am_match.specs.Matchers.{MatcherText}
 use Rattle.am_match.specs.Meaning.{all_take, passes, takes_labels}
 use Rattle.am_match.proofs.NarrowLemmas.{length-narrowed}
-use Rattle.am_match.specs.Places.{AreAlike}
+use Rattle.am_column.specs.Alike.{AreAlike}
 use Rattle.am_match.specs.Tables.{IsTable, answer_of, questions_from}
 use Rattle.am_match.proofs.QuestionLemmas.{all_in_any_order, and_true, answer_from}
-
--- ---- which values are alike
-
--- the value stands at this place
-abbrev pub IsAt : List (List ℕ) → ℕ → List ℕ → Type 0
-IsAt values place value = (place < length values) × (get_or values place [] ≡ value)
-
--- what the map has at a value is a place of it
-abbrev pub AreFirsts : List (List ℕ) → BTreeMap (Bor (List ℕ)) ℕ → Type 0
-AreFirsts values firsts = (value : List ℕ) → ForSome (get_by (λ key. slice_cmp nat_cmp value key.now) firsts) (λ place. IsAt values place value)
-
--- the places of the first so many
-abbrev pub AreAlikeSoFar : List (List ℕ) → ℕ → List ℕ → Type 0
-AreAlikeSoFar values count places =
-    All (λ place. place < length values) places × (map (λ place. get_or values place []) places ≡ take count values)
-
--- one more is at its value
-pub firsts_put : (values : List (List ℕ)) (old new : BTreeMap (Bor (List ℕ)) ℕ) (place : ℕ) (value : List ℕ) → AreFirsts values old → IsAt values place value
-    → ((other : List ℕ) → get_by (λ key. slice_cmp nat_cmp other key.now) new
-    ≡ update bytes_eq (λ before. get_by (λ key. slice_cmp nat_cmp before key.now) old) value (Some place) other)
-    → AreFirsts values new
-firsts_put values old new place value right at updates other found is =
-    elim (cases_Bool (bytes_eq value other)) [
-      | inl same ↦
-          let both : Some place ≡ Some found = sym (updates other ∙ ap (λ b. cond b (Some place) (get_by (λ key. slice_cmp nat_cmp other key.now) old)) same) ∙ is in
-          let there : place ≡ found = cc in
-          subst (λ n. IsAt values n other) there (subst (IsAt values place) ((bytes_decides value other).0 same) at)
-      | inr apart ↦
-          right other found
-          (sym (updates other ∙ ap (λ b. cond b (Some place) (get_by (λ key. slice_cmp nat_cmp other key.now) old)) apart) ∙ is)
-    ]
-
--- the place that is found, or the value's own
-pub place_at : (values : List (List ℕ)) (firsts : BTreeMap (Bor (List ℕ)) ℕ) (place : ℕ) (value : List ℕ) → AreFirsts values firsts → IsAt values place value
-    → (found : Option ℕ) → found ≡ get_by (λ key. slice_cmp nat_cmp value key.now) firsts → IsAt values (unwrap_or found place) value
-place_at values firsts place value right at None is = at
-place_at values firsts place value right at (Some first) is = right value first (sym is)
-
-module _ {A : Type 0} (view : A → List ℕ) (xs : List A) (i : ℕ) (x : A) (within : i < length xs) (is : x ≡ get_or xs i x) where
-  here : get_or (map view xs) i [] ≡ view x
-  here = get_or-map view xs i x [] within ∙ ap view (sym is)
-
-  -- the next value has its place
-  pub alike_put : (places : List ℕ) (place : ℕ) → AreAlikeSoFar (map view xs) i places → IsAt (map view xs) place (view x) →
-      AreAlikeSoFar (map view xs) (i + 1) (places ++ place ∷ [])
-  alike_put places place (fits, same) at =
-      let P : ℕ → Type 0 = λ n. n < length (map view xs) in
-      let value : ℕ → List ℕ = λ n. get_or (map view xs) n [] in (
-        All-append P places (place ∷ []) fits (All-cons P place [] at.0 (All-nil P)),
-        map-append value places (place ∷ [])
-            ∙ ap (λ front. front ++ value place ∷ []) same
-            ∙ ap (λ last. take i (map view xs) ++ last ∷ []) (at.1 ∙ sym here)
-            ∙ sym (take_more (map view xs) i [] (omega (arith, length-map xs view, within))),
-      )
-
-  -- the value is at its own
-  pub at_itself : IsAt (map view xs) i (view x)
-  at_itself = (omega (arith, length-map xs view, within), here)
 
 -- ---- one matcher
 
@@ -88,25 +24,6 @@ flag_of m [] flags place each within = absurd (omega arith)
 flag_of m (value ∷ values) [] place each within = absurd (omega (arith, each))
 flag_of m (value ∷ values) (flag ∷ flags) zero each within = refl
 flag_of m (value ∷ values) (flag ∷ flags) (suc place) each within = flag_of m values flags place (omega (arith, each)) (omega (arith, within))
-
--- flags that meet those of all values are those of the values that pass
-pub met : (m n : MatcherText) (values : List (List ℕ)) (flags new row : List Bool) → length flags ≡ length values → length new ≡ length flags →
-    row ≡ narrowed_by n values (replicate (length values) true) → n.operator ≡ m.operator → n.value ≡ m.value →
-    ((k : ℕ) → k < length row → get_or new k false ≡ (get_or flags k false && get_or row k false)) → new ≡ narrowed_by m values flags
-met m n values flags new row each long is operator value meets =
-    let all : length (replicate (length values) true) ≡ length values = length-replicate (length values) true in
-    let rows : length row ≡ length values = ap length is ∙ length-narrowed n values (replicate (length values) true) all ∙ all in
-    ext_get_or false new (narrowed_by m values flags)
-    (omega (arith, long, length-narrowed m values flags each))
-    (λ k below.
-    let within : k < length values = omega (arith, below, long, each) in
-    let asked : get_or row k false ≡ passes m.operator m.value (get_or values k []) =
-    ap (λ (list : List Bool). get_or list k false) is ∙ flag_of n values (replicate (length values) true) k all within
-    ∙ ap (λ b. b && passes n.operator n.value (get_or values k [])) (get_or-replicate (length values) k true false within)
-    ∙ ap (λ o. passes o n.value (get_or values k [])) operator ∙ ap (λ v. passes m.operator v (get_or values k [])) value in
-    meets k (omega (arith, within, rows))
-    ∙ ap (λ b. get_or flags k false && b) asked
-    ∙ sym (flag_of m values flags k each within))
 
 module _ (values : List (List ℕ)) (alike : List ℕ) (h : AreAlike values alike) where
   -- each value has a place
@@ -145,14 +62,6 @@ module _ (values : List (List ℕ)) (alike : List ℕ) (h : AreAlike values alik
             ap (λ b. b && (get_or firsts (get_or alike k 0) false && passes m.operator m.value (get_or values (get_or alike k 0) []))) off
             ∙ sym (own ∙ ap (λ b. b && passes m.operator m.value (get_or values k [])) off)
       ])
-
--- a flag that is set stays so when another is set
-pub stays_set : (flags : List Bool) (place other : ℕ) → place < length flags → get_or flags other false ≡ true → get_or (slice_set flags place true) other false ≡ true
-stays_set flags place other within there =
-    elim (cases_eq other place) [
-      | inl same ↦ ap (λ n. get_or (slice_set flags place true) n false) same ∙ get_or-set_same flags place true false within
-      | inr apart ↦ get_or-set_other flags place other true false apart ∙ there
-    ]
 
 -- ---- the table
 
@@ -231,6 +140,17 @@ table_start {A = A} view xs rows fine = (
     nothing_asked : (number : ℕ) (list : List A) → map (λ x. true) list ≡ map (answer_of [] number) (map view list)
     nothing_asked number [] = refl
     nothing_asked number (x ∷ list) = ap (λ rest. true ∷ rest) (nothing_asked number list)
+
+-- nor is any where there are none
+pub table_none : {A : Type 0} (view : A → List Label) (xs : List A) (qs : List (ℕ × MatcherText)) (rows : List (Vec Bool Global)) → (length qs == 0) ≡ true →
+    All (λ (row : Vec Bool Global). row.items ≡ map (λ x. true) xs) rows → IsTable (answer_of qs) (map view xs) (length rows) rows
+table_none view xs [] rows none fine = table_start view xs rows fine
+table_none view xs (q ∷ qs) rows none fine = absurd (true≢false (sym none ∙ ne_eqb (length (q ∷ qs)) 0 (λ same. omega (arith, same))))
+
+-- where there are some, there is a first
+pub some_there : (n : ℕ) → (n == 0) ≡ false → 0 < n
+some_there zero some = absurd (true≢false (sym (eq-eqb 0 0 refl) ∙ some))
+some_there (suc n) some = omega arith
 
 -- a matcher stands among those of the questions
 pub matcher_among : (qs : List (ℕ × MatcherText)) (k : ℕ) (q : ℕ × MatcherText) → k < length qs → q ≡ get_or qs k q → (m : MatcherText) → q.1 ≡ m →

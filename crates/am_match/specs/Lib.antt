@@ -22,7 +22,7 @@ pub mod Spelling
 pub mod Taking
 -- lists of matchers and what they take
 pub mod Tables
--- places of values, and flags at them
-pub mod Places
+-- the label sets that have a label
+pub mod Holders
 -- the values of a label, by their places
 pub mod Columns

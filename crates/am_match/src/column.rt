@@ -1,30 +1,36 @@
 //! The values of a label in many label sets, and matchers that are asked of them.
 
-ghost use Rattle.std.specs.Prelude.{◌≡◌, ◌+◌, ◌<◌, ◌≤◌, ◌∷◌, [], ◌&&◌, ℕ, All, IfErr, IfOk, OnOk, get_or, length, map};
+ghost use Rattle.std.specs.Prelude.{◌≡◌, ◌+◌, ◌<◌, ◌≤◌, ◌∷◌, [], All, IfErr, IfOk, IsSomeAnd, OnOk, Some, length, map};
 ghost use Rattle.std.specs.Prelude.{true, false};
-ghost use Rattle.am_labels.specs.Sets.{value_of};
+ghost use Rattle.std.specs.List.{list_any};
+ghost use Rattle.am_column.specs.Alike.{AreAlike};
 ghost use Rattle.am_pattern.specs.Asking.{Asked};
 ghost use Rattle.am_match.specs.Asking.{IsFailureOf, narrowed_by};
-ghost use Rattle.am_match.specs.Columns.{IsAnswered, IsIndexOf, IsIndexed, values_in};
-ghost use Rattle.am_match.specs.Matchers.{patterns_of};
-ghost use Rattle.am_match.specs.Places.{AreAlike};
+ghost use Rattle.am_match.specs.Columns.{IsAnswered, IsIndexOf, IsIndexed, IsNarrowedBy};
+ghost use Rattle.am_match.specs.Columns.{places_with, shown_in, values_in};
+ghost use Rattle.am_match.specs.Holders.{IsWhole, held_at};
+ghost use Rattle.am_match.specs.Matchers.{is_on_pattern, patterns_of};
+ghost use Rattle.am_match.specs.Meaning.{passes};
 
-use crate::asking::{narrow, values_of};
+use crate::asking::narrow;
+use crate::holders::Held;
 use crate::matcher::{Matcher, Operator};
-use crate::places::{Places, clear, found_at, keep, places_by};
-use am_labels::LabelSet;
+use am_column::{
+    Places, alike_by, clear, firsts_of, flags_at, found_at, has_set, keep, left_by, meet, places_by,
+};
 use am_pattern::{PatternCache, PatternRefusal};
 use am_text::Failure;
 use std::alloc::{AllocError, Global};
-use std::collections::BTreeMap;
 
-/// The values of the label of one name in label sets, in their order.
+/// The values of a label in many label sets.
 #[derive(Drop)]
-pub struct Column<'n, 'a> {
-    /// The name.
+pub struct Column<'n, 'h, 'a> {
+    /// The label's name.
     pub name: &'n str,
-    /// The value in each of the label sets.
-    pub values: Vec<&'a str>,
+    /// The places of the label sets that have it.
+    pub places: &'h [usize],
+    /// The empty value, which all others have, and behind it the value of each of them.
+    pub values: &'h [&'a str],
     /// Where equal values stand. It costs as much as some questions, so it is made for many alone.
     pub index: Option<Index<'a>>,
 }
@@ -34,30 +40,36 @@ pub struct Column<'n, 'a> {
 pub struct Index<'a> {
     /// For each of the values the place of the first that is equal.
     pub alike: Vec<usize>,
-    /// The places of each value.
+    /// The label sets that have each value.
     pub places: Places<'a>,
 }
 
-impl<'n, 'a> Column<'n, 'a> {
-    /// The values of the label of this name, indexed where they are asked often.
+impl<'n, 'h, 'a> Column<'n, 'h, 'a> {
+    /// The column of the label of this name, which is among those held, indexed where it is asked often.
     pub fn of(
         alloc: Global,
         name: &'n str,
-        sets: &[&'a LabelSet],
+        held: &'h Held<'_, 'a>,
         is_asked_often: bool,
-    ) -> Result<Column<'n, 'a>, AllocError>
+    ) -> Result<Column<'n, 'h, 'a>, AllocError>
+        requires { IsSomeAnd (held_at held.now name.now) IsWhole }
         ensures name { IfOk result (λ column. column.name.now ≡ name.now) }
-        ensures values { IfOk result (λ column. values_in column ≡ map (λ set. value_of name.now set.now) sets.now) }
+        ensures holders { IfOk result (λ column. held_at held.now name.now ≡ Some (shown_in column)) }
         ensures indexed { IfOk result IsIndexed }
     {
-        let values = values_of(alloc, name, sets)?;
+        let Some(holders) = held.get(name) else {
+            unreachable!();
+        };
+        let places = holders.places.as_slice();
+        let values = holders.values.as_slice();
         let index = if is_asked_often {
-            Some(Index::of(alloc, &values)?)
+            Some(Index::of(alloc, places, values)?)
         } else {
             None
         };
         Ok(Column {
             name,
+            places,
             values,
             index,
         })
@@ -65,13 +77,25 @@ impl<'n, 'a> Column<'n, 'a> {
 }
 
 impl<'a> Index<'a> {
-    // Where equal ones of these values stand.
-    fn of(alloc: Global, values: &[&'a str]) -> Result<Index<'a>, AllocError>
-        ensures { IfOk result (IsIndexOf (map (λ value. value.now) values.now)) }
+    // Where equal ones of these values stand, of which all but the first are those of the label sets at these places.
+    fn of(alloc: Global, places: &[usize], values: &[&'a str]) -> Result<Index<'a>, AllocError>
+        requires { length values.now ≡ length places.now + 1 }
+        ensures { IfOk result (IsIndexOf places.now (map (λ value. value.now) values.now)) }
     {
         let alike = alike_by(alloc, values)?;
-        let places = places_by(alloc, values)?;
+        let places = places_by(alloc, places, &values[1..])?;
         Ok(Index { alike, places })
+    }
+
+    // The places of the label sets with this value; for the empty one, of all those that have the label.
+    fn places_with<'p>(&'p self, holders: &'p [usize], value: &str) -> &'p [usize]
+        ensures { result.now ≡ places_with self.now.places holders.now value.now }
+    {
+        if value.is_empty() {
+            holders
+        } else {
+            found_at(&self.places, value)
+        }
     }
 }
 
@@ -94,7 +118,7 @@ impl Answered<'_> {
     }
 }
 
-/// Takes away the flags of the values that don't meet the matcher's condition.
+/// Takes away the flags of the label sets that the matcher doesn't take.
 ///
 /// A matcher that recurs is asked of all values, and its answers serve the next one, which is equal.
 ///
@@ -103,7 +127,7 @@ impl Answered<'_> {
 pub fn ask<'a>(
     alloc: Global,
     matcher: &'a Matcher,
-    column: &Column<'_, '_>,
+    column: &Column<'_, '_, '_>,
     recurs: bool,
     last: &mut Option<Answered<'a>>,
     taken: &mut Vec<bool>,
@@ -111,59 +135,66 @@ pub fn ask<'a>(
 ) -> Result<(), Failure<PatternRefusal>>
     requires indexed { IsIndexed column.now }
     requires last { IsAnswered (values_in column.now) last.now }
-    requires each { length taken.now.items ≡ length (values_in column.now) }
-    ensures taken { OnOk result (taken.new.items ≡ narrowed_by matcher.now (values_in column.now) taken.old.items) }
+    requires within { All (λ place. place < length taken.now.items) column.now.places.now }
+    requires each { length column.now.values.now ≡ length column.now.places.now + 1 }
+    ensures taken { OnOk result (IsNarrowedBy matcher.now column.now taken.old.items taken.new.items) }
     ensures asked { Asked result cache.old cache.new }
     ensures misses { cache.new.misses ≤ cache.old.misses + length (patterns_of (matcher.now ∷ [])) }
     ensures failure { IfErr result (IsFailureOf matcher.now cache.old cache.new) }
     ensures last { IsAnswered (values_in column.now) last.new }
 {
     if matcher.operator().is_on_pattern() {
-        ask_pattern(alloc, matcher, column, recurs, last, taken, cache)
-    } else {
-        ask_value(alloc, matcher, column, taken, cache)
+        return ask_pattern(alloc, matcher, column, recurs, last, taken, cache);
     }
+    match &column.index {
+        Some(index) => ask_index(alloc, matcher, column, index, taken)?,
+        None => ask_flagged(alloc, matcher, column, taken, cache)?,
+    }
+    Ok(())
 }
 
-// The same of a matcher on a value: where there is an index, only the places of that value are gone over.
-fn ask_value(
+// The same of a matcher on a value, by an index: only the label sets with that value are gone over, or for the empty
+// value those with any other.
+fn ask_index(
     alloc: Global,
     matcher: &Matcher,
-    column: &Column<'_, '_>,
+    column: &Column<'_, '_, '_>,
+    index: &Index<'_>,
     taken: &mut Vec<bool>,
-    cache: &mut PatternCache,
-) -> Result<(), Failure<PatternRefusal>>
-    requires indexed { IsIndexed column.now }
-    requires each { length taken.now.items ≡ length (values_in column.now) }
-    ensures taken { OnOk result (taken.new.items ≡ narrowed_by matcher.now (values_in column.now) taken.old.items) }
-    ensures asked { Asked result cache.old cache.new }
-    ensures misses { cache.new.misses ≤ cache.old.misses + length (patterns_of (matcher.now ∷ [])) }
-    ensures failure { IfErr result (IsFailureOf matcher.now cache.old cache.new) }
+) -> Result<(), AllocError>
+    requires value { is_on_pattern matcher.now.operator ≡ false }
+    requires index { IsIndexOf column.now.places.now (values_in column.now) index.now }
+    requires within { All (λ place. place < length taken.now.items) column.now.places.now }
+    ensures taken { OnOk result (IsNarrowedBy matcher.now column.now taken.old.items taken.new.items) }
 {
-    let Some(index) = &column.index else {
-        return narrow(alloc, matcher, &column.values, taken, cache);
-    };
+    let places = index.places_with(column.places, matcher.value());
+    if takes_missing(matcher) {
+        clear(places, taken);
+    } else {
+        let left = keep(alloc, places, taken)?;
+        *taken = left;
+    }
+    Ok(())
+}
+
+// Whether the matcher, which is on a value, takes the label sets without its label.
+fn takes_missing(matcher: &Matcher) -> bool
+    requires { is_on_pattern matcher.now.operator ≡ false }
+    ensures { result ≡ passes matcher.now.operator matcher.now.value [] }
+{
+    let is_empty = matcher.value().is_empty();
     match matcher.operator() {
-        Operator::Equal => {
-            let left = keep(alloc, found_at(&index.places, matcher.value()), taken)?;
-            *taken = left;
-            Ok(())
-        }
-        Operator::NotEqual => {
-            clear(found_at(&index.places, matcher.value()), taken);
-            Ok(())
-        }
-        Operator::Match | Operator::NotMatch => {
-            narrow(alloc, matcher, &column.values, taken, cache)
-        }
+        Operator::Equal => is_empty,
+        Operator::NotEqual => !is_empty,
+        Operator::Match | Operator::NotMatch => unreachable!(),
     }
 }
 
-// The same of a matcher on a pattern.
+// The same of a matcher on a pattern, which isn't asked for where no flag is set.
 fn ask_pattern<'a>(
     alloc: Global,
     matcher: &'a Matcher,
-    column: &Column<'_, '_>,
+    column: &Column<'_, '_, '_>,
     recurs: bool,
     last: &mut Option<Answered<'a>>,
     taken: &mut Vec<bool>,
@@ -171,47 +202,75 @@ fn ask_pattern<'a>(
 ) -> Result<(), Failure<PatternRefusal>>
     requires indexed { IsIndexed column.now }
     requires last { IsAnswered (values_in column.now) last.now }
-    requires each { length taken.now.items ≡ length (values_in column.now) }
-    ensures taken { OnOk result (taken.new.items ≡ narrowed_by matcher.now (values_in column.now) taken.old.items) }
+    requires within { All (λ place. place < length taken.now.items) column.now.places.now }
+    requires each { length column.now.values.now ≡ length column.now.places.now + 1 }
+    ensures taken { OnOk result (IsNarrowedBy matcher.now column.now taken.old.items taken.new.items) }
     ensures asked { Asked result cache.old cache.new }
     ensures misses { cache.new.misses ≤ cache.old.misses + length (patterns_of (matcher.now ∷ [])) }
     ensures failure { IfErr result (IsFailureOf matcher.now cache.old cache.new) }
     ensures last { IsAnswered (values_in column.now) last.new }
+    ensures unasked { list_any (λ flag. flag) taken.old.items ≡ false → cache.new ≡ cache.old }
 {
     if let Some(answered) = last {
         if answered.serves(matcher) {
-            meet(&answered.row, taken);
+            meet(alloc, column.places, &answered.row, taken)?;
             return Ok(());
         }
     }
-    if !recurs {
-        return ask_values(alloc, matcher, column, taken, cache);
+    if !has_set(taken) {
+        return Ok(());
     }
-    let mut row = vec![in alloc; true; taken.len()]?;
+    if !recurs {
+        return ask_flagged(alloc, matcher, column, taken, cache);
+    }
+    let mut row = vec![in alloc; true; column.values.len()]?;
     ask_values(alloc, matcher, column, &mut row, cache)?;
-    meet(&row, taken);
+    meet(alloc, column.places, &row, taken)?;
     *last = Some(Answered { matcher, row });
     Ok(())
 }
 
-// Asks the matcher of the values whose flag is set, and where there is an index of one of those that are alike.
-fn ask_values(
+// Asks the matcher of the values of the label sets whose flag is set, and of the empty one.
+fn ask_flagged(
     alloc: Global,
     matcher: &Matcher,
-    column: &Column<'_, '_>,
+    column: &Column<'_, '_, '_>,
     taken: &mut Vec<bool>,
     cache: &mut PatternCache,
 ) -> Result<(), Failure<PatternRefusal>>
     requires indexed { IsIndexed column.now }
-    requires each { length taken.now.items ≡ length (values_in column.now) }
-    ensures taken { OnOk result (taken.new.items ≡ narrowed_by matcher.now (values_in column.now) taken.old.items) }
+    requires within { All (λ place. place < length taken.now.items) column.now.places.now }
+    requires each { length column.now.values.now ≡ length column.now.places.now + 1 }
+    ensures taken { OnOk result (IsNarrowedBy matcher.now column.now taken.old.items taken.new.items) }
+    ensures asked { Asked result cache.old cache.new }
+    ensures misses { cache.new.misses ≤ cache.old.misses + length (patterns_of (matcher.now ∷ [])) }
+    ensures failure { IfErr result (IsFailureOf matcher.now cache.old cache.new) }
+{
+    let mut row = flags_at(alloc, column.places, taken)?;
+    ask_values(alloc, matcher, column, &mut row, cache)?;
+    meet(alloc, column.places, &row, taken)?;
+    Ok(())
+}
+
+// Takes away the flags of those values of the column that don't meet the condition. Where there is an index, one of
+// those that are alike is asked.
+fn ask_values(
+    alloc: Global,
+    matcher: &Matcher,
+    column: &Column<'_, '_, '_>,
+    row: &mut Vec<bool>,
+    cache: &mut PatternCache,
+) -> Result<(), Failure<PatternRefusal>>
+    requires indexed { IsIndexed column.now }
+    requires each { length row.now.items ≡ length (values_in column.now) }
+    ensures row { OnOk result (row.new.items ≡ narrowed_by matcher.now (values_in column.now) row.old.items) }
     ensures asked { Asked result cache.old cache.new }
     ensures misses { cache.new.misses ≤ cache.old.misses + length (patterns_of (matcher.now ∷ [])) }
     ensures failure { IfErr result (IsFailureOf matcher.now cache.old cache.new) }
 {
     match &column.index {
-        None => narrow(alloc, matcher, &column.values, taken, cache),
-        Some(index) => ask_alike(alloc, matcher, &column.values, &index.alike, taken, cache),
+        None => narrow(alloc, matcher, column.values, row, cache),
+        Some(index) => ask_alike(alloc, matcher, column.values, &index.alike, row, cache),
     }
 }
 
@@ -237,70 +296,4 @@ fn ask_alike(
     let left = left_by(alloc, alike, taken, &firsts)?;
     *taken = left;
     Ok(())
-}
-
-// Takes away the flags that aren't set in the row.
-fn meet(row: &[bool], flags: &mut Vec<bool>)
-    requires { length flags.now.items ≡ length row.now }
-    ensures each { length flags.new.items ≡ length flags.old.items }
-    ensures flags { (k : ℕ) → k < length row.now
-        → get_or flags.new.items k false ≡ (get_or flags.old.items k false && get_or row.now k false) }
-{
-    for (place, kept) in row.iter().enumerate() {
-        flags[place] = flags[place] && *kept;
-    }
-}
-
-// For each of the values the place of the first that is equal.
-fn alike_by(alloc: Global, values: &[&str]) -> Result<Vec<usize>, AllocError>
-    ensures { IfOk result (λ v. AreAlike (map (λ value. value.now) values.now) v.items) }
-{
-    let mut firsts = BTreeMap::new(alloc);
-    let mut places = Vec::new(alloc);
-    for (place, value) in values.iter().enumerate() {
-        let value: &str = value;
-        let first = firsts.get(value).copied();
-        if first.is_none() {
-            firsts.insert(value, place)?;
-        }
-        places.push(first.unwrap_or(place))?;
-    }
-    Ok(places)
-}
-
-// Flags of the places that stand for one whose flag is set.
-fn firsts_of(alloc: Global, alike: &[usize], taken: &[bool]) -> Result<Vec<bool>, AllocError>
-    requires each { length alike.now ≡ length taken.now }
-    requires within { All (λ place. place < length taken.now) alike.now }
-    ensures each { IfOk result (λ v. length v.items ≡ length taken.now) }
-    ensures firsts { IfOk result (λ v. (k : ℕ) → k < length taken.now → get_or taken.now k false ≡ true
-        → get_or v.items (get_or alike.now k 0) false ≡ true) }
-{
-    let mut firsts = vec![in alloc; false; taken.len()]?;
-    for (place, first) in alike.iter().enumerate() {
-        if taken[place] {
-            firsts[*first] = true;
-        }
-    }
-    Ok(firsts)
-}
-
-// The flags that are set, and are so at the place that stands for theirs.
-fn left_by(
-    alloc: Global,
-    alike: &[usize],
-    taken: &[bool],
-    firsts: &[bool],
-) -> Result<Vec<bool>, AllocError>
-    requires each { length alike.now ≡ length taken.now }
-    requires within { All (λ place. place < length firsts.now) alike.now }
-    ensures each { IfOk result (λ v. length v.items ≡ length taken.now) }
-    ensures left { IfOk result (λ v. (k : ℕ) → k < length taken.now → get_or v.items k false
-        ≡ (get_or taken.now k false && get_or firsts.now (get_or alike.now k 0) false)) }
-{
-    let mut left = Vec::with_capacity(alloc, taken.len())?;
-    for (place, first) in alike.iter().enumerate() {
-        left.push(taken[place] && firsts[*first])?;
-    }
-    Ok(left)
 }

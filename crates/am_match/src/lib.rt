@@ -8,9 +8,9 @@
 mod asking;
 mod checking;
 mod column;
+mod holders;
 pub mod laws;
 mod matcher;
-mod places;
 mod printing;
 mod questions;
 mod reading;

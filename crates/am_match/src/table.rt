@@ -8,6 +8,7 @@ ghost use Rattle.am_match.specs.Meaning.{all_take};
 ghost use Rattle.am_match.specs.Tables.{IsTable, all_matchers, answer_of};
 
 use crate::column::{Column, ask};
+use crate::holders::holders_of;
 use crate::matcher::Matcher;
 use crate::questions::{Question, questions_of};
 use am_labels::LabelSet;
@@ -20,10 +21,11 @@ const OFTEN: usize = 16;
 
 /// For each of the lists of matchers, whether all of them take each of the label sets.
 ///
-/// The matchers of all lists are asked together, label by label. So the values of a label are looked up once. Where
-/// many matchers are about it, `=` and `!=` cost no more than the label sets that have their value, and a pattern is
-/// asked of each different value once. It is built at most once for each label that it is asked of. The call takes a
-/// byte for each list and label set.
+/// The matchers of all lists are asked together, label by label. The labels of each label set are gone over once. A
+/// matcher is then asked of those label sets alone that have its label, and once of the empty value for all others.
+/// Where many matchers are about a label, `=` and `!=` cost no more than the label sets that have their value, and a
+/// pattern is asked of each different value once. It is built at most once for each label that it is asked of, and not
+/// for a list that takes no label set any more. The call takes a byte for each list and label set.
 ///
 /// # Errors
 ///
@@ -76,13 +78,19 @@ fn ask_all(
     ensures misses { cache.new.misses ≤ cache.old.misses + length (patterns_of (map (λ q. q.1) questions.now)) }
     ensures failure { IfErr result (IsFailureAmong (map (λ q. q.1) questions.now) cache.old cache.new) }
 {
-    let mut column = Column::of(alloc, "", sets, false)?;
+    if questions.is_empty() {
+        return Ok(());
+    }
+    let held = holders_of(alloc, questions, sets)?;
+    let first = &questions[0];
+    let is_first_often = is_asked_often(questions, 0);
+    let mut column = Column::of(alloc, first.matcher.name(), &held, is_first_often)?;
     let mut last = None;
     for (number, question) in questions.iter().enumerate() {
         let name = question.matcher.name();
         if name != column.name {
-            let is_asked_often = is_asked_often(questions, number);
-            column = Column::of(alloc, name, sets, is_asked_often)?;
+            let is_often = is_asked_often(questions, number);
+            column = Column::of(alloc, name, &held, is_often)?;
             last = None;
         }
         let recurs = recurs(questions, number);

@@ -10,8 +10,7 @@ use Rattle.am_item.specs.declared.fault.Fault.TheVariants.{OutOfMemory, CountsEx
 use Rattle.am_item.specs.Key.{SilenceKey}
 use Rattle.am_item.specs.declared.item.Item.{Item}
 use Rattle.am_labels.specs.declared.Label.{Label}
-use Rattle.am_limit.specs.Books.{limits_of}
-use Rattle.am_limit.specs.declared.limits.Limits.{Limits}
+use Rattle.am_limit.specs.Books.{Book, limits_of}
 use Rattle.am_muting.specs.Failing.{HasUnanswered, patterns_muting}
 use Rattle.am_muting.specs.Muting.{muted_sets}
 use Rattle.am_tenant.specs.Names.{same}
@@ -24,7 +23,7 @@ use Rattle.am_node.specs.Retiring.{retired}
 use Rattle.am_node.specs.Ticking.{done_by, due_keys, handled, ticked}
 
 -- what an instance goes by at a moment, for each tenant, by the limits of all
-abbrev pub context_for : (instance incarnation moment : ℕ) → List (List ℕ × Limits) → List ℕ → Context
+abbrev pub context_for : (instance incarnation moment : ℕ) → Book → List ℕ → Context
 context_for instance incarnation moment limits t =
     record { instance = instance; incarnation = incarnation; moment = moment; limits = limits_of t limits }
 

@@ -1,14 +1,19 @@
 -- The command lines that the program takes, as clap describes a command, and what they ask for.
-use Rattle.std.specs.Prelude.{◌≡◌, ◌≢◌, ◌⊎◌, ℕ, Bool, ◌&&◌, ◌==◌, nat_le, if◌then◌else◌, true, List, [], ◌∷◌, Option, None, Some, option_and_then, option_map, codes, is_some, replicate, unwrap_or, ◌-◌, ◌^◌}
+use Rattle.std.specs.Prelude.{◌≡◌, ◌≢◌, ◌⊎◌, ℕ, Bool, ◌&&◌, ◌==◌, nat_le, if◌then◌else◌, false, true, List, [], ◌∷◌, Option, None, Some, option_and_then, option_map, codes, is_some, replicate, unwrap_or, ◌-◌, ◌^◌}
 use Rattle.std.specs.Str.{bytes_eq}
 use Rattle.std.specs.List.{slice_split}
 use Rattle.std.specs.Result.{result_ok}
 use Rattle.std.specs.Net.Grammar.{IsIpv4Text}
 use Rattle.std.specs.Net.Reader.{read_ipv4, whole_value}
 use Rattle.std.specs.declared.net.ipv4_addr.Ipv4Addr.{Ipv4Addr}
+use Rattle.am_limit.specs.Limits.{default_limits}
+use Rattle.am_limit.specs.declared.limits.Limits.{Limits}
+use Rattle.am_log.specs.declared.form.Form.{Form}
+use Rattle.am_log.specs.declared.form.Form.TheVariants.{Plain, Json}
 use Rattle.am_setup.specs.Setup.{Settings}
 use Rattle.clap.specs.Words.{App, Row, Rule, Text, IsAmong, fault_of, first_of, new_app, new_rule, subcommand_of, with_rule, with_subcommand}
 use Rattle.clap.specs.Kinds.{Kinds}
+use Rattle.clap.specs.declared.builder.action.ArgAction.TheVariants.{SetTrue}
 use Rattle.clap.specs.declared.error.kind.ErrorKind.{ErrorKind}
 use Rattle.clap.specs.declared.error.kind.ErrorKind.TheVariants.{DisplayHelp, DisplayVersion, OutOfMemory}
 use Rattle.hex.specs.Hex.{decode_sized}
@@ -18,7 +23,7 @@ use Rattle.am_scenario.specs.Number.{number_of}
 use Rattle.am_options.specs.declared.command_line.CommandLine.{CommandLine}
 use Rattle.am_options.specs.declared.command_line.Running.{Running}
 use Rattle.am_options.specs.declared.command_line.Serving.{Serving}
-use Rattle.am_options.specs.declared.command_line.CommandLine.TheVariants.{Run, Serve, Help, Bad}
+use Rattle.am_options.specs.declared.command_line.CommandLine.TheVariants.{Run, Serve, Check, Help, Bad}
 
 -- the option `--NAME VALUE`, which may be absent
 abbrev pub option : Text → Rule
@@ -32,13 +37,21 @@ option_or name value = record (new_rule name) {
   defaults = value ∷ [];
 }
 
+-- the option `--NAME`, which has no value
+abbrev pub flag : Text → Rule
+flag name = record (new_rule name) { long = Some name; action = Some SetTrue }
+
+-- a word that must be there
+abbrev pub operand : Text → Rule
+operand name = record (new_rule name) { value_names = 1; required = true }
+
 -- `amring`, which has a version and wants a subcommand
 abbrev pub top : App
 top = record (new_app (codes "amring")) {
   top = record (new_app (codes "amring")).top { subcommand_required = true; has_version = true };
 }
 
--- a subcommand with the options of all of them
+-- a subcommand over a world, with the options of both of them
 abbrev pub app_named : Text → App
 app_named name =
     with_rule (with_rule (with_rule (with_rule (with_rule (new_app name) (option_or (codes "cache") (codes "512"))) (option (codes "key")))
@@ -46,13 +59,19 @@ app_named name =
 
 abbrev pub serve : App
 serve =
-    with_rule (with_rule (with_rule (with_rule (app_named (codes "serve"))
+    with_rule (with_rule (with_rule (with_rule (with_rule (with_rule (with_rule (app_named (codes "serve"))
     (option_or (codes "address") (codes "127.0.0.1"))) (option (codes "port"))) (option (codes "admin")))
-    (option (codes "count"))
+    (option (codes "count"))) (option (codes "limits"))) (option_or (codes "log") (codes "plain")))
+    (flag (codes "metrics-by-tenant"))
 
--- `amring run` and `amring serve`
+-- `check` wants a file
+abbrev pub check : App
+check = with_rule (new_app (codes "check")) (operand (codes "file"))
+
+-- `amring run`, `amring serve` and `amring check`
 abbrev pub command_line : App
-command_line = with_subcommand (with_subcommand top (app_named (codes "run")).top) serve.top
+command_line =
+    with_subcommand (with_subcommand (with_subcommand top (app_named (codes "run")).top) serve.top) check.top
 
 -- the kinds of what is wrong with the words; none where clap takes them
 abbrev pub kinds : List Text → Kinds
@@ -120,7 +139,7 @@ settings_in rows = do
   start ← given_in (codes "start") (2 ^ 32 - 1) rows
   ring ← ring_in rows
   Some (record {
-    origin = record { service_key = key; ring = ring; first = unwrap_or start 1 };
+    origin = record { service_key = key; ring = ring; first = unwrap_or start 1; limits = default_limits };
     cache = cache;
   })
 
@@ -154,8 +173,37 @@ address_in rows = do
   text ← first_of (codes "address") rows
   address_of text
 
+-- the limits of a tenant that is served, until others are set for it: the default ones, and so many bytes of its alerts
+abbrev pub served_limits : Limits
+served_limits = record default_limits { alert_bytes = Some 67_108_864 }
+
+-- the file of tenants' limits that the options say; none where the option is absent
+abbrev pub limits_in : List Row → Option Text
+limits_in rows = first_of (codes "limits") rows
+
+-- the form of lines that has this name
+abbrev pub log_form_of : Text → Option Form
+log_form_of name =
+    if bytes_eq name (codes "plain") then Some Plain else (
+    if bytes_eq name (codes "json") then Some Json else None)
+
+-- .. that the options say
+abbrev pub log_in : List Row → Option Form
+log_in rows = do
+  name ← first_of (codes "log") rows
+  log_form_of name
+
+-- whether an option without a value is given, which clap tells as the text `true`
+abbrev pub is_true : Option Text → Bool
+is_true None = false
+is_true (Some text) = bytes_eq text (codes "true")
+
+abbrev pub has_flag : Text → List Row → Bool
+has_flag name rows = is_true (first_of name rows)
+
 -- how the options say to serve: by these settings, whose first incarnation is given or not, over these stores, at an
--- address and a port, with a port or none for those who run it, so many connections
+-- address and a port, with a port or none for those who run it, so many connections, by the limits of a file or none,
+-- with lines of a form, and with what is counted by tenant or not
 abbrev pub serving_in : List Row → Option Serving
 serving_in rows = do
   setup ← settings_in rows
@@ -163,20 +211,32 @@ serving_in rows = do
   port ← number_in (codes "port") 1 65535 rows
   admin ← given_in (codes "admin") 65535 rows
   count ← given_in (codes "count") (2 ^ 64 - 1) rows
+  log ← log_in rows
   Some (record {
-    setup = setup;
+    setup = record setup { origin = record (setup.origin) { limits = served_limits } };
     has_start = has_start rows;
     store = store_in rows;
     address = address;
     port = port;
     admin = admin;
     count = count;
+    limits = limits_in rows;
+    log = log;
+    by_tenant = has_flag (codes "metrics-by-tenant") rows;
   })
+
+-- what a subcommand over a world asks for, by its name and its options
+abbrev pub world_asked : Text → List Row → Option CommandLine
+world_asked name rows =
+    if bytes_eq name (codes "serve") then option_map Serve (serving_in rows) else option_map Run (running_in rows)
+
+-- the file that the options say
+abbrev pub file_in : List Row → Option Text
+file_in rows = first_of (codes "file") rows
 
 -- what a subcommand with these options asks for
 abbrev pub asked_by : Text × List Row → Option CommandLine
-asked_by sub =
-    if bytes_eq sub.0 (codes "serve") then option_map Serve (serving_in sub.1) else option_map Run (running_in sub.1)
+asked_by sub = if bytes_eq sub.0 (codes "check") then option_map Check (file_in sub.1) else world_asked sub.0 sub.1
 
 -- .. the one that was entered
 abbrev pub asked_of : Option (Text × List Row) → Option CommandLine
@@ -190,6 +250,7 @@ IsMistake kind = (kind ≢ DisplayHelp) × (kind ≢ DisplayVersion) × (kind �
 abbrev pub Tells : ErrorKind → CommandLine → Type 0
 Tells kind (Run running) = ⊥
 Tells kind (Serve serving) = ⊥
+Tells kind (Check file) = ⊥
 Tells kind (Help text) = (kind ≡ DisplayHelp) ⊎ (kind ≡ DisplayVersion)
 Tells kind (Bad text) = IsMistake kind
 
@@ -198,6 +259,7 @@ Tells kind (Bad text) = IsMistake kind
 abbrev pub Asks : List Text → CommandLine → Type 0
 Asks words (Run running) = (kinds words ≡ []) × (asked_of (subcommand_of command_line words) ≡ Some (Run running))
 Asks words (Serve serving) = (kinds words ≡ []) × (asked_of (subcommand_of command_line words) ≡ Some (Serve serving))
+Asks words (Check file) = (kinds words ≡ []) × (asked_of (subcommand_of command_line words) ≡ Some (Check file))
 Asks words (Help text) = IsAmong DisplayHelp (kinds words) ⊎ IsAmong DisplayVersion (kinds words)
 Asks words (Bad text) = ((kind : ErrorKind) × IsAmong kind (kinds words) × IsMistake kind)
     ⊎ ((kinds words ≡ []) × (asked_of (subcommand_of command_line words) ≡ None))

@@ -1,19 +1,21 @@
 //! What the words of a command line ask for, by the forms that `clap` reads.
 ghost use Rattle.std.specs.Prelude.{◌≡◌, IfOk, MatchResult, None, Some, codes, false, map, option_map, true};
-ghost use Rattle.clap.specs.Words.{app_of, found_of, has_subcommand, kind_of, rows_of, rule_of};
+ghost use Rattle.clap.specs.Words.{app_of, first_of, found_of, has_subcommand, kind_of, rows_of, rule_of};
 ghost use Rattle.clap.specs.Simple.{subcommand_rows_of};
 ghost use Rattle.clap.specs.declared.builder.command.Command.TheViews.{out-Command as fields_of};
-ghost use Rattle.am_options.specs.CommandLine.{Asks, Spells, Tells, address_in, address_of, app_named, asked_by, asked_of, command_line, given_in, has_start, instances_in, instances_of, key_in, number_in, number_within, option, option_or, running_in, serve, serving_in, settings_in, store_in};
+ghost use Rattle.am_options.specs.CommandLine.{Asks, Spells, Tells, address_in, address_of, app_named, asked_by, asked_of, check, command_line, flag, given_in, has_flag, has_start, instances_in, instances_of, key_in, limits_in, log_form_of, log_in, number_in, number_within, operand, option, option_or, running_in, serve, served_limits, serving_in, settings_in, store_in, world_asked};
 
+use crate::bad_option::{BadOption, MOST_CACHED, MOST_PORT, MOST_START};
+use am_limit::Limits;
+use am_log::Form;
 use am_scenario::number;
 use am_setup::Setup;
 use am_text::Text;
 use clap::error::ErrorKind;
-use clap::{Arg, ArgMatches, Command, Error};
+use clap::{Arg, ArgAction, ArgMatches, Command, Error};
 use hex::FromHex;
 use std::alloc::{AllocError, Global};
 use std::convert::AsStr;
-use std::fmt;
 use std::net::Ipv4Addr;
 
 /// What `--version` prints.
@@ -35,22 +37,24 @@ const PORT_HELP: &str = "The port to listen on, 1 to 65535";
 
 const ADMIN_HELP: &str = "The port on 127.0.0.1 that shows and changes the ring, 1 to 65535";
 
+const LIMITS_HELP: &str = "The file of tenants' limits, read again as it serves";
+
+const LOG_HELP: &str = "How lines are written on standard error, plain or json";
+
+const BY_TENANT_HELP: &str = "Shows what is counted by tenant too";
+
+const FILE_HELP: &str = "The configuration: its text, or the document to be posted";
+
 const COUNT_HELP: &str = "Ends once so many connections were answered";
-
-/// The most patterns that an instance may keep built.
-const MOST_CACHED: u64 = 65_536;
-
-/// The greatest port.
-const MOST_PORT: u64 = 65_535;
 
 /// The greatest number of an instance.
 const MOST_INSTANCE: u64 = 8;
 
-/// The greatest incarnation.
-const MOST_START: u64 = 4_294_967_295;
-
 /// The first incarnation where none is given.
 const START: u64 = 1;
+
+/// How many bytes the alerts of a tenant that is served take together at most, until another limit is set for it.
+const ALERT_BYTES: u64 = 67_108_864;
 
 /// How the program plays a scenario.
 #[derive(Drop)]
@@ -77,6 +81,12 @@ pub struct Serving {
     pub admin: Option<u16>,
     /// How many connections are answered, at least 1; any number where none is given.
     pub count: Option<u64>,
+    /// The file of tenants' limits; none where it isn't given.
+    pub limits: Option<Text>,
+    /// How it writes its lines on standard error.
+    pub log: Form,
+    /// Whether what is counted is shown by tenant too.
+    pub by_tenant: bool,
 }
 
 /// What a command line asks for.
@@ -86,41 +96,12 @@ pub enum CommandLine {
     Run(Running),
     /// To serve connections.
     Serve(Serving),
+    /// To judge the configuration in the file at this path.
+    Check(Text),
     /// To see the help or the version, which is this text.
     Help(String),
     /// Nothing that the program does; the text says what is wrong.
     Bad(String),
-}
-
-/// An option whose value isn't one that it takes.
-#[derive(Clone, Copy, PartialEq, Eq)]
-enum BadOption {
-    Cache,
-    Key,
-    Ring,
-    Start,
-    Address,
-    Port,
-    Admin,
-    Count,
-}
-
-impl fmt::Display for BadOption {
-    fn fmt<W: fmt::Write>(&self, f: &mut fmt::Formatter<W>) -> fmt::Result {
-        match self {
-            BadOption::Cache => write!(f, "--cache takes a number from 1 to {MOST_CACHED}"),
-            BadOption::Key => write!(f, "--key takes 64 hexadecimal digits"),
-            BadOption::Ring => write!(
-                f,
-                "--ring takes 3 to 8 different numbers of 1 to 8, with commas between"
-            ),
-            BadOption::Start => write!(f, "--start takes a number from 1 to {MOST_START}"),
-            BadOption::Address => write!(f, "--address takes an IPv4 address, as 127.0.0.1"),
-            BadOption::Port => write!(f, "serve needs --port, a number from 1 to 65535"),
-            BadOption::Admin => write!(f, "--admin takes a number from 1 to {MOST_PORT}"),
-            BadOption::Count => write!(f, "--count takes a number from 1 on"),
-        }
-    }
 }
 
 /// What the words of a command line ask for, of which the first is the program's own name.
@@ -142,12 +123,14 @@ fn form<'a>(alloc: Global) -> Result<Command<'a>, AllocError>
 {
     let run = form_of(alloc, "run", "Plays the scenario on standard input")?;
     let serve = serve_form(alloc)?;
+    let check = check_form(alloc)?;
     Command::new(alloc, "amring")
         .about("A multi-tenant Alertmanager")
         .version(VERSION)
         .subcommand_required(true)
         .subcommand(run)?
-        .subcommand(serve)
+        .subcommand(serve)?
+        .subcommand(check)
 }
 
 /// The form of `serve`.
@@ -159,10 +142,34 @@ fn serve_form<'a>(alloc: Global) -> Result<Command<'a>, AllocError>
         .arg(option_or(alloc, "address", "A", "127.0.0.1", ADDRESS_HELP))?
         .arg(option(alloc, "port", "P", PORT_HELP))?
         .arg(option(alloc, "admin", "P", ADMIN_HELP))?
-        .arg(option(alloc, "count", "N", COUNT_HELP))
+        .arg(option(alloc, "count", "N", COUNT_HELP))?
+        .arg(option(alloc, "limits", "FILE", LIMITS_HELP))?
+        .arg(option_or(alloc, "log", "FORM", "plain", LOG_HELP))?
+        .arg(flag(alloc, "metrics-by-tenant", BY_TENANT_HELP))
 }
 
-/// The form of a subcommand with the options of all of them.
+/// The form of `check`.
+fn check_form<'a>(alloc: Global) -> Result<Command<'a>, AllocError>
+    ensures app { IfOk result (λ form. app_of form ≡ check) }
+    ensures local { IfOk result (λ form. (fields_of form).has_globals ≡ false) }
+{
+    Command::new(alloc, "check")
+        .about("Says whether a configuration would be accepted")
+        .arg(operand(alloc, "file", "FILE", FILE_HELP))
+}
+
+/// A word that must be there.
+fn operand<'a>(alloc: Global, name: &'a str, value: &'a str, help: &'a str) -> Arg<'a>
+    ensures rule { rule_of result ≡ operand name.entry.now }
+    ensures local { result.global ≡ false }
+{
+    Arg::new(alloc, name)
+        .value_name(value)
+        .help(help)
+        .required(true)
+}
+
+/// The form of a subcommand over a world, with the options of both of them.
 fn form_of<'a>(alloc: Global, name: &'a str, about: &'a str) -> Result<Command<'a>, AllocError>
     ensures app { IfOk result (λ form. app_of form ≡ app_named name.entry.now) }
     ensures local { IfOk result (λ form. (fields_of form).has_globals ≡ false) }
@@ -201,6 +208,17 @@ fn option_or<'a>(
     option(alloc, name, value, help).default_value(absent)
 }
 
+/// An option without a value.
+fn flag<'a>(alloc: Global, name: &'a str, help: &'a str) -> Arg<'a>
+    ensures rule { rule_of result ≡ flag name.entry.now }
+    ensures local { result.global ≡ false }
+{
+    Arg::new(alloc, name)
+        .long(name)
+        .action(ArgAction::SetTrue)
+        .help(help)
+}
+
 /// What the subcommand of a command line asks for.
 fn asked(
     alloc: Global,
@@ -212,21 +230,39 @@ fn asked(
         (λ _. asked_of (subcommand_rows_of matches.now) ≡ None)) }
 {
     let (name, options) = matches.subcommand().unwrap();
+    if name == "check" {
+        let file = text_in(alloc, options, "file")?;
+        return Ok(file.map(CommandLine::Check).ok_or(BadOption::File));
+    }
+    world_asked(alloc, name, options)
+}
+
+/// What a subcommand over a world asks for, by its name and its options.
+fn world_asked(
+    alloc: Global,
+    name: &str,
+    options: &ArgMatches<'_>,
+) -> Result<Result<CommandLine, BadOption>, AllocError>
+    ensures { IfOk result (λ asked. MatchResult asked
+        (λ line. world_asked name.now (rows_of (found_of options.now)) ≡ Some line)
+        (λ _. world_asked name.now (rows_of (found_of options.now)) ≡ None)) }
+{
     let instances = instances_in(alloc, options)?;
-    let store = store_in(alloc, options)?;
+    let store = text_in(alloc, options, "store")?;
     if name == "serve" {
-        Ok(serving_in(options, instances, store).map(CommandLine::Serve))
+        let limits = text_in(alloc, options, "limits")?;
+        Ok(serving_in(options, instances, store, limits).map(CommandLine::Serve))
     } else {
         Ok(running_in(options, instances, store).map(CommandLine::Run))
     }
 }
 
-/// The folder that the options say; none where they say none.
-fn store_in(alloc: Global, matches: &ArgMatches<'_>) -> Result<Option<Text>, AllocError>
-    ensures { IfOk result (λ store. store ≡ store_in (rows_of (found_of matches.now))) }
+/// The text of an option or a word; none where it is absent.
+fn text_in(alloc: Global, matches: &ArgMatches<'_>, name: &str) -> Result<Option<Text>, AllocError>
+    ensures { IfOk result (λ text. text ≡ first_of name.now (rows_of (found_of matches.now))) }
 {
-    match matches.get_str("store") {
-        Some(folder) => Ok(Some(Text::read(alloc, folder)?)),
+    match matches.get_str(name) {
+        Some(text) => Ok(Some(Text::read(alloc, text)?)),
         None => Ok(None),
     }
 }
@@ -274,14 +310,17 @@ fn running_in(
     Ok(Running { setup, store })
 }
 
-/// How the options of `serve` say to serve, with these instances named for the ring, over the stores of this folder.
+/// How the options of `serve` say to serve, with these instances named for the ring, over the stores of this folder, by
+/// the limits of this file.
 fn serving_in(
     serve: &ArgMatches<'_>,
     instances: Option<Vec<u8>>,
     store: Option<Text>,
+    limits: Option<Text>,
 ) -> Result<Serving, BadOption>
     requires instances { option_map (λ v. v.items) instances ≡ instances_in (rows_of (found_of serve.now)) }
     requires store { store ≡ store_in (rows_of (found_of serve.now)) }
+    requires limits { limits ≡ limits_in (rows_of (found_of serve.now)) }
     ensures { MatchResult result
         (λ serving. serving_in (rows_of (found_of serve.now)) ≡ Some serving)
         (λ _. serving_in (rows_of (found_of serve.now)) ≡ None) }
@@ -291,15 +330,28 @@ fn serving_in(
     let port = number_in(serve, "port", 1, MOST_PORT).ok_or(BadOption::Port)?;
     let admin = given_in(serve, "admin", MOST_PORT).ok_or(BadOption::Admin)?;
     let count = given_in(serve, "count", u64::MAX).ok_or(BadOption::Count)?;
+    let log = log_in(serve).ok_or(BadOption::Log)?;
     Ok(Serving {
-        setup,
+        setup: setup.with_limits(served_limits()),
         has_start: has_start(serve),
         store,
         address,
         port: port as u16,
         admin: admin.map(|port| port as u16),
         count,
+        limits,
+        log,
+        by_tenant: has_flag(serve, "metrics-by-tenant"),
     })
+}
+
+/// The limits of a tenant that is served, until others are set for it.
+fn served_limits() -> Limits
+    ensures { result ≡ served_limits }
+{
+    let mut limits = Limits::default();
+    limits.alert_bytes = Some(ALERT_BYTES);
+    limits
 }
 
 /// Whether the options say a first incarnation.
@@ -309,6 +361,35 @@ fn has_start(serve: &ArgMatches<'_>) -> bool
     match serve.get_str("start") {
         Some(_) => true,
         None => false,
+    }
+}
+
+/// Whether an option without a value is given.
+fn has_flag(matches: &ArgMatches<'_>, name: &str) -> bool
+    ensures { result ≡ has_flag name.now (rows_of (found_of matches.now)) }
+{
+    match matches.get_str(name) {
+        // `clap` writes it so where the option is given.
+        Some(text) => text == "true",
+        None => false,
+    }
+}
+
+/// How the options say to write lines.
+fn log_in(serve: &ArgMatches<'_>) -> Option<Form>
+    ensures { result ≡ log_in (rows_of (found_of serve.now)) }
+{
+    log_form_of(serve.get_str("log")?)
+}
+
+/// The form of lines that has this name.
+fn log_form_of(name: &str) -> Option<Form>
+    ensures { result ≡ log_form_of name.now }
+{
+    match name {
+        "plain" => Some(Form::Plain),
+        "json" => Some(Form::Json),
+        _ => None,
     }
 }
 

@@ -5,5 +5,6 @@ mod changing;
 mod mailing;
 pub mod play;
 pub mod stops;
+pub mod telling;
 
 pub use am_world::{OpenRefusal, World};

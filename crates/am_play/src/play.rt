@@ -17,6 +17,7 @@ ghost use Rattle.am_stream.specs.Writing.{AppendsPart};
 use crate::stops::Stops;
 use am_event::{Event, Output};
 use am_http::ConnectionId;
+use am_log::Log;
 use am_report::ending::{Played, faults_line};
 use am_report::{Connections, Mail, Report, Try, event_of, instance_of, is_answered, name_said};
 use am_rows::Rows;
@@ -143,7 +144,7 @@ impl<R: Rows + Drop> Player<R> {
         ensures causes { IfErr result (IsFailureOf (λ error. K.fails_with error ⊎ E.fails_with error)) }
     {
         let lines = self.play_line(alloc, link, command)?;
-        stops.tell(alloc, &self.world, errors)?;
+        stops.tell(alloc, &self.world, Log::plain(), errors)?;
         writer.write_whole(lines.as_bytes())?;
         Ok(())
     }

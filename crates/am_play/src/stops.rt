@@ -1,9 +1,12 @@
-//! What is told on standard error of instances that stopped.
+//! What is told of instances that stopped.
 ghost use Rattle.std.specs.Prelude.{◌<◌, IfErr};
 ghost use Rattle.am_stream.specs.Streams.{IsFailureOf};
 
+use crate::telling::tell;
+use am_log::{Entry, Log};
 use am_rows::Rows;
 use am_stream::{Sink, StreamFailure};
+use am_text::Text;
 use am_world::World;
 use std::alloc::Global;
 
@@ -19,7 +22,7 @@ impl Stops {
         Stops { told: [false; 8] }
     }
 
-    /// Tells of each instance that stopped, or is up again, since it was last told.
+    /// Tells of each instance that stopped, or is up again, since it was last told: a line each.
     ///
     /// # Errors
     /// Out of memory, or one of the sink's: what wasn't told whole counts as untold.
@@ -27,12 +30,13 @@ impl Stops {
         &mut self,
         alloc: Global,
         world: &World<R>,
+        log: Log,
         errors: &mut E,
     ) -> Result<(), StreamFailure>
         ensures causes { IfErr result (IsFailureOf E.fails_with) }
     {
         for place in 0..8u8 {
-            self.tell_of(alloc, world, place, errors)?;
+            self.tell_of(alloc, world, place, log, errors)?;
         }
         Ok(())
     }
@@ -43,6 +47,7 @@ impl Stops {
         alloc: Global,
         world: &World<R>,
         place: u8,
+        log: Log,
         errors: &mut E,
     ) -> Result<(), StreamFailure>
         requires { place < 8 }
@@ -50,19 +55,16 @@ impl Stops {
     {
         let number = place + 1;
         let is_told = self.told[usize::from(place)];
-        match world.cause(number) {
+        let entry = match world.cause(number) {
             Some(fault) if !is_told => {
-                let line = format!(in alloc; "instance {number} stopped: {fault}\n")?;
-                errors.write_whole(line.as_bytes())?;
-                self.told[usize::from(place)] = true;
+                let cause = Text::from_string(format!(in alloc; "{fault}")?);
+                Entry::InstanceStopped(number, cause)
             }
-            None if is_told && world.is_up(number) => {
-                let line = format!(in alloc; "instance {number} is up again\n")?;
-                errors.write_whole(line.as_bytes())?;
-                self.told[usize::from(place)] = false;
-            }
-            _ => {}
-        }
+            None if is_told && world.is_up(number) => Entry::InstanceUp(number),
+            _ => return Ok(()),
+        };
+        tell(alloc, log, &entry, errors)?;
+        self.told[usize::from(place)] = !is_told;
         Ok(())
     }
 }

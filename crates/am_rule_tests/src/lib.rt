@@ -5,6 +5,8 @@
 #[cfg(test)]
 mod config;
 #[cfg(test)]
+mod judging;
+#[cfg(test)]
 mod labels;
 #[cfg(test)]
 mod matchers;

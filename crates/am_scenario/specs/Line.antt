@@ -114,6 +114,17 @@ number_then s = do
 unfoldable pub tenant_named : List ℕ → Option (List ℕ)
 tenant_named s = if is_tenant_name s then Some s else None
 
+-- a number, and where a space stands behind it, another
+abbrev pub numbers_by : List ℕ → Option (List ℕ × List ℕ) → Option (ℕ × Option ℕ)
+numbers_by s None = option_map (λ n. (n, None)) (number_of s)
+numbers_by s (Some p) = do
+  n ← number_of p.0
+  m ← number_of p.1
+  Some (n, Some m)
+
+unfoldable pub last_numbers : List ℕ → Option (ℕ × Option ℕ)
+last_numbers s = numbers_by s (split s)
+
 -- what stands behind `limits `
 unfoldable pub limits_of : List ℕ → Option Command
 limits_of s = do
@@ -123,8 +134,15 @@ limits_of s = do
   b ← number_then a.1
   c ← number_then b.1
   d ← number_then c.1
-  notices ← number_of d.1
-  Some (Limits tenant (record { alerts = a.0; silences = b.0; configuration = c.0; silence = d.0; notices = notices }))
+  last ← last_numbers d.1
+  Some (Limits tenant (record {
+    alerts = a.0;
+    silences = b.0;
+    configuration = c.0;
+    silence = d.0;
+    notices = last.0;
+    alert_bytes = last.1;
+  }))
 
 -- what stands behind `drop `: a tenant, the kind of a message, its sender and its receiver
 unfoldable pub drop_of : List ℕ → Option Command

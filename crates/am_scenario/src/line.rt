@@ -5,7 +5,7 @@ ghost use Rattle.am_scenario.specs.Number.{number_of};
 ghost use Rattle.am_scenario.specs.Line.{Reads, split, both, word_of, word_then, string_of, number_then, tenant_named};
 ghost use Rattle.am_scenario.specs.Line.{command_of, text_command, lone_command, named_command, at_of, open_of, bytes_of};
 ghost use Rattle.am_scenario.specs.Line.{call_of, request_of, target_of, limits_of, drop_of, deliver_of, hook_of};
-ghost use Rattle.am_scenario.specs.Line.{status_in, learn_of, force_of, change_of, change_at};
+ghost use Rattle.am_scenario.specs.Line.{last_numbers, status_in, learn_of, force_of, change_of, change_at};
 
 use crate::command::{ClusterChange, Command, Request, SaidName, Way};
 use crate::numbers::number;
@@ -150,7 +150,8 @@ fn read_call(alloc: Global, rest: &str) -> Result<Command, LineFault>
     })
 }
 
-/// A tenant, and its limits: alerts, silences, bytes of a configuration and of a silence, notices in a minute.
+/// A tenant, and its limits: alerts, silences, bytes of a configuration and of a silence, notices in a minute, and the
+/// bytes of its alerts together, where these are limited.
 #[tactic(auto, unfolding(crate::specs::Line::limits_of))]
 fn read_limits(rest: &str) -> Result<Command, LineFault>
     ensures { Reads (λ c. c) result (limits_of rest.now) }
@@ -161,13 +162,14 @@ fn read_limits(rest: &str) -> Result<Command, LineFault>
     let (silences, rest) = number_then(rest)?;
     let (configuration, rest) = number_then(rest)?;
     let (silence, rest) = number_then(rest)?;
-    let notices = read_number(rest)?;
+    let (notices, alert_bytes) = last_numbers(rest)?;
     let limits = Limits {
         alerts,
         silences,
         configuration,
         silence,
         notices,
+        alert_bytes,
     };
     Ok(Command::Limits { tenant, limits })
 }
@@ -371,6 +373,21 @@ fn number_then(text: &str) -> Result<(u64, &str), LineFault>
     let (word, rest) = word_then(text)?;
     let number = read_number(word)?;
     Ok((number, rest))
+}
+
+/// A number alone, or a number, a space and another one.
+#[tactic(auto, unfolding(crate::specs::Line::last_numbers))]
+fn last_numbers(text: &str) -> Result<(u64, Option<u64>), LineFault>
+    ensures { Reads (λ p. p) result (last_numbers text.now) }
+{
+    match split(text) {
+        None => Ok((read_number(text)?, None)),
+        Some((first, second)) => {
+            let first = read_number(first)?;
+            let second = read_number(second)?;
+            Ok((first, Some(second)))
+        }
+    }
 }
 
 /// A number.

@@ -84,6 +84,13 @@ impl<S: Dialed, N: Drop> Calls<S, N> {
         self.calls.len() >= self.limit
     }
 
+    /// How many bytes the requests hold that aren't sent whole: each the whole, until its last byte was sent.
+    pub fn request_bytes(&self) -> u128
+        ensures { result ≡ request_bytes_in self.now.calls.slots }
+    {
+        self.asking
+    }
+
     /// Whether the requests that aren't sent whole hold too much: over 256 MiB.
     pub fn is_laden(&self) -> bool
         ensures { IsTrue result ↔ (268435456 < request_bytes_in self.now.calls.slots) }

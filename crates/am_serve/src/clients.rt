@@ -93,6 +93,13 @@ impl<S: Socket> Clients<S> {
         self.clients.len() >= self.limit
     }
 
+    /// How many bytes the replies hold that are under way: each the whole, until its last byte was taken.
+    pub fn reply_bytes(&self) -> u128
+        ensures { result ≡ reply_bytes_in self.now.clients.slots }
+    {
+        self.replying
+    }
+
     /// How many connections were opened in the host: the next one has this number.
     pub fn opened(&self) -> u64
         ensures { result ≡ self.now.opened }

@@ -3,6 +3,7 @@
 use crate::service::{Notice, Service};
 use crate::stream::Stream;
 use am_serve::{Calls, Clients, Progress, Turn};
+use am_tally::{Load, Parting, Partings};
 use am_url::WebhookUrl;
 use mio::Token;
 use std::alloc::{AllocError, Global};
@@ -30,6 +31,8 @@ pub struct Hall<'s, V: Service> {
     /// The clients that wait for room until the next sweep.
     crowded: Vec<Token>,
     answered: u64,
+    /// Who was let go without the whole reply.
+    partings: Partings,
     /// How many connections are to be answered, where that is bounded.
     count: Option<u64>,
     buffer: [u8; 4096],
@@ -49,6 +52,7 @@ impl<'s, V: Service> Hall<'s, V> {
             unfinished: Vec::new(alloc),
             crowded: Vec::new(alloc),
             answered: 0,
+            partings: Partings::new(),
             count,
             buffer: [0; 4096],
         })
@@ -64,6 +68,18 @@ impl<'s, V: Service> Hall<'s, V> {
 
     pub fn calls(&self) -> usize {
         self.calls.len()
+    }
+
+    /// What is open and held, and who was let go.
+    pub fn load(&self) -> Load {
+        Load {
+            open: self.clients.len(),
+            came: self.clients.opened(),
+            calls: self.calls.len(),
+            reply_bytes: in_bytes(self.clients.reply_bytes()),
+            call_bytes: in_bytes(self.calls.request_bytes()),
+            partings: self.partings,
+        }
     }
 
     pub fn is_done(&self) -> bool {
@@ -129,16 +145,33 @@ impl<'s, V: Service> Hall<'s, V> {
             let Some((connection, reply)) = self.service.next_reply() else {
                 break;
             };
-            if let Some(key) = self.clients.give(connection, reply, now) {
+            let before = self.clients.len();
+            let given = self.clients.give(connection, reply, now);
+            self.count_unread(before);
+            if let Some(key) = given {
                 self.serve(key, now)?;
             }
         }
         Ok(())
     }
 
+    /// Counts those who were let go for what the replies hold, where there were so many clients before.
+    fn count_unread(&mut self, before: usize) {
+        let unread = before.saturating_sub(self.clients.len());
+        self.partings.count(Parting::Unread, unread as u64);
+    }
+
     /// Lets go of a client whose request isn't whole, where another waits for its place.
     pub fn make_place(&mut self, now: Instant) -> bool {
-        self.clients.make_place(self.service, now)
+        let is_made = self.clients.make_place(self.service, now);
+        if is_made {
+            self.count_parting(Parting::Crowded);
+        }
+        is_made
+    }
+
+    fn count_parting(&mut self, parting: Parting) {
+        self.partings.count(parting, 1);
     }
 
     /// Takes a client in, which was registered under the next client's token, and gives it its first turn.
@@ -148,7 +181,10 @@ impl<'s, V: Service> Hall<'s, V> {
         }
         match self.clients.add(stream, self.service, now) {
             Some(key) => self.serve(key, now),
-            None => Ok(()),
+            None => {
+                self.count_parting(Parting::Refused);
+                Ok(())
+            }
         }
     }
 
@@ -170,25 +206,42 @@ impl<'s, V: Service> Hall<'s, V> {
 
     /// Gives a client its turn, unless as many were answered as were asked for.
     fn serve(&mut self, key: usize, now: Instant) -> Result<(), AllocError> {
-        if self.is_done() || self.clients.check(key, self.service) {
+        if self.is_done() {
             return Ok(());
         }
-        match self.clients.turn(key, self.service, now, &mut self.buffer) {
-            Some(Turn::More) => self.keep(Token(key)),
-            Some(Turn::Drains) => {
-                self.count_answer();
-                self.keep(Token(key))
-            }
-            Some(Turn::Answered) => {
-                self.count_answer();
-                Ok(())
-            }
-            Some(Turn::Crowded) => {
-                self.crowded.push(Token(key))?;
-                Ok(())
-            }
-            Some(Turn::Waits | Turn::Drained | Turn::Lost | Turn::Gone) | None => Ok(()),
+        if self.clients.check(key, self.service) {
+            self.count_parting(Parting::Reset);
+            return Ok(());
         }
+        match self.turn(key, now) {
+            Some(turn) => self.follow(key, turn),
+            None => Ok(()),
+        }
+    }
+
+    /// A client's turn, of which is counted who was let go for what the replies hold.
+    fn turn(&mut self, key: usize, now: Instant) -> Option<Turn> {
+        let before = self.clients.len();
+        let turn = self.clients.turn(key, self.service, now, &mut self.buffer)?;
+        self.count_unread(before.saturating_sub(usize::from(turn.lets_go())));
+        Some(turn)
+    }
+
+    /// What a client's turn came to.
+    fn follow(&mut self, key: usize, turn: Turn) -> Result<(), AllocError> {
+        match turn {
+            Turn::More => self.keep(Token(key))?,
+            Turn::Drains => {
+                self.count_answer();
+                self.keep(Token(key))?;
+            }
+            Turn::Answered => self.count_answer(),
+            Turn::Crowded => self.crowded.push(Token(key))?,
+            Turn::Lost => self.count_parting(Parting::Lost),
+            Turn::Gone => self.count_parting(Parting::Dropped),
+            Turn::Waits | Turn::Drained => {}
+        }
+        Ok(())
     }
 
     fn count_answer(&mut self) {
@@ -223,7 +276,9 @@ impl<'s, V: Service> Hall<'s, V> {
     /// Lets go of the clients and the calls that are late, and lets those that wait for room go on.
     pub fn sweep(&mut self, now: Instant) -> Result<(), AllocError> {
         for key in 0..self.clients.capacity() {
-            self.clients.judge(key, self.service, now);
+            if self.clients.judge(key, self.service, now) {
+                self.count_parting(Parting::Late);
+            }
         }
         self.sweep_calls(now)?;
         for token in mem::replace(&mut self.crowded, Vec::new(self.alloc)) {
@@ -249,6 +304,10 @@ impl<'s, V: Service> Hall<'s, V> {
             None => Err(io::ErrorKind::InvalidInput.into()),
         }
     }
+}
+
+fn in_bytes(sum: u128) -> u64 {
+    u64::try_from(sum).unwrap_or(u64::MAX)
 }
 
 fn token_of_call(key: usize) -> Token {

@@ -4,6 +4,7 @@ use crate::hall::{Hall, MOST_CALLS};
 use crate::service::{Notice, Service};
 use crate::stream::Stream;
 use am_serve::{ClockNews, SteadyClock};
+use am_tally::Load;
 use mio::net::{TcpListener, TcpStream};
 use mio::{Events, Interest, Poll, Token};
 use std::alloc::Global;
@@ -103,6 +104,11 @@ impl<'s, V: Service> Server<'s, V> {
     /// How many calls of webhooks are under way.
     pub fn calls(&self) -> usize {
         self.hall.calls()
+    }
+
+    /// What is open and held, and who was let go since the server was opened.
+    pub fn load(&self) -> Load {
+        self.hall.load()
     }
 
     /// Whether as many connections were answered as were asked for.

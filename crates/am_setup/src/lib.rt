@@ -3,8 +3,10 @@
 
 ghost use Rattle.std.specs.Prelude.{◌≡◌, ◌↔◌, ◌<◌, IsTrue, IsSome, IfSome};
 ghost use Rattle.am_ring.specs.Instances.{in_order, may_be_ring};
+ghost use Rattle.am_limit.specs.Limits.{default_limits};
 ghost use Rattle.am_setup.specs.Setup.{is_setup};
 
+use am_limit::Limits;
 use am_ring::Ring;
 use std::marker::Model;
 
@@ -15,6 +17,7 @@ pub struct Setup {
     ring: Ring,
     cache: u32,
     start: u32,
+    limits: Limits,
 }
 
 impl Model for Setup {
@@ -25,7 +28,7 @@ impl Model for Setup {
     ghost Value = { Settings };
 
     ghost view = { λ s. record {
-      origin = record { service_key = s.key; ring = s.ring.instances; first = s.start };
+      origin = record { service_key = s.key; ring = s.ring.instances; first = s.start; limits = s.limits };
       cache = s.cache;
     } };
 
@@ -36,11 +39,11 @@ impl Model for Setup {
 impl Setup {
     /// Settings out of the service key, the ring's instances (3 to 8 different numbers of 1 to 8, in any order), the
     /// capacity of an instance's cache of patterns (1 to 65,536) and the first incarnation (not 0). None where
-    /// one of them is out of its range.
+    /// one of them is out of its range. A tenant has the default limits until others are set for it.
     pub fn new(key: [u8; 32], ring: &[u8], cache: u32, start: u32) -> Option<Setup>
         ensures valid { IsSome result ↔ IsTrue (is_setup ring.now cache start) }
         ensures settings { IfSome result (λ setup. setup ≡ record {
-          origin = record { service_key = key; ring = in_order ring.now; first = start };
+          origin = record { service_key = key; ring = in_order ring.now; first = start; limits = default_limits };
           cache = cache;
         }) }
     {
@@ -53,6 +56,7 @@ impl Setup {
             ring,
             cache,
             start,
+            limits: Limits::default(),
         })
     }
 
@@ -65,6 +69,7 @@ impl Setup {
             key,
             ring,
             cache,
+            limits,
             ..
         } = self;
         Setup {
@@ -72,7 +77,35 @@ impl Setup {
             ring,
             cache,
             start,
+            limits,
         }
+    }
+
+    /// These settings with other limits of a tenant until others are set for it.
+    pub fn with_limits(self, limits: Limits) -> Setup
+        ensures { result ≡ record self { origin = record self.origin { limits = limits } } }
+    {
+        let Setup {
+            key,
+            ring,
+            cache,
+            start,
+            ..
+        } = self;
+        Setup {
+            key,
+            ring,
+            cache,
+            start,
+            limits,
+        }
+    }
+
+    /// The limits of a tenant until others are set for it.
+    pub fn limits(&self) -> Limits
+        ensures { result ≡ self.now.origin.limits }
+    {
+        self.limits
     }
 
     /// The first incarnation of every instance.

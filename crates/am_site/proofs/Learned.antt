@@ -5,7 +5,7 @@ use Rattle.std.specs.List.Sorted.{IsStrictlySortedBy}
 use Rattle.std.specs.Map.{keys_of}
 use Rattle.std.proofs.lemmas.Bool.{false≢true}
 use Rattle.std.proofs.lemmas.Bool.Decides.{nat_tests}
-use Rattle.am_cluster.specs.Here.{Here, is_replica_here, others}
+use Rattle.am_cluster.specs.Here.{Here, is_replica_here}
 use Rattle.am_cluster.specs.Local.{Local}
 use Rattle.am_cluster.specs.Operating.{replicas_changed}
 use Rattle.am_cluster.specs.Reactions.{Reaction, only_if, stays, ◌>>◌}

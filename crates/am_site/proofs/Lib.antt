@@ -20,6 +20,7 @@ pub mod InOrder
 pub mod Learned
 pub mod Leaving
 pub mod Lengths
+pub mod Limited
 pub mod Listed
 pub mod Merged
 pub mod Moving

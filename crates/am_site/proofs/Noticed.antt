@@ -55,7 +55,7 @@ module _ (here : Here) (d : Docket) (g : Settling) where
   -- ---- what is told
 
   abbrev counted : NodeLocal → NodeLocal
-  counted local = record local { noticed = asked here.limits.usual.notices here.moment local.noticed }
+  counted local = record local { noticed = asked here.limits.notices here.moment local.noticed }
 
   abbrev started : (b : Bool) → Notice → NodeLocal → ℕ → Reaction
   started b notice node n =
@@ -71,7 +71,7 @@ module _ (here : Here) (d : Docket) (g : Settling) where
 
   notified_lifted : (notice : Notice) → IsLifted here d g (told here (Notify notice)) (told_in_node (replica_here here) (Notify notice))
   unfolding notified
-  notified_lifted notice node n = started_lifted (has_room (with_limit node.noticed here.limits.usual.notices) here.moment) notice node n
+  notified_lifted notice node n = started_lifted (has_room (with_limit node.noticed here.limits.notices) here.moment) notice node n
 
   recorded_lifted : (key : EntryKey) (firing resolved : List (List Label)) (span : ℕ)
       → IsLifted here d g (recorded here key firing resolved span) (recorded_in_node (replica_here here) key firing resolved span)

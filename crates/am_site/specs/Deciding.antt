@@ -20,10 +20,15 @@ use Rattle.am_site.specs.Here.{here_of}
 use Rattle.am_site.specs.Locals.{local_of}
 use Rattle.am_site.specs.Reacting.{Reacts}
 use Rattle.am_site.specs.declared.here.Here.{Here as Given}
+use Rattle.am_site.specs.declared.limiting.SharedDecision.{SharedDecision}
 use Rattle.am_site.specs.declared.said.Said.{Said as Spoken}
 use Rattle.am_site.specs.declared.site.Site.{Site}
 
 -- ---- one decision
+
+-- what a decision says, without where it lies in memory
+abbrev pub shared_as : SharedDecision → Decision
+shared_as d = record { items = d.items.items; status = d.status; body = d.body; drawn = d.drawn }
 
 -- the decision on a request, where this list is held of its tenant and the instance has this
 abbrev pub decision_here : Given → Request → List Item → Local → Decision

@@ -39,11 +39,9 @@ impl Site {
         ensures order { OnOk result (IsInOrder (here_of here.now) self.new) }
         ensures node { self.new.node ≡ self.old.node }
     {
-        let held = self.node.held(here.tenant).items(alloc)?;
+        let held = self.node.held(here.tenant);
         let (tenant, moment) = (here.tenant, here.moment);
-        let again = self
-            .settling
-            .tick(alloc, tenant, to, moment, held.as_slice())?;
+        let again = self.settling.tick(alloc, tenant, to, moment, held)?;
         match again {
             Again::State(incarnation, pieces) => {
                 let receiver = Peer {

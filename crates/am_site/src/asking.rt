@@ -82,10 +82,8 @@ impl Site {
         if !self.is_settled(here) {
             return Ok(());
         }
-        let held = self.node.held(here.tenant).items(alloc)?;
-        let pieces = self
-            .settling
-            .asked(alloc, here.tenant, *asker, held.as_slice())?;
+        let held = self.node.held(here.tenant);
+        let pieces = self.settling.asked(alloc, here.tenant, *asker, held)?;
         self.send_pieces(alloc, here, asker, pieces.as_slice(), outbox)
     }
 }

@@ -2,7 +2,6 @@
 
 ghost use Rattle.std.specs.Prelude.{◌≡◌, ◌+◌, ◌<◌, ◌≤◌, ℕ, List, Some, IfErr, IfOk, OnOk, length, true};
 ghost use Rattle.am_alert.specs.Made.{counts_fit, greatest_count};
-ghost use Rattle.am_api.specs.Deciding.{decision_of};
 ghost use Rattle.am_cluster.specs.Operating.{carry_out, finish, stamp, wait_with};
 ghost use Rattle.am_cluster.specs.Reactions.{where_some};
 ghost use Rattle.am_item.specs.Best.{merged};
@@ -14,20 +13,21 @@ ghost use Rattle.am_quorum.specs.Operations.{operation_at};
 ghost use Rattle.am_quorum.specs.declared.operation.Operation.{Operation as Opened};
 ghost use Rattle.am_transfer.specs.Settling.{Settling};
 ghost use Rattle.am_site.specs.Deciding.{Answers, IsDecided, StopsAnswering, StopsDeciding, asked_by, asked_on};
-ghost use Rattle.am_site.specs.Deciding.{decides_on};
+ghost use Rattle.am_site.specs.Deciding.{decides_on, shared_as};
 ghost use Rattle.am_site.specs.Here.{here_of};
 ghost use Rattle.am_site.specs.InOrder.{IsInOrder};
 ghost use Rattle.am_site.specs.Locals.{from_rooms, local_of};
 ghost use Rattle.am_site.specs.Reacting.{Does, Reacts, StopsReacting};
 
 use crate::here::Here;
+use crate::limiting::{SharedDecision, within_bytes};
 use crate::said::Said;
 use crate::site::Site;
 use am_alert::Maker;
-use am_api::{Decided, decide};
+use am_api::decide;
 use am_current::Elsewhere;
 use am_http::{Request, reply_bytes};
-use am_item::{Fault, Held, to_shared};
+use am_item::{Fault, Held};
 use am_node::Node;
 use am_pattern::PatternCache;
 use am_quorum::{Answered, Decide, Target};
@@ -72,7 +72,7 @@ impl Site {
         let list = merge(alloc, &lists)?;
         let request = &operation.request;
         let (node, elsewhere) = (&mut self.node, &mut self.elsewhere);
-        let decided = decide_on(alloc, here, request, &list, node, elsewhere, cache)?;
+        let decided = decide_on(alloc, here, request, list, node, elsewhere, cache)?;
         self.carry_out(alloc, here, target, decided, outbox)
     }
 
@@ -83,7 +83,7 @@ impl Site {
         alloc: Global,
         here: &Here,
         target: Target,
-        decided: Decided,
+        decided: SharedDecision,
         outbox: &mut Vec<Said>,
     ) -> Result<(), Fault>
         requires fits { counts_fit decided.items.items ≡ true }
@@ -91,12 +91,12 @@ impl Site {
             + length decided.items.items ≤ greatest_count }
         ensures reacts { OnOk result ((o : Opened)
             → operation_at target.number (local_of here.now.tenant.now self.old).operations ≡ Some o
-            → o.epoch ≡ target.epoch → Reacts here.now.tenant.now (carry_out (here_of here.now) o (decision_of decided))
+            → o.epoch ≡ target.epoch → Reacts here.now.tenant.now (carry_out (here_of here.now) o (shared_as decided))
             self.old self.new outbox.old.items outbox.new.items) }
         ensures fault { IfErr result (λ fault. (o : Opened)
             → operation_at target.number (local_of here.now.tenant.now self.old).operations ≡ Some o
             → o.epoch ≡ target.epoch → StopsReacting here.now.tenant.now
-            (carry_out (here_of here.now) o (decision_of decided)) self.old fault) }
+            (carry_out (here_of here.now) o (shared_as decided)) self.old fault) }
     {
         let reply = reply_bytes(alloc, decided.status, decided.body.as_slice())?;
         self.stamp(alloc, here, &decided)?;
@@ -105,20 +105,24 @@ impl Site {
             return Ok(());
         }
         self.wait(here, target.number, reply);
-        let items = to_shared(alloc, decided.items)?;
         let body = Body::Put {
             operation: target.number,
-            items: Items::from_vec(alloc, items)?,
+            items: Items::from_vec(alloc, decided.items)?,
         };
         self.send_all(alloc, here, target.epoch, here.three, &body, outbox)
     }
 
     // Counts the items that were made.
-    fn stamp(&mut self, alloc: Global, here: &Here, decided: &Decided) -> Result<(), AllocError>
+    fn stamp(
+        &mut self,
+        alloc: Global,
+        here: &Here,
+        decided: &SharedDecision,
+    ) -> Result<(), AllocError>
         requires fits { counts_fit decided.now.items.items ≡ true }
         requires room { 0 < length decided.now.items.items → (local_of here.now.tenant.now self.old).ledger.stamps
             + length decided.now.items.items ≤ greatest_count }
-        ensures { OnOk result (Does here.now.tenant.now (stamp (decision_of decided.now)) self.old self.new) }
+        ensures { OnOk result (Does here.now.tenant.now (stamp (shared_as decided.now)) self.old self.new) }
     {
         let count = decided.items.len() as u64;
         self.node.count(alloc, here.tenant, count, decided.drawn)
@@ -168,18 +172,18 @@ fn decide_on(
     alloc: Global,
     here: &Here,
     request: &Request,
-    list: &Held,
+    list: Held,
     node: &mut Node,
     elsewhere: &mut Elsewhere,
     cache: &mut PatternCache,
-) -> Result<Decided, Fault>
+) -> Result<SharedDecision, Fault>
     ensures decided { IfOk result (λ d. (docket : Docket) (sent : ℕ) (settling : Settling) →
-        IsDecided cache.old.refused cache.new.refused here.now request.now list.now
-        (from_rooms (local_in_node here.now.tenant.now node.old) docket sent settling) (decision_of d)) }
+        IsDecided cache.old.refused cache.new.refused here.now request.now list
+        (from_rooms (local_in_node here.now.tenant.now node.old) docket sent settling) (shared_as d)) }
     ensures fault { IfErr result (λ fault. (docket : Docket) (sent : ℕ) (settling : Settling) →
-        StopsDeciding cache.new.refused here.now request.now list.now
+        StopsDeciding cache.new.refused here.now request.now list
         (from_rooms (local_in_node here.now.tenant.now node.old) docket sent settling) fault) }
-    ensures asks { AddsAmong (asked_on here.now request.now list.now) cache.old.refused cache.new.refused }
+    ensures asks { AddsAmong (asked_on here.now request.now list) cache.old.refused cache.new.refused }
     ensures asked { Grows cache.old cache.new }
     ensures stays { (t : List ℕ) → local_in_node t node.new ≡ local_in_node t node.old }
 {
@@ -198,9 +202,11 @@ fn decide_on(
         place,
     );
     let (held, config) = node.in_use(alloc, here.tenant)?;
-    let config = elsewhere.in_use(alloc, here.tenant, list, held, config)?;
+    let config = elsewhere.in_use(alloc, here.tenant, &list, held, config)?;
     let (limits, moment) = (here.limits, here.moment);
-    decide(
-        alloc, request, list, config, limits, moment, maker, words, cache,
-    )
+    let decided = decide(
+        alloc, request, &list, config, limits, moment, maker, words, cache,
+    )?;
+    let shared = within_bytes(alloc, limits.alert_bytes, request, list, decided)?;
+    Ok(shared)
 }

@@ -16,6 +16,7 @@ mod forcing;
 mod handling;
 mod here;
 mod learning;
+mod limiting;
 mod messages;
 mod opening;
 mod operating;

@@ -39,11 +39,9 @@ impl Site {
             → IsInOrder (here_of here.now) self.old → OnOk result (IsInOrder (here_of here.now) self.new) }
         ensures node { self.new.node ≡ self.old.node }
     {
-        let held = self.node.held(here.tenant).items(alloc)?;
+        let held = self.node.held(here.tenant);
         let (tenant, moment) = (here.tenant, here.moment);
-        let pieces = self
-            .settling
-            .push(alloc, tenant, *receiver, moment, held.as_slice())?;
+        let pieces = self.settling.push(alloc, tenant, *receiver, moment, held)?;
         self.send_pieces(alloc, here, receiver, pieces.as_slice(), outbox)
     }
 

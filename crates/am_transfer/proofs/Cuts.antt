@@ -1,13 +1,15 @@
 -- How a list is cut, one item after the other; and that its pieces are the list.
 use Rattle.std.proofs.Common.{◌≡◌, ℕ, ◌+◌, ◌-◌, ◌^◌, ◌<◌, ◌≤◌, Bool, true, false, ◌&&◌, ◌||◌, nat_lt, nat_le, ◌==◌, min, List, [], ◌∷◌, ◌++◌, length, take, drop, get_or, if◌then◌else◌, refl, sym, ap, ◌∙◌, append_assoc, append-nil, arith}
-use Rattle.std.specs.List.{flat_map, sum_by}
+use Rattle.std.specs.List.{HoldsAt, flat_map, sum_by}
 use Rattle.std.proofs.Common.{length-drop}
 use Rattle.std.proofs.Math.Seq.{take-length}
 use Rattle.std.proofs.lemmas.Bool.Decides.{nat_tests}
 use Rattle.std.proofs.lemmas.List.{drop-append-le, drop-take, length-take, take_more}
 use Rattle.std.proofs.lemmas.List.Concat.{flat_map-append}
 use Rattle.std.proofs.lemmas.List.Sums.{fold_more, fold_push}
+use Rattle.am_item.specs.Lengths.{spelled_length}
 use Rattle.am_item.specs.declared.item.Item.{Item}
+use Rattle.am_wire.proofs.Counted.{item_spelled}
 use Rattle.am_transfer.specs.Pieces.{Cutting, Piece, all_cut, cut, cut_with, piece_of, size_of, takes}
 
 abbrev pub nothing_cut : Cutting
@@ -78,6 +80,12 @@ pub record IsCutTo (xs : List Item) (i : ℕ) (done : List Piece) (start counted
 
 pub cut_none : (xs : List Item) → IsCutTo xs 0 [] 0 0
 cut_none xs = record { cut = refl; low = omega arith; bytes = refl }
+
+-- the size of the item at a place
+pub size_at : (xs : List Item) (i size : ℕ) (x : Item) → x ≡ get_or xs i x → HoldsAt (λ (item : Item). size ≡ min (spelled_length item) (2 ^ 64 - 1)) xs i
+    → size ≡ min (size_of x) (2 ^ 64 - 1)
+size_at xs i size x at known =
+    known x ∙ ap (λ (y : Item). min (spelled_length y) (2 ^ 64 - 1)) (sym at) ∙ ap (λ n. min n (2 ^ 64 - 1)) (sym (item_spelled x))
 
 small : (s z : ℕ) → nat_le (min (min s (2 ^ 64 - 1) + min z (2 ^ 64 - 1)) (2 ^ 64 - 1)) (2 ^ 16) ≡ nat_le (s + z) (2 ^ 16)
 small s z = grind (arith, nat_tests)

@@ -1,11 +1,13 @@
-//! How a list is cut into pieces.
+//! How what is held is cut into pieces.
 
-ghost use Rattle.std.specs.Prelude.{◌≡◌, ◌+◌, ◌-◌, ◌^◌, ◌==◌, ◌&&◌, ◌||◌, nat_lt, nat_le, min, IfOk};
+ghost use Rattle.std.specs.Prelude.{◌≡◌, ◌+◌, ◌-◌, ◌^◌, ◌≤◌, ◌==◌, ◌&&◌, ◌||◌, nat_lt, nat_le, min};
+ghost use Rattle.std.specs.Prelude.{IfOk, length};
+ghost use Rattle.std.specs.List.{slice_range};
 ghost use Rattle.am_transfer.specs.Pieces.{cut, most_bytes, most_items};
 
 use crate::piece::Piece;
-use am_item::{SharedItem, share_all};
-use am_wire::item_len;
+use am_item::Held;
+use am_wire::Items;
 use std::alloc::{AllocError, Global};
 
 /// A piece has at most so many items.
@@ -14,26 +16,28 @@ pub const MOST_ITEMS: usize = 64;
 /// The bytes of the items of a piece come to at most so many; but an item with more bytes is a piece by itself.
 pub const MOST_BYTES: u64 = 65_536;
 
-/// Cuts a list into pieces, from its beginning on. An empty list is one empty piece.
+/// Cuts what is held into pieces, from its beginning on; of nothing it is one empty piece. Each piece is a part of what
+/// is held now, whatever comes later: no item is copied or shared for it.
 ///
 /// An error is out of memory.
-pub fn cut(alloc: Global, items: &[SharedItem]) -> Result<Vec<Piece>, AllocError>
-    ensures { IfOk result (λ pieces. pieces.items ≡ cut items.now) }
+pub fn cut(alloc: Global, held: &Held) -> Result<Vec<Piece>, AllocError>
+    ensures { IfOk result (λ pieces. pieces.items ≡ cut held.now) }
 {
     let mut pieces = Vec::new(alloc);
     let mut start = 0;
     let mut bytes = 0u64;
-    for (place, item) in items.iter().enumerate() {
-        let size = item_len(item);
+    let end = held.len();
+    for place in 0..end {
+        let size = held.spelled_at(place);
         if has_room(place - start, bytes, size) {
             bytes = bytes.saturating_add(size);
         } else {
-            pieces.push(piece_of(alloc, start, false, &items[start..place])?)?;
+            pieces.push(piece_of(held, start, place, false)?)?;
             start = place;
             bytes = size;
         }
     }
-    pieces.push(piece_of(alloc, start, true, &items[start..])?)?;
+    pieces.push(piece_of(held, start, end, true)?)?;
     Ok(pieces)
 }
 
@@ -46,15 +50,13 @@ fn has_room(count: usize, bytes: u64, size: u64) -> bool
     count == 0 || (count < MOST_ITEMS && bytes.saturating_add(size) <= MOST_BYTES)
 }
 
-// A piece of these items.
-fn piece_of(
-    alloc: Global,
-    place: usize,
-    is_last: bool,
-    items: &[SharedItem],
-) -> Result<Piece, AllocError>
-    ensures { IfOk result (λ piece. piece ≡ record { place = place; is_last = is_last; items = items.now }) }
+// A piece of what is held, from one place up to another.
+fn piece_of(held: &Held, from: usize, to: usize, is_last: bool) -> Result<Piece, AllocError>
+    requires order { from ≤ to }
+    requires within { to ≤ length held.now }
+    ensures { IfOk result (λ piece. piece
+        ≡ record { place = from; is_last = is_last; items = slice_range held.now from to }) }
 {
-    let items = share_all(alloc, items)?;
-    Piece::new(alloc, place, is_last, items)
+    let items = Items::from_part(held.snapshot()?, from, to);
+    Ok(Piece::new(from, is_last, items))
 }

@@ -2,9 +2,8 @@
 
 ghost use Rattle.std.specs.Prelude.{◌≡◌, IfOk};
 
-use am_item::SharedItem;
 use am_wire::Items;
-use std::alloc::{AllocError, Global};
+use std::alloc::AllocError;
 use std::marker::Model;
 
 /// A piece of a list that is sent as a State. Its items are shared by all that hold it.
@@ -25,19 +24,14 @@ impl Model for Piece {
 
 impl Piece {
     // A piece of these items.
-    pub(crate) fn new(
-        alloc: Global,
-        place: usize,
-        is_last: bool,
-        items: Vec<SharedItem>,
-    ) -> Result<Piece, AllocError>
-        ensures { IfOk result (λ piece. piece ≡ record { place = place; is_last = is_last; items = items.items }) }
+    pub(crate) fn new(place: usize, is_last: bool, items: Items) -> Piece
+        ensures { result ≡ record { place = place; is_last = is_last; items = items } }
     {
-        Ok(Piece {
+        Piece {
             place,
             is_last,
-            items: Items::from_vec(alloc, items)?,
-        })
+            items,
+        }
     }
 
     /// The place in the list at which it begins, from 0 on.

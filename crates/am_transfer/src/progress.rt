@@ -20,7 +20,7 @@ use crate::piece::Piece;
 use crate::refresh::{cancel, cancel_all};
 use crate::sent_list::SentList;
 use crate::spans::{Span, Spans};
-use am_item::SharedItem;
+use am_item::Held;
 use am_ring::Instance;
 use am_tenant::TenantName;
 use am_text::{Listed, Moment};
@@ -145,7 +145,7 @@ impl Progress {
         alloc: Global,
         receiver: Peer,
         moment: Moment,
-        held: &[SharedItem],
+        held: &Held,
     ) -> Result<Vec<Piece>, AllocError>
         ensures settling { OnOk result (self.new ≡ on (pushed receiver moment held.now) self.old) }
         ensures pieces { IfOk result (λ pieces. pieces.items
@@ -166,7 +166,7 @@ impl Progress {
         &mut self,
         alloc: Global,
         asker: Peer,
-        held: &[SharedItem],
+        held: &Held,
     ) -> Result<Vec<Piece>, AllocError>
         ensures settling { OnOk result (self.new ≡ on (answered asker held.now) self.old) }
         ensures pieces { IfOk result (λ pieces. pieces.items
@@ -290,7 +290,7 @@ impl Progress {
         alloc: Global,
         to: Instance,
         moment: Moment,
-        held: &[SharedItem],
+        held: &Held,
     ) -> Result<Again, AllocError>
         ensures again { IfOk result (λ again. again ≡ again_to to held.now self.old) }
         ensures sent { OnOk result (self.new ≡ sent_again to moment held.now self.old) }
@@ -401,7 +401,7 @@ fn send(
     receiver: Peer,
     lists: &mut BTreeMap<Peer, SentList>,
     is_asked: bool,
-    held: &[SharedItem],
+    held: &Held,
 ) -> Result<Vec<Piece>, AllocError>
     requires { IsOrdered peer_cmp lists.old }
     ensures pieces { IfOk result (λ pieces. pieces.items

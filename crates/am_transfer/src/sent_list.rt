@@ -5,7 +5,7 @@ ghost use Rattle.am_transfer.specs.Pieces.{first_sent, named_at, pieces_from, pi
 
 use crate::cutting::cut;
 use crate::piece::Piece;
-use am_item::SharedItem;
+use am_item::Held;
 use std::alloc::{AllocError, Global};
 use std::marker::Model;
 
@@ -39,7 +39,7 @@ impl SentList {
     /// The list of what is held, as it is first sent.
     ///
     /// An error is out of memory.
-    pub fn new(alloc: Global, held: &[SharedItem]) -> Result<SentList, AllocError>
+    pub fn new(alloc: Global, held: &Held) -> Result<SentList, AllocError>
         ensures { IfOk result (λ list. list ≡ first_sent held.now) }
     {
         Ok(SentList {

@@ -21,7 +21,7 @@ use crate::piece::Piece;
 use crate::refresh::{refresh, refresh_all};
 use crate::spans::Span;
 use crate::tenants::Tenants;
-use am_item::SharedItem;
+use am_item::Held;
 use am_ring::Instance;
 use am_share::{ShareRefusal, Shared};
 use am_tenant::TenantName;
@@ -115,7 +115,7 @@ impl Settling {
         tenant: &TenantName,
         receiver: Peer,
         moment: Moment,
-        held: &[SharedItem],
+        held: &Held,
     ) -> Result<Vec<Piece>, AllocError>
         ensures pieces { IfOk result (λ pieces. pieces.items
             ≡ pieces_to_send false (list_for receiver held.now (settling_of tenant.now self.old.progress))) }
@@ -153,7 +153,7 @@ impl Settling {
         alloc: Global,
         tenant: &TenantName,
         asker: Peer,
-        held: &[SharedItem],
+        held: &Held,
     ) -> Result<Vec<Piece>, AllocError>
         ensures pieces { IfOk result (λ pieces. pieces.items
             ≡ pieces_to_send true (list_for asker held.now (settling_of tenant.now self.old.progress))) }
@@ -270,7 +270,7 @@ impl Settling {
         tenant: &TenantName,
         to: Instance,
         moment: Moment,
-        held: &[SharedItem],
+        held: &Held,
     ) -> Result<Again, AllocError>
         ensures again { IfOk result (λ again. again ≡ again_to to held.now (progress_of tenant.now self.old.progress)) }
         ensures each { OnOk result (Becomes tenant.now

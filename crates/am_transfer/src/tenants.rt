@@ -16,7 +16,7 @@ use crate::peer::Peer;
 use crate::piece::Piece;
 use crate::progress::Progress;
 use crate::spans::Span;
-use am_item::SharedItem;
+use am_item::Held;
 use am_ring::Instance;
 use am_tenant::TenantName;
 use am_text::Moment;
@@ -151,7 +151,7 @@ impl Tenants {
         tenant: &TenantName,
         to: Instance,
         moment: Moment,
-        held: &[SharedItem],
+        held: &Held,
     ) -> Result<Again, AllocError>
         ensures again { IfOk result (λ again. again ≡ again_to to held.now (progress_of tenant.now self.old)) }
         ensures each { OnOk result (Becomes tenant.now (sent_again to moment held.now) self.old self.new) }
@@ -220,7 +220,7 @@ impl Tenants {
         tenant: &TenantName,
         receiver: Peer,
         moment: Moment,
-        held: &[SharedItem],
+        held: &Held,
     ) -> Result<Vec<Piece>, AllocError>
         ensures pieces { IfOk result (λ pieces. pieces.items
             ≡ pieces_to_send false (list_for receiver held.now (settling_of tenant.now self.old))) }
@@ -239,7 +239,7 @@ impl Tenants {
         alloc: Global,
         tenant: &TenantName,
         asker: Peer,
-        held: &[SharedItem],
+        held: &Held,
     ) -> Result<Vec<Piece>, AllocError>
         ensures pieces { IfOk result (λ pieces. pieces.items
             ≡ pieces_to_send true (list_for asker held.now (settling_of tenant.now self.old))) }

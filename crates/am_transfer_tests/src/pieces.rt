@@ -1,7 +1,7 @@
-//! How lists are cut, by numbers and by bytes.
+//! How what is held is cut, by numbers and by bytes.
 
 use am_expect::equal;
-use am_item::{Item, SharedItem, Stamp, Thing};
+use am_item::{Held, Item, Matchers, SharedItem, Silence, SilenceId, Stamp, Thing};
 use am_ring::Instance;
 use am_tenant::TenantName;
 use am_text::{Moment, Text};
@@ -12,8 +12,10 @@ use std::test::Fail;
 /// A piece as it is told: its place, how many items it has, and whether it is the last.
 pub type Told = (usize, usize, bool);
 
-// A configuration whose text has so many bytes; such an item has 27 bytes more.
-fn item(alloc: Global, count: u64, length: usize) -> Result<Item, Fail> {
+// A silence whose comment has so many bytes; such an item has 72 bytes more. They stand in the order of their numbers.
+fn item(alloc: Global, number: u8, length: usize) -> Result<Item, Fail> {
+    let mut id = [0; 16];
+    id[0] = number;
     let moment = Moment::from_milliseconds(0).ok_or("no moment")?;
     let bytes = vec![in alloc; b'x'; length]?;
     let text = String::from_utf8(bytes).ok().ok_or("no text")?;
@@ -22,20 +24,28 @@ fn item(alloc: Global, count: u64, length: usize) -> Result<Item, Fail> {
             moment,
             instance: 2,
             incarnation: 1,
-            count,
+            count: u64::from(number),
         },
-        thing: Thing::Configuration(Some(Text::from_string(text))),
+        thing: Thing::Silence(Silence {
+            id: SilenceId::from_bytes(id),
+            starts_at: moment,
+            ends_at: moment,
+            kept_until: moment,
+            created_by: Text::from_string(String::new(alloc)),
+            comment: Text::from_string(text),
+            matchers: Matchers::from_vec(Vec::new(alloc)),
+        }),
     })
 }
 
-/// A list of configurations, whose texts have so many bytes.
-pub fn list_of(alloc: Global, lengths: &[usize]) -> Result<Vec<SharedItem>, Fail> {
+/// What is held where silences were put whose comments have so many bytes.
+pub fn held_of(alloc: Global, lengths: &[usize]) -> Result<Held, Fail> {
     let mut list = Vec::new(alloc);
-    for (count, length) in lengths.iter().enumerate() {
-        let item = item(alloc, count as u64, *length)?;
+    for (number, length) in lengths.iter().enumerate() {
+        let item = item(alloc, u8::try_from(number)?, *length)?;
         list.push(SharedItem::new(alloc, item)?)?;
     }
-    Ok(list)
+    Ok(Held::best_of(alloc, &list)?)
 }
 
 fn told_at(alloc: Global, pieces: &[Piece], index: usize) -> Result<Option<Told>, Fail> {
@@ -51,7 +61,7 @@ pub fn told(alloc: Global, pieces: &[Piece]) -> Result<[Option<Told>; 2], Fail> 
     Ok([told_at(alloc, pieces, 0)?, told_at(alloc, pieces, 1)?])
 }
 
-// Lists by the lengths of their items' texts, and the first two pieces of each.
+// What is held by the lengths of the silences' comments, and the first two pieces of each.
 const CUTS: &[(&str, &[usize], [Option<Told>; 2])] = &[
     ("nothing", &[], [Some((0, 0, true)), None]),
     ("64 items", &[0; 64], [Some((0, 64, true)), None]),
@@ -62,12 +72,12 @@ const CUTS: &[(&str, &[usize], [Option<Told>; 2])] = &[
     ),
     (
         "65,536 bytes",
-        &[32_741, 32_741],
+        &[32_696, 32_696],
         [Some((0, 2, true)), None],
     ),
     (
         "65,537 bytes",
-        &[32_741, 32_742],
+        &[32_696, 32_697],
         [Some((0, 1, false)), Some((1, 1, true))],
     ),
     (
@@ -89,7 +99,7 @@ fn cut(alloc: Global, lengths: &[usize]) -> Result<[Option<Told>; 2], Fail> {
         instance: Instance::new(4).ok_or("no instance")?,
         incarnation: 1,
     };
-    let held = list_of(alloc, lengths)?;
+    let held = held_of(alloc, lengths)?;
     let mut settling = Settling::new(alloc);
     let pieces = settling.push(alloc, &tenant, receiver, moment, &held)?;
     told(alloc, &pieces)

@@ -1,8 +1,8 @@
 //! A State of 65 items on its way from instance 2 to 4: what comes, what is lost, and what is sent again.
 
-use crate::pieces::{Told, list_of, told};
+use crate::pieces::{Told, held_of, told};
 use am_expect::equal;
-use am_item::SharedItem;
+use am_item::Held;
 use am_ring::Instance;
 use am_tenant::TenantName;
 use am_text::Moment;
@@ -64,7 +64,7 @@ fn deliver(alloc: Global, pair: &mut Pair, piece: &Piece) -> Result<u64, Fail> {
 fn sent_again(
     alloc: Global,
     pair: &mut Pair,
-    held: &[SharedItem],
+    held: &Held,
     now: Moment,
 ) -> Result<[Option<Told>; 2], Fail> {
     let due = pair.sender.due(alloc, now)?;
@@ -81,7 +81,7 @@ fn sent_again(
 }
 
 fn exchange(alloc: Global, pair: &mut Pair, lost: usize) -> Result<(u64, [Option<Told>; 2]), Fail> {
-    let held = list_of(alloc, &[0; 65])?;
+    let held = held_of(alloc, &[0; 65])?;
     let pieces = pair
         .sender
         .push(alloc, &pair.tenant, pair.to, moment(0)?, &held)?;

@@ -5,6 +5,7 @@ pub mod Written
 pub mod Tenants
 pub mod Framed
 pub mod Counted
+pub mod Parts
 pub mod FieldsAgain
 pub mod LabelsAgain
 pub mod ItemsAgain

@@ -8,3 +8,4 @@ use Rattle.am_wire.specs.declared.items.Form.TheVariants as form
 abbrev pub items_in : Form → List Item
 items_in (form.Listed list) = list.value.items
 items_in (form.Held held) = held
+items_in (form.Part part) = part

@@ -1,9 +1,11 @@
 //! The items within a message.
 
-ghost use Rattle.std.specs.Prelude.{◌≡◌, IfOk};
+ghost use Rattle.std.specs.Prelude.{◌≡◌, ◌≤◌, IfOk, length};
+ghost use Rattle.std.specs.List.{slice_range};
 ghost use Rattle.am_item.specs.Best.{best};
 ghost use Rattle.am_wire.specs.Items.{items_in};
 
+use crate::held_part::HeldPart;
 use am_item::{Held, SharedItem, share_all};
 use std::alloc::{AllocError, Global};
 use std::marker::Model;
@@ -22,11 +24,12 @@ impl Drop for Items {
     }
 }
 
-// Items as a list, or as they are held.
+// Items as a list, as they are held, or as a part of what is held.
 #[derive(Drop)]
 pub(crate) enum Form {
     Listed(Rc<Vec<SharedItem>>),
     Held(Held),
+    Part(HeldPart),
 }
 
 impl Model for Items {
@@ -59,6 +62,17 @@ impl Items {
         }
     }
 
+    /// The items that are held from one place up to another, from 0 on, in the order of keys. They cost nothing each.
+    pub fn from_part(held: Held, from: usize, to: usize) -> Items
+        requires order { from ≤ to }
+        requires within { to ≤ length held }
+        ensures { result ≡ slice_range held from to }
+    {
+        Items {
+            form: Form::Part(HeldPart::new(held, from, to)),
+        }
+    }
+
     // The form that they have.
     pub(crate) fn form(&self) -> &Form
         ensures { items_in result.now ≡ self.now }
@@ -73,6 +87,7 @@ impl Items {
         let form = match &self.form {
             Form::Listed(list) => Form::Listed(list.clone()?),
             Form::Held(held) => Form::Held(held.snapshot()?),
+            Form::Part(part) => Form::Part(part.share()?),
         };
         Ok(Items { form })
     }
@@ -86,10 +101,11 @@ impl Items {
         match &self.form {
             Form::Listed(list) => share_all(alloc, list.as_ref().as_slice()),
             Form::Held(held) => held.items(alloc),
+            Form::Part(part) => part.list(alloc),
         }
     }
 
-    /// The best of the items. It takes no time where they came from what is held.
+    /// The best of the items. It takes no time where they are all that is held.
     ///
     /// An error is out of memory.
     pub fn held(&self, alloc: Global) -> Result<Held, AllocError>
@@ -98,6 +114,10 @@ impl Items {
         match &self.form {
             Form::Listed(list) => Held::best_of(alloc, list.as_ref().as_slice()),
             Form::Held(held) => held.snapshot(),
+            Form::Part(part) => {
+                let items = part.list(alloc)?;
+                Held::best_of(alloc, items.as_slice())
+            }
         }
     }
 }

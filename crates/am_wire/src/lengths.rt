@@ -8,13 +8,14 @@ ghost use Rattle.am_wire.specs.ItemFields.{item_bytes, items_bytes};
 ghost use Rattle.am_wire.specs.Lengths.{in_32_bits};
 ghost use Rattle.am_wire.specs.Messages.{body_bytes, spelling};
 
+use crate::held_part::HeldPart;
 use crate::items::{Form, Items};
 use crate::message::{Body, Message};
 use am_item::{Held, SharedItem};
 
-/// How many bytes spell an item. It takes the same time however long its texts are.
+// How many bytes spell an item.
 #[tactic(auto, using(crate::proofs::Counted::item_spelled))]
-pub fn item_len(item: &SharedItem) -> u64
+fn item_len(item: &SharedItem) -> u64
     ensures { result ≡ capped (length (item_bytes item.now)) }
 {
     item.spelled_len()
@@ -37,6 +38,13 @@ fn held_len(held: &Held) -> u64
     held.spelled_len()
 }
 
+#[tactic(auto, using(crate::proofs::Counted::items_spelled))]
+fn part_len(part: &HeldPart) -> u64
+    ensures { result ≡ capped (length (flat_map item_bytes part.now)) }
+{
+    part.spelled_len()
+}
+
 #[tactic(auto, using(crate::proofs::Counted::items_length))]
 fn items_len(items: &Items) -> u64
     ensures { result ≡ capped (length (items_bytes items.now)) }
@@ -44,6 +52,7 @@ fn items_len(items: &Items) -> u64
     let len = match items.form() {
         Form::Listed(list) => listed_len(list.as_ref().as_slice()),
         Form::Held(held) => held_len(held),
+        Form::Part(part) => part_len(part),
     };
     len.saturating_add(4)
 }
@@ -64,7 +73,8 @@ fn body_len(body: &Body) -> u64
 }
 
 /// How many bytes spell a message, the 4 of their length with them; `None` where that is more than 2^32 - 1. It takes
-/// the same time however much is held; a list of items is walked over once, and none of their texts.
+/// the same time however much is held; over a list of items, or a part of what is held, it walks once, and over none of
+/// their texts.
 #[tactic(auto, using(crate::proofs::Counted::message_length))]
 pub fn spelled_len(message: &Message) -> Option<u32>
     ensures { result ≡ in_32_bits (length (spelling message.now)) }

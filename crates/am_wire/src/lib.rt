@@ -3,6 +3,7 @@
 
 mod decoding;
 mod encoding;
+mod held_part;
 mod items;
 mod kinds;
 pub mod laws;
@@ -20,6 +21,6 @@ pub use decoding::decode;
 pub use encoding::encode;
 pub use items::Items;
 pub use kinds::body_number;
-pub use lengths::{item_len, spelled_len};
+pub use lengths::spelled_len;
 pub use message::{Body, Message};
 pub use refusal::{EncodeRefusal, WireRefusal};

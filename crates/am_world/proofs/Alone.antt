@@ -9,7 +9,7 @@ use Rattle.am_cluster.specs.Events.{Output}
 use Rattle.am_cluster.specs.Here.{Here}
 use Rattle.am_cluster.specs.Local.{Local}
 use Rattle.am_cluster.specs.Messages.{Message}
-use Rattle.am_cluster.specs.Origins.{TenantLimits}
+use Rattle.am_limit.specs.declared.limits.Limits.{Limits}
 use Rattle.am_cluster.specs.PrivateCluster.{PrivateCluster, here_at, output_of, react_one}
 use Rattle.am_cluster.specs.Reactions.{Reaction, Replies, Said, Sends, Tells, messages_in}
 use Rattle.am_cluster.specs.Rings.{is_always_replica, ring_at}
@@ -118,7 +118,7 @@ own_messages t (Tells s ∷ said) all m among =
 
 -- ---- what it goes by
 
-here_from : (t u : List ℕ) (n i k l m e g : ℕ) (limits more : TenantLimits) (three four : List ℕ) (stayed stays : Bool)
+here_from : (t u : List ℕ) (n i k l m e g : ℕ) (limits more : Limits) (three four : List ℕ) (stayed stays : Bool)
     (all these : List ℕ) → t ≡ u → n ≡ i → k ≡ l → limits ≡ more → e ≡ g → three ≡ four → stayed ≡ stays → all ≡ these
     → (let h : Here = record {
       tenant = t;

@@ -50,7 +50,7 @@ pub record IsRefusedAlone (t : List ℕ) (v : Watch) (p : PrivateCluster) (w : S
   pub decides : deciding_at p happening ≡ Some deciding
   pub decision : Decision
   pub refused : IsRefusedBuild (refused_by w deciding.here.instance) (refused_by w' deciding.here.instance)
-      deciding.operation.request deciding.here.limits.usual decision
+      deciding.operation.request deciding.here.limits decision
   pub stands : Stands t w' (when_decided decision p happening)
   pub told : (u : Watch) → Later (watch v e) u → outputs_of t u outs ≡ told_when_decided decision p happening
   pub fits : (course_by (λ _ _ _ _. decision) p happening).fits ≡ true

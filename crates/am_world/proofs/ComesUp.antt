@@ -12,7 +12,6 @@ use Rattle.am_cluster.specs.Events.{Output}
 use Rattle.am_cluster.specs.Here.{Here, is_replica_here, others}
 use Rattle.am_cluster.specs.Local.{Local, blank, holds_any, is_settled}
 use Rattle.am_cluster.specs.Messages.{Ask}
-use Rattle.am_cluster.specs.Origins.{TenantLimits}
 use Rattle.am_cluster.specs.PrivateCluster.{PrivateCluster, here_at, output_of}
 use Rattle.am_cluster.specs.Reactions.{Reaction, Replies, Said, Sends, Tells, each, messages_in, only_if}
 use Rattle.am_cluster.specs.RingChanges.{just_opened}
@@ -306,7 +305,7 @@ incarnations_then i xs ys x x' numbered also here after next elsewhere =
 -- where the roster of the tenant's cluster is this by then
 pub opened_alike : (t : List ℕ) (around : Circumstances) (z : Instance) (q : PrivateCluster) (m i : ℕ)
     → q.tenant ≡ t → q.replicas_by ≡ replicas t → around.moment ≡ m
-    → (let r : TenantLimits = record { usual = limits_of t around.limits; alert_bytes = None } in r) ≡ q.limits
+    → limits_of t around.limits ≡ q.limits
     → z.number ≡ i → z.incarnation ≡ q.roster.incarnation i → z.known ≡ q.roster.known i
     → rings_on around ≡ q.roster.rings → around.first ≡ q.roster.first
     → around.incarnations ≡ map q.roster.incarnation all_instances → here_on around z t ≡ here_at q m i

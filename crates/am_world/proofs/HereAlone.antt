@@ -1,7 +1,6 @@
 -- What an instance goes by for a tenant is what the instance of a private cluster goes by, where they are known to be
 -- alike.
-use Rattle.std.proofs.Common.{◌≡◌, ℕ, ◌==◌, ◌&&◌, List, None, map, sym}
-use Rattle.am_cluster.specs.Origins.{TenantLimits}
+use Rattle.std.proofs.Common.{◌≡◌, ℕ, ◌==◌, ◌&&◌, List, map, sym}
 use Rattle.am_cluster.specs.PrivateCluster.{PrivateCluster, here_at}
 use Rattle.am_cluster.specs.Rings.{is_always_replica, ring_at}
 use Rattle.am_cluster.specs.Roster.{has_stayed, three_at}
@@ -15,8 +14,7 @@ use Rattle.am_instance.specs.declared.instance.Instance.{Instance}
 pub record IsAround (t : List ℕ) (around : Circumstances) (q : PrivateCluster) : Type 0 where
   pub tenant : q.tenant ≡ t
   pub replicas_by : q.replicas_by ≡ replicas t
-  pub limits : (let given : TenantLimits = record { usual = limits_of t around.limits; alert_bytes = None } in given)
-      ≡ q.limits
+  pub limits : limits_of t around.limits ≡ q.limits
   pub rings : rings_on around ≡ q.roster.rings
   pub first : around.first ≡ q.roster.first
   pub incarnations : around.incarnations ≡ map q.roster.incarnation all_instances

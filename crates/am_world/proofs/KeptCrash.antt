@@ -13,7 +13,6 @@ use Rattle.am_cluster.specs.Events.{Crash}
 use Rattle.am_cluster.specs.Local.{Local, blank}
 use Rattle.am_cluster.specs.Naming.{NamesOnce}
 use Rattle.am_cluster.specs.Operations.{Operation}
-use Rattle.am_cluster.specs.Origins.{TenantLimits}
 use Rattle.am_cluster.specs.PrivateCluster.{Course, PrivateCluster, stopped, unchanged}
 use Rattle.am_cluster.specs.Refused.{InstanceNotUp}
 use Rattle.am_cluster.specs.Replying.{WaitOver}
@@ -161,8 +160,7 @@ module _ (i : ℕ) (w w' : State) (down : GoesDown i w w') where
           replicas_by = s.replicas_by;
           service_key = down.service_key ∙ s.service_key;
           clock = down.clock ∙ s.clock;
-          limits = ap (λ book. (let r : TenantLimits = record { usual = limits_of t book; alert_bytes = None } in r))
-              down.limits ∙ s.limits;
+          limits = ap (limits_of t) down.limits ∙ s.limits;
           roster = roster_then (roster_of w') (roster_after change (roster_of w)) (roster_after change p.roster) roster
               (after_same change (roster_of w) p.roster s.roster);
           local = λ j. local_then t j ∙ by_place (nat_eq j i) j;

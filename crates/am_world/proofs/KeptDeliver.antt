@@ -243,9 +243,9 @@ module _ (w w' : State) (moment : ℕ) (m : Message) (told : List Output) (k : T
           (subst (λ l. IsRefusedBuild (refused_in k.acts.x) (refused_in k.acts.y) operation.request l k.decision)
           same_limits refused))
 
-      given_limits : (p : PrivateCluster) → Stands m.tenant w p → k.given.limits ≡ p.limits.usual
+      given_limits : (p : PrivateCluster) → Stands m.tenant w p → k.given.limits ≡ p.limits
       unfolding here_at
-      given_limits p s = ap (λ (here : Here). here.limits.usual) (given_here p s)
+      given_limits p s = ap (λ (here : Here). here.limits) (given_here p s)
 
       refused_alone : (v : Watch) (p : PrivateCluster) → AreAsked v w → Stands m.tenant w p
           → IsRefusedAlone m.tenant v p w (Deliver (name_of m) moment) told w'
@@ -256,7 +256,7 @@ module _ (w w' : State) (moment : ℕ) (m : Message) (told : List Output) (k : T
         deciding = as_deciding (here_at p now m.to) (p.at m.to) (operation, list);
         decides = deciding_is p s (Some (operation, list)) decides;
         decision = k.decision;
-        refused = refused_places p.limits.usual (given_limits p s);
+        refused = refused_places p.limits (given_limits p s);
         stands = subst (Stands m.tenant w') (sym (ap (λ (c : Course). c.cluster) (course_so (always k.decision) p s)))
             (own_stands m.to now m.tenant f told w w' k.acts behaves p s);
         told = λ u later.

@@ -17,7 +17,6 @@ use Rattle.am_cluster.specs.Events.{Join, Output}
 use Rattle.am_cluster.specs.Local.{Local}
 use Rattle.am_cluster.specs.Moments.{last_moment}
 use Rattle.am_cluster.specs.Naming.{NamesOnce}
-use Rattle.am_cluster.specs.Origins.{TenantLimits}
 use Rattle.am_cluster.specs.Outputs.{are_owned, front_outputs, outputs_of}
 use Rattle.am_cluster.specs.PrivateCluster.{Course, PrivateCluster, here_at, output_of, react_one, unchanged}
 use Rattle.am_cluster.specs.PrivateCluster.{with_opened}
@@ -182,8 +181,7 @@ module _ (i : ℕ) (around : Circumstances) (old new : List Shelf) (w w' : State
       here_is =
           opened_alike t around z before p.clock i s.stands.tenant s.stands.replicas_by
           (came.at_moment ∙ s.stands.clock)
-          (ap (λ book. (let r : TenantLimits = record { usual = limits_of t book; alert_bytes = None } in r))
-          came.by_limits ∙ s.stands.limits)
+          (ap (limits_of t) came.by_limits ∙ s.stands.limits)
           number k
           (sym came.node.known ∙ sym (known_here i w'.instances came.y came.is_then) ∙ same.known i)
           (sym came.by_rings ∙ same.rings) (came.by_first ∙ sym came.first ∙ same.first)
@@ -278,8 +276,7 @@ module _ (i : ℕ) (around : Circumstances) (old new : List Shelf) (w w' : State
         replicas_by = s.stands.replicas_by;
         service_key = came.service_key ∙ s.stands.service_key;
         clock = came.clock ∙ s.stands.clock;
-        limits = ap (λ book. (let r : TenantLimits = record { usual = limits_of t book; alert_bytes = None } in r))
-            came.limits ∙ s.stands.limits;
+        limits = ap (limits_of t) came.limits ∙ s.stands.limits;
         roster = same;
         local = at_each (λ j. local_at t j w'.instances ≡ put_at ready.at i turn.local j) i
             (local_here t i w'.instances came.y came.is_then ∙ local_is ∙ sym (put_here ready.at i turn.local))

@@ -11,7 +11,6 @@ use Rattle.am_cluster.specs.Deciding.{deciding_at}
 use Rattle.am_cluster.specs.Events.{Event, Open, Close, Limits}
 use Rattle.am_cluster.specs.Happening.{Happening, Limited}
 use Rattle.am_cluster.specs.Naming.{IsPast, NamesOnce}
-use Rattle.am_cluster.specs.Origins.{TenantLimits}
 use Rattle.am_cluster.specs.Outputs.{front_told}
 use Rattle.am_cluster.specs.Patterns.{AreAllBuilt}
 use Rattle.am_cluster.specs.PrivateCluster.{Course, PrivateCluster, unchanged}
@@ -81,9 +80,7 @@ stands_same t w w' p e s = record {
   service_key = ap (λ (c : Common). c.service_key) e.common ∙ s.service_key;
   clock = e.clock ∙ s.clock;
   limits =
-      ap (λ (c : Common). (let l : TenantLimits = record { usual = limits_of t c.limits; alert_bytes = None } in l))
-      e.common
-      ∙ s.limits;
+      ap (λ (c : Common). limits_of t c.limits) e.common ∙ s.limits;
   roster = roster_then _ _ _ e.roster s.roster;
   local = λ i. e.local t i ∙ s.local i;
   posted = λ from incarnation to count.
@@ -293,12 +290,12 @@ kept_close w w' n c before here reading same =
 -- ---- new limits
 
 -- what new limits of a tenant are to a private cluster
-limited_course : (p : PrivateCluster) (limits : TenantLimits)
+limited_course : (p : PrivateCluster) (limits : limit.Limits)
     → course p (Limited limits) ≡ unchanged (record p { limits = limits })
 unfolding course_by handled_by refusal_of
 limited_course p limits = refl
 
-named_same : (p : PrivateCluster) (limits : TenantLimits) → NamesOnce p → NamesOnce (record p { limits = limits })
+named_same : (p : PrivateCluster) (limits : limit.Limits) → NamesOnce p → NamesOnce (record p { limits = limits })
 named_same p limits once =
     let q : PrivateCluster = record p { limits = limits } in
     record {
@@ -308,7 +305,7 @@ named_same p limits once =
     }
 
 -- the tenant's cluster gets them
-limited_alone : (t : List ℕ) (w w' : State) (p : PrivateCluster) (limits : TenantLimits) → limits_in w' t ≡ limits
+limited_alone : (t : List ℕ) (w w' : State) (p : PrivateCluster) (limits : limit.Limits) → limits_in w' t ≡ limits
     → w'.common.service_key ≡ w.common.service_key → w'.clock ≡ w.clock → w'.messages ≡ w.messages
     → IsSameRoster (roster_of w') (roster_of w)
     → ((i : ℕ) → local_at t i w'.instances ≡ local_at t i w.instances) → Stands t w p
@@ -339,20 +336,16 @@ limited_by : (b : Bool) (t : List ℕ) (w w' : State) (p : PrivateCluster) (limi
     → w'.common.service_key ≡ w.common.service_key → w'.clock ≡ w.clock → w'.messages ≡ w.messages
     → IsSameRoster (roster_of w') (roster_of w)
     → ((i : ℕ) → local_at t i w'.instances ≡ local_at t i w.instances) → Stands t w p
-    → IsLimited t w' p (if b then Limited (record { usual = limits; alert_bytes = None }) ∷ [] else [])
+    → IsLimited t w' p (if b then Limited limits ∷ [] else [])
 unfolding course_by handled_by refusal_of deciding_at
 limited_by true t w w' p limits set service_key clock messages roster local s = record {
-  stands = limited_alone t w w' p (record { usual = limits; alert_bytes = None })
-      (ap (λ l. (let r : TenantLimits = record { usual = l; alert_bytes = None } in r)) set) service_key clock messages
-      roster local s;
+  stands = limited_alone t w w' p limits set service_key clock messages roster local s;
   told = refl;
   fits = refl;
   built = (tt, tt);
 }
 limited_by false t w w' p limits set service_key clock messages roster local s = record {
-  stands = limited_alone t w w' p p.limits
-      (ap (λ l. (let r : TenantLimits = record { usual = l; alert_bytes = None } in r)) set ∙ s.limits) service_key
-      clock messages roster local s;
+  stands = limited_alone t w w' p p.limits (set ∙ s.limits) service_key clock messages roster local s;
   told = refl;
   fits = refl;
   built = tt;

@@ -8,7 +8,7 @@ use Rattle.am_ring.specs.Instances.{all_differ, is_among}
 use Rattle.am_ring.specs.Replicas.{replicas}
 use Rattle.am_cluster.specs.Here.{Here}
 use Rattle.am_cluster.specs.Local.{Local, blank}
-use Rattle.am_cluster.specs.Origins.{Origin}
+use Rattle.am_setup.specs.Setup.{Origin}
 use Rattle.am_cluster.specs.PrivateCluster.{PrivateCluster, here_at, opened, unopened, with_all_opened, with_opened}
 use Rattle.am_cluster.specs.RingChanges.{opened as opened_with}
 
@@ -101,11 +101,11 @@ all_rows (i ∷ is) p j out =
 
 module _ (origin : Origin) (t : List ℕ) (rows : ℕ → List Item) where
   pub opened_same : IsSameBesideStores (unopened (replicas t) origin t rows) (opened origin t rows)
-  opened_same = all_same origin.setting.ring (unopened (replicas t) origin t rows)
+  opened_same = all_same origin.ring (unopened (replicas t) origin t rows)
 
-  pub opened_rows : (j : ℕ) → is_among j origin.setting.ring ≡ false → (opened origin t rows).rows j ≡ rows j
-  opened_rows j out = all_rows origin.setting.ring (unopened (replicas t) origin t rows) j out
+  pub opened_rows : (j : ℕ) → is_among j origin.ring ≡ false → (opened origin t rows).rows j ≡ rows j
+  opened_rows j out = all_rows origin.ring (unopened (replicas t) origin t rows) j out
 
-  pub opened_at : (j : ℕ) → all_differ origin.setting.ring ≡ true → (opened origin t rows).at j
-      ≡ (if is_among j origin.setting.ring then has_opened (unopened (replicas t) origin t rows) j else blank)
-  opened_at j differ = all_opened origin.setting.ring (unopened (replicas t) origin t rows) j differ
+  pub opened_at : (j : ℕ) → all_differ origin.ring ≡ true → (opened origin t rows).at j
+      ≡ (if is_among j origin.ring then has_opened (unopened (replicas t) origin t rows) j else blank)
+  opened_at j differ = all_opened origin.ring (unopened (replicas t) origin t rows) j differ

@@ -17,7 +17,7 @@ use Rattle.am_rows.specs.Refusing.{IsJudged, MayRefuse}
 use Rattle.am_rows.specs.Rows.{rows_of}
 use Rattle.am_rows.specs.declared.rows.Rows.{Ghosts}
 use Rattle.am_rows.specs.declared.refusal.StoreRefusal.{StoreRefusal}
-use Rattle.am_setup.specs.Setup.{Origin as Setting}
+use Rattle.am_setup.specs.Setup.{Origin}
 use Rattle.am_text.specs.declared.failure.Failure.{Failure}
 use Rattle.am_text.specs.declared.failure.Failure.TheVariants as failure
 use Rattle.am_cluster.specs.Accepting.{accepted}
@@ -25,7 +25,6 @@ use Rattle.am_cluster.specs.Here.{Here, is_replica_here}
 use Rattle.am_cluster.specs.Local.{Local, blank}
 use Rattle.am_cluster.specs.Moments.{last_moment}
 use Rattle.am_cluster.specs.Operations.{Operation}
-use Rattle.am_cluster.specs.Origins.{TenantLimits}
 use Rattle.am_cluster.specs.PrivateCluster.{here_at, opened, unopened}
 use Rattle.am_cluster.specs.RingChanges.{opened as opened_with}
 use Rattle.am_cluster.specs.Rings.{Rings, newest_ring}
@@ -36,7 +35,7 @@ use Rattle.am_cluster.proofs.Named.{first_kept}
 use Rattle.am_instance.specs.Shelves.{Shelf, shelf_of}
 use Rattle.am_instance.specs.declared.instance.Instance.{Instance}
 use Rattle.am_world.specs.Consistent.{IsConsistent, IsRingInOrder, newest_in, over}
-use Rattle.am_world.specs.Opening.{FailsToOpen, FailsWith, Opens, origin_of, refusal_for, store_at}
+use Rattle.am_world.specs.Opening.{FailsToOpen, FailsWith, Opens, refusal_for, store_at}
 use Rattle.am_world.specs.Places.{bytes_at, bytes_where, incarnation_at, incarnation_where, instance_at, known_at}
 use Rattle.am_world.specs.Places.{known_where, local_at, local_where, refused_at, refused_where, up_at, up_where}
 use Rattle.am_world.specs.Posting.{ArePast, AreReached, unlost_sent}
@@ -62,34 +61,34 @@ no_operations here rows = by (is_replica_here here)
     by false = refl
 
 -- what it goes by doesn't depend on the rows
-here_anyway : (setting : Setting) (t : List ℕ) (rows : ℕ → List Item) (i : ℕ)
-    → here_at (unopened (replicas t) (origin_of setting) t rows) 0 i ≡ here_first setting t i
+here_anyway : (origin : Origin) (t : List ℕ) (rows : ℕ → List Item) (i : ℕ)
+    → here_at (unopened (replicas t) origin t rows) 0 i ≡ here_first origin t i
 unfolding here_at
-here_anyway setting t rows i = refl
+here_anyway origin t rows i = refl
 
 not_some : {A : Type 0} (o : Option A) (a : A) (P : Type 0) → o ≡ None → o ≡ Some a → P
 not_some None a P none some = absurd cc
 not_some (Some b) a P none some = absurd cc
 
 -- all eight had their turn
-module _ {R : Type 0} (g : Ghosts R) (setting : Setting) (k : ℕ) (old now : List R) (w : State) (end : 8 ≤ k)
-    (low : k ≤ 8) (so : AreOpenedTo g setting k old now w) where
-  done : AreOpenedTo g setting 8 old now w
+module _ {R : Type 0} (g : Ghosts R) (origin : Origin) (k : ℕ) (old now : List R) (w : State) (end : 8 ≤ k)
+    (low : k ≤ 8) (so : AreOpenedTo g origin k old now w) where
+  done : AreOpenedTo g origin 8 old now w
   done =
       let all : k ≡ 8 = omega (arith, end, low) in
-      subst (λ n. AreOpenedTo g setting n old now w) all so
+      subst (λ n. AreOpenedTo g origin n old now w) all so
 
   abbrev rows : List ℕ → ℕ → List Item
   rows = rows_in (shelves_of g old)
 
-  differ : all_differ setting.ring ≡ true
-  differ = (and_parts _ (all_differ setting.ring) done.ring).1
+  differ : all_differ origin.ring ≡ true
+  differ = (and_parts _ (all_differ origin.ring) done.ring).1
 
-  outside : (i : ℕ) → is_instance i ≡ false → is_among i setting.ring ≡ false
+  outside : (i : ℕ) → is_instance i ≡ false → is_among i origin.ring ≡ false
   outside i isnt =
-      ap (is_among i) (sym (flagged-flags_of setting.ring ∙ done.order)) ∙ stranger (flags_of setting.ring) i isnt
+      ap (is_among i) (sym (flagged-flags_of origin.ring ∙ done.order)) ∙ stranger (flags_of origin.ring) i isnt
 
-  all_by_now : (i : ℕ) → is_instance i ≡ true → is_open_by 8 setting.ring i ≡ is_among i setting.ring
+  all_by_now : (i : ℕ) → is_instance i ≡ true → is_open_by 8 origin.ring i ≡ is_among i origin.ring
   all_by_now i is = let low : nat_le i 8 ≡ true = grind (arith, nat_tests) in rw low refl
 
   unread : (c i : ℕ) → bytes_at c i w.instances ≡ None
@@ -100,20 +99,20 @@ module _ {R : Type 0} (g : Ghosts R) (setting : Setting) (k : ℕ) (old now : Li
       by None at = refl
       by (Some x) at = (done.reached i x at).unread c
 
-  up : (i : ℕ) → up_at i w.instances ≡ is_among i setting.ring
+  up : (i : ℕ) → up_at i w.instances ≡ is_among i origin.ring
   unfolding up_at
   up i = by (instance_at i w.instances) refl
     where
-      by : (o : Option Instance) → instance_at i w.instances ≡ o → up_where o ≡ is_among i setting.ring
+      by : (o : Option Instance) → instance_at i w.instances ≡ o → up_where o ≡ is_among i origin.ring
       by None at = sym (outside i (missing_at i w.instances done.numbered at))
       by (Some x) at = (done.reached i x at).up ∙ all_by_now i (exists_at i w.instances x done.numbered at)
 
-  incarnation : (i : ℕ) → incarnation_at i w.instances ≡ (if is_instance i then setting.first else 0)
+  incarnation : (i : ℕ) → incarnation_at i w.instances ≡ (if is_instance i then origin.first else 0)
   unfolding incarnation_at
   incarnation i = by (instance_at i w.instances) refl
     where
       by : (o : Option Instance) → instance_at i w.instances ≡ o
-          → incarnation_where o ≡ (if is_instance i then setting.first else 0)
+          → incarnation_where o ≡ (if is_instance i then origin.first else 0)
       by None at = rw (missing_at i w.instances done.numbered at) refl
       by (Some x) at = rw (exists_at i w.instances x done.numbered at) (done.reached i x at).incarnation
 
@@ -133,7 +132,7 @@ module _ {R : Type 0} (g : Ghosts R) (setting : Setting) (k : ℕ) (old now : Li
       by None at = refl
       by (Some x) at = (done.reached i x at).refused
 
-  roster : IsSameRoster (roster_of w) (opened_roster setting)
+  roster : IsSameRoster (roster_of w) (opened_roster origin)
   roster = record {
     rings = done.begun.rings ∙ ap (λ (ring : List ℕ). ring ∷ []) (sym done.order);
     known = known;
@@ -143,53 +142,51 @@ module _ {R : Type 0} (g : Ghosts R) (setting : Setting) (k : ℕ) (old now : Li
   }
 
   module _ (clean : AreClean (shelves_of g now)) (t : List ℕ) where
-    has : (i : ℕ) (member : Bool) (x : Instance) → is_among i setting.ring ≡ member → instance_at i w.instances ≡ Some x
+    has : (i : ℕ) (member : Bool) (x : Instance) → is_among i origin.ring ≡ member → instance_at i w.instances ≡ Some x
         → local_where t (Some x)
-        ≡ (if member then has_opened (unopened (replicas t) (origin_of setting) t (rows t)) i else blank)
+        ≡ (if member then has_opened (unopened (replicas t) origin t (rows t)) i else blank)
     has i true x member at =
         let exists = exists_at i w.instances x done.numbered at in
         (done.reached i x at).has (all_by_now i exists ∙ member) (clean i exists) t
-        ∙ ap (λ (h : Here). opened_with h (rows t i)) (sym (here_anyway setting t (rows t) i))
+        ∙ ap (λ (h : Here). opened_with h (rows t i)) (sym (here_anyway origin t (rows t) i))
     has i false x member at =
         (done.reached i x at).lost (all_by_now i (exists_at i w.instances x done.numbered at) ∙ member) t
 
-    local_so : (i : ℕ) → local_at t i w.instances ≡ (if is_among i setting.ring
-        then has_opened (unopened (replicas t) (origin_of setting) t (rows t)) i else blank)
+    local_so : (i : ℕ) → local_at t i w.instances ≡ (if is_among i origin.ring
+        then has_opened (unopened (replicas t) origin t (rows t)) i else blank)
     unfolding local_at
     local_so i = by (instance_at i w.instances) refl
       where
-        by : (o : Option Instance) → instance_at i w.instances ≡ o → local_where t o ≡ (if is_among i setting.ring
-            then has_opened (unopened (replicas t) (origin_of setting) t (rows t)) i else blank)
+        by : (o : Option Instance) → instance_at i w.instances ≡ o → local_where t o ≡ (if is_among i origin.ring
+            then has_opened (unopened (replicas t) origin t (rows t)) i else blank)
         by None at = rw (outside i (missing_at i w.instances done.numbered at)) refl
-        by (Some x) at = has i (is_among i setting.ring) x refl at
+        by (Some x) at = has i (is_among i origin.ring) x refl at
 
     none_open : (i : ℕ) → (local_at t i w.instances).operations ≡ []
-    none_open i = ap (λ (l : Local). l.operations) (local_so i) ∙ by (is_among i setting.ring)
+    none_open i = ap (λ (l : Local). l.operations) (local_so i) ∙ by (is_among i origin.ring)
       where
         by : (b : Bool)
-            → (if b then has_opened (unopened (replicas t) (origin_of setting) t (rows t)) i else blank).operations ≡ []
-        by true = no_operations (here_at (unopened (replicas t) (origin_of setting) t (rows t)) 0 i) (rows t i)
+            → (if b then has_opened (unopened (replicas t) origin t (rows t)) i else blank).operations ≡ []
+        by true = no_operations (here_at (unopened (replicas t) origin t (rows t)) 0 i) (rows t i)
         by false = refl
 
-    same : IsSameBesideStores (unopened (replicas t) (origin_of setting) t (rows t))
-        (opened (origin_of setting) t (rows t))
-    same = opened_same (origin_of setting) t (rows t)
+    same : IsSameBesideStores (unopened (replicas t) origin t (rows t))
+        (opened origin t (rows t))
+    same = opened_same origin t (rows t)
 
-    limits : limits_in w t ≡ (opened (origin_of setting) t (rows t)).limits
+    limits : limits_in w t ≡ (opened origin t (rows t)).limits
     unfolding limits_of
     limits =
-        ap (λ book. let l : TenantLimits = record { usual = limits_of t book; alert_bytes = None } in l)
-        done.begun.limits
-        ∙ sym same.limits
+        ap (limits_of t) done.begun.limits ∙ sym same.limits
 
-    posted : IsPostedAlike t w (opened (origin_of setting) t (rows t))
+    posted : IsPostedAlike t w (opened origin t (rows t))
     posted from incarnation to count =
         ap (posted_at (record { tenant = t; from = from; incarnation = incarnation; to = to; count = count }))
         done.begun.messages
-        ∙ sym (ap (λ (sent : List Sent). unlost_sent (opened (origin_of setting) t (rows t)).clock
+        ∙ sym (ap (λ (sent : List Sent). unlost_sent (opened origin t (rows t)).clock
         (find (is_named from incarnation to count) sent)) same.sent)
 
-    stands : Stands t w (opened (origin_of setting) t (rows t))
+    stands : Stands t w (opened origin t (rows t))
     stands = record {
       tenant = same.tenant;
       replicas_by = same.replicas_by;
@@ -197,25 +194,25 @@ module _ {R : Type 0} (g : Ghosts R) (setting : Setting) (k : ℕ) (old now : Li
       clock = done.begun.clock ∙ sym same.clock;
       limits = limits;
       roster = subst (λ (r : Roster). IsSameRoster (roster_of w) r) (sym same.roster) roster;
-      local = λ i. local_so i ∙ sym (opened_at (origin_of setting) t (rows t) i differ);
+      local = λ i. local_so i ∙ sym (opened_at origin t (rows t) i differ);
       posted = posted;
-      named = first_kept (origin_of setting) t (rows t);
+      named = first_kept origin t (rows t);
     }
 
-    keeps : KeepsRows t (over w (shelves_of g now)) (opened (origin_of setting) t (rows t))
+    keeps : KeepsRows t (over w (shelves_of g now)) (opened origin t (rows t))
     keeps i down clean_there =
         let out = sym (up i) ∙ down in
         ap (λ (s : Shelf). rows_of t s.pairs) (done.left i out)
-        ∙ sym (opened_rows (origin_of setting) t (rows t) i out)
+        ∙ sym (opened_rows origin t (rows t) i out)
 
   pub opens : AreClean (shelves_of g now)
-      → Opens (origin_of setting) (rows_in (shelves_of g old)) (over w (shelves_of g now))
+      → Opens origin (rows_in (shelves_of g old)) (over w (shelves_of g now))
   opens clean = record {
     follows = record { reading = unread; roster = roster };
     asked = λ t i.
-        subst (All (λ (o : Operation). IsAskerOf (first_watch (origin_of setting)) t o.connection))
+        subst (All (λ (o : Operation). IsAskerOf (first_watch origin) t o.connection))
         (sym (none_open clean t i))
-        (All-nil (λ (o : Operation). IsAskerOf (first_watch (origin_of setting)) t o.connection));
+        (All-nil (λ (o : Operation). IsAskerOf (first_watch origin) t o.connection));
     stands = λ t. record { stands = stands clean t; keeps = keeps clean t };
     outputs = done.begun.outputs;
     up = instances_up w done.numbered;

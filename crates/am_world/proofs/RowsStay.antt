@@ -146,7 +146,7 @@ adds_beside t v (Bytes c moment piece) is = by_moment (is_too_late moment)
     by_moment false = seen_beside t c moment piece (look c v.table)
 adds_beside t v (Close c) is = refl
 adds_beside t v (Limits tenant limits) is =
-    own_beside t tenant (Limited (record { usual = limits; alert_bytes = None })) refl
+    own_beside t tenant (Limited limits) refl
 adds_beside t v (Tick moment) is = refl
 adds_beside t v (Outcome a tries moment status) is =
     own_beside t a.tenant (Tried a.instance a.incarnation a.number tries moment status) refl

@@ -5,7 +5,7 @@ use Rattle.std.proofs.lemmas.List.Elements.{Contains-append_cases}
 use Rattle.std.specs.Prelude.{drop, length}
 use Rattle.am_cluster.proofs.Newest.{in_order_first}
 use Rattle.am_cluster.specs.Events.{Event, Output}
-use Rattle.am_cluster.specs.Origins.{Origin}
+use Rattle.am_setup.specs.Setup.{Origin}
 use Rattle.am_cluster.specs.Outputs.{are_owned, front_outputs, outputs_of}
 use Rattle.am_cluster.specs.Patterns.{patterns_open}
 use Rattle.am_cluster.specs.PrivateCluster.{opened}
@@ -58,7 +58,7 @@ pub sound_opened : (origin : Origin) (rows : List ℕ → ℕ → List Item) (c 
     → IsSound (roster_of c.state)
 sound_opened origin rows c opens = record {
   up = opens.up;
-  ordered = rw opens.follows.roster.rings (in_order_first origin.setting);
+  ordered = rw opens.follows.roster.rings (in_order_first origin);
 }
 
 pub alone_opening : (origin : Origin) (rows : List ℕ → ℕ → List Item) (c : Contents) (es : List Event) (c' : Contents)

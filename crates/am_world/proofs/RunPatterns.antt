@@ -10,7 +10,7 @@ use Rattle.am_cluster.specs.Courses.{after, after_all}
 use Rattle.am_cluster.specs.Happening.{Happening}
 use Rattle.am_cluster.specs.Operating.{decision_on}
 use Rattle.am_cluster.specs.Operations.{Operation}
-use Rattle.am_cluster.specs.Origins.{Origin}
+use Rattle.am_setup.specs.Setup.{Origin}
 use Rattle.am_cluster.specs.PrivateCluster.{PrivateCluster, opened}
 use Rattle.am_http.specs.declared.request.Request.{Request}
 use Rattle.am_item.specs.declared.item.Item.{Item}

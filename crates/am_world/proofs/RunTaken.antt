@@ -2,7 +2,7 @@
 use Rattle.std.proofs.Common.{◌≡◌, ◌≢◌, ◌∙◌, ℕ, List, [], ◌∷◌, ◌++◌, refl, sym, ap, subst}
 use Rattle.am_cluster.specs.Courses.{after_all}
 use Rattle.am_cluster.specs.Events.{Event, Output}
-use Rattle.am_cluster.specs.Origins.{Origin}
+use Rattle.am_setup.specs.Setup.{Origin}
 use Rattle.am_cluster.specs.PrivateCluster.{PrivateCluster, opened}
 use Rattle.am_cluster.specs.Roster.{IsSameRoster}
 use Rattle.am_cluster.specs.View.{Watch, adds, first_watch, names_once, view, watch, watch_all}

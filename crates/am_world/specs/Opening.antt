@@ -1,10 +1,10 @@
 -- How a world is opened, and why it isn't.
 use Rattle.std.specs.Prelude.{◌≡◌, ℕ, zero, suc, true, false, List, [], ◌∷◌, map, slice_get, Option, Some, None}
-use Rattle.am_cluster.specs.Origins.{Origin, unset_limits}
 use Rattle.am_cluster.specs.PrivateCluster.{opened}
 use Rattle.am_cluster.specs.Roster.{AreInstancesUp}
 use Rattle.am_cluster.specs.View.{first_watch}
 use Rattle.am_item.specs.declared.item.Item.{Item}
+use Rattle.am_limit.specs.Books.{unset_book}
 use Rattle.am_cluster.specs.RingChanges.{opened as opened_with}
 use Rattle.am_ring.specs.Instances.{Members, in_order, is_among, may_be_ring}
 use Rattle.am_instance.specs.Here.{Circumstances, here_on}
@@ -23,15 +23,11 @@ use Rattle.am_rows.specs.Refusing.{IsJudged, MayRefuse}
 use Rattle.am_rows.specs.Rows.{rows_of}
 use Rattle.am_rows.specs.declared.refusal.StoreRefusal.{StoreRefusal}
 use Rattle.am_rows.specs.declared.rows.Rows.{Ghosts}
-use Rattle.am_setup.specs.Setup.{Origin as Setting}
+use Rattle.am_setup.specs.Setup.{Origin}
 use Rattle.am_text.specs.declared.failure.Failure.{Failure}
 use Rattle.am_text.specs.declared.failure.Failure.TheVariants as failure
 
 -- ---- as it is opened
-
--- what every tenant's cluster starts from: no limits are set
-abbrev pub origin_of : Setting → Origin
-origin_of setting = record { setting = setting; limits = unset_limits }
 
 -- a world as it is opened, where stores had these rows of each tenant, by the number of the instance
 pub record Opens (origin : Origin) (rows : List ℕ → ℕ → List Item) (c : Contents) : Type 0 where
@@ -73,12 +69,12 @@ FailsToOpen g ring stores OutOfMemory = Unit {0}
 -- ---- on the way
 
 -- beside its instances: no event came, and the ring of the settings is the only one
-pub record IsBegun (setting : Setting) (w : State) : Type 0 where
+pub record IsBegun (origin : Origin) (w : State) : Type 0 where
   pub clock : w.clock ≡ 0
-  pub service_key : w.common.service_key ≡ setting.service_key
-  pub limits : w.common.limits ≡ []
-  pub rings : map (λ (ring : Members). ring.instances) w.common.rings.items ≡ setting.ring ∷ []
-  pub first : w.common.first ≡ setting.first
+  pub service_key : w.common.service_key ≡ origin.service_key
+  pub limits : w.common.limits ≡ unset_book origin.limits
+  pub rings : map (λ (ring : Members). ring.instances) w.common.rings.items ≡ origin.ring ∷ []
+  pub first : w.common.first ≡ origin.first
   pub messages : w.messages ≡ []
   pub outputs : put_out w ≡ []
   pub faults : fault_count w ≡ 0
@@ -91,12 +87,12 @@ pub record IsUnused (first : ℕ) (x : Instance) : Type 0 where
   pub refused : refused_in x ≡ []
 
 -- a world before its instances open their stores
-pub record IsUnopened (setting : Setting) (w : State) : Type 0 where
-  pub ring : may_be_ring setting.ring ≡ true
-  pub order : in_order setting.ring ≡ setting.ring
-  pub begun : IsBegun setting w
+pub record IsUnopened (origin : Origin) (w : State) : Type 0 where
+  pub ring : may_be_ring origin.ring ≡ true
+  pub order : in_order origin.ring ≡ origin.ring
+  pub begun : IsBegun origin w
   pub numbered : AreNumbered w.instances
-  pub unused : EachIs (IsUnused setting.first) w.instances
+  pub unused : EachIs (IsUnused origin.first) w.instances
   pub whole : EachIs (IsWhole (around_at w.clock w)) w.instances
 
 -- nothing changed but instances

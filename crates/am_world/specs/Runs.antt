@@ -4,7 +4,7 @@ use Rattle.std.specs.List.{flat_map}
 use Rattle.am_cluster.specs.Courses.{after_all, fits_all, told_all}
 use Rattle.am_cluster.specs.Events.{Event, Output}
 use Rattle.am_cluster.specs.Happening.{Happening}
-pub use Rattle.am_cluster.specs.Origins.{Origin}
+pub use Rattle.am_setup.specs.Setup.{Origin}
 use Rattle.am_cluster.specs.Outputs.{are_owned, front_outputs, front_told_all, outputs_of}
 use Rattle.am_cluster.specs.Patterns.{patterns_brought, patterns_open}
 use Rattle.am_cluster.specs.PrivateCluster.{PrivateCluster, opened}

@@ -3,13 +3,13 @@ use Rattle.std.specs.Prelude.{◌≡◌, ℕ, ◌==◌, true, false, List, map, 
 use Rattle.std.specs.Option.{option_map}
 use Rattle.am_cluster.specs.Events.{Output}
 use Rattle.am_cluster.specs.Naming.{NamesOnce}
-use Rattle.am_cluster.specs.Origins.{TenantLimits}
 use Rattle.am_cluster.specs.PrivateCluster.{PrivateCluster}
 use Rattle.am_cluster.specs.Replying.{WaitOver}
 use Rattle.am_cluster.specs.Roster.{IsSameRoster, Roster}
 use Rattle.am_cluster.specs.Sent.{is_named}
 use Rattle.am_cluster.specs.View.{Seen, Reading, AskedAs, FrontAnswered, Shut, Watch, look}
 use Rattle.am_limit.specs.Books.{limits_of}
+use Rattle.am_limit.specs.declared.limits.Limits.{Limits}
 use Rattle.am_messages.specs.Posted.{posted_at}
 use Rattle.am_messages.specs.declared.name.MessageName.{MessageName}
 use Rattle.am_ring.specs.Instances.{Members}
@@ -77,8 +77,8 @@ AreAsked v w =
 
 -- ---- what a world has of a tenant
 
-abbrev pub limits_in : State → List ℕ → TenantLimits
-limits_in w t = record { usual = limits_of t w.common.limits; alert_bytes = None }
+abbrev pub limits_in : State → List ℕ → Limits
+limits_in w t = limits_of t w.common.limits
 
 -- under each name that a message of the tenant may have, what the cluster has there
 abbrev pub IsPostedAlike : (t : List ℕ) → State → PrivateCluster → Type 0

@@ -70,7 +70,7 @@ pub record IsRefusedAlone (t : List ℕ) (v : Watch) (p : PrivateCluster) (c : C
   pub decides : deciding_at p happening ≡ Some deciding
   pub decision : Decision
   pub refused : IsRefusedBuild (refused_by c.state deciding.here.instance)
-      (refused_by c'.state deciding.here.instance) deciding.operation.request deciding.here.limits.usual decision
+      (refused_by c'.state deciding.here.instance) deciding.operation.request deciding.here.limits decision
   pub stands : StandsOver t c' (when_decided decision p happening)
   pub told : (u : Watch) → Later (watch v e) u → outputs_of t u outs ≡ told_when_decided decision p happening
   pub fits : (course_by (λ _ _ _ _. decision) p happening).fits ≡ true

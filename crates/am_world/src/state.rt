@@ -52,7 +52,7 @@ impl State {
     ghost use Rattle.am_world.specs.Consistent.{IsConsistent, around_at, over};
     ghost use Rattle.am_world.specs.Leaving.{LeavesShelves};
     ghost use Rattle.am_world.specs.Opening.{FailsToOpen, FailsWith, IsSameBesideInstances, IsUnopened, Opens};
-    ghost use Rattle.am_world.specs.Opening.{OpensAt, StayOutside, first_ring, origin_of};
+    ghost use Rattle.am_world.specs.Opening.{OpensAt, StayOutside, first_ring};
     ghost use Rattle.am_world.specs.Places.{AreNumbered, At, cause_at, up_at};
     ghost use Rattle.am_world.specs.Refusal.{refusal};
     ghost use Rattle.am_world.specs.Runs.{Forgets, Headline, Prefixes, Run};
@@ -75,7 +75,7 @@ impl State {
     ) -> Result<State, OpenRefusal>
         requires { length stores.old ≡ 8 }
         ensures opens { AreClean (shelves_of R.Rows stores.new) → IfOk result
-            (λ state. Opens (origin_of setup.origin) (rows_in (shelves_of R.Rows stores.old))
+            (λ state. Opens setup.origin (rows_in (shelves_of R.Rows stores.old))
             (over state (shelves_of R.Rows stores.new))) }
         ensures clean { NeverCleaner (shelves_of R.Rows stores.old) (shelves_of R.Rows stores.new) }
         ensures consistent { IfOk result IsConsistent }
@@ -239,7 +239,7 @@ impl State {
             clock: Moment::from_milliseconds(0).unwrap(),
             common: Common {
                 service_key: setup.service_key(),
-                limits: LimitBook::new(alloc),
+                limits: LimitBook::new(alloc, setup.limits()),
                 rings,
                 first: setup.start(),
             },

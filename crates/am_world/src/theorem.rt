@@ -7,7 +7,7 @@ ghost use Rattle.am_cluster.specs.PrivateCluster.{PrivateCluster};
 ghost use Rattle.am_cluster.specs.View.{Watch, first_watch, names_once, view, watch_all};
 ghost use Rattle.am_event.specs.declared.event.Event.{Event};
 ghost use Rattle.am_world.specs.Consistent.{IsConsistent};
-ghost use Rattle.am_world.specs.Opening.{FailsToOpen, origin_of};
+ghost use Rattle.am_world.specs.Opening.{FailsToOpen};
 ghost use Rattle.am_world.specs.Places.{AreBuilt};
 ghost use Rattle.am_world.specs.Refusal.{StandsFor, refusal, refusal_seen};
 ghost use Rattle.am_world.specs.Runs.{Alone, RunsFrom, patterns_asked};
@@ -35,10 +35,10 @@ pub fn run_alone<R: Rows + Drop>(
 ) -> Result<World<R>, OpenRefusal>
     requires { length stores.items ≡ 8 }
     ensures steps { IfOk result (λ world. AreClean world.shelves →
-        RunsFrom (origin_of setup.origin) (rows_in (shelves_of R.Rows stores.items)) events.now world) }
+        RunsFrom setup.origin (rows_in (shelves_of R.Rows stores.items)) events.now world) }
     ensures alone { IfOk result (λ world. fault_count world.state ≡ 0 → AreClean world.shelves →
-        names_once (first_watch (origin_of setup.origin)) events.now →
-        Alone (origin_of setup.origin) (rows_in (shelves_of R.Rows stores.items)) events.now
+        names_once (first_watch setup.origin) events.now →
+        Alone setup.origin (rows_in (shelves_of R.Rows stores.items)) events.now
         (refused_by world.state) (put_out world.state)) }
     ensures refused { IfErr result (FailsToOpen R.Rows setup.origin.ring stores.items) }
 {
@@ -64,25 +64,25 @@ pub fn run_both<R: Rows + Drop>(
     requires one { length stores.items ≡ 8 }
     requires two { length other_stores.items ≡ 8 }
     ensures steps { IfOk result (λ worlds. AreClean worlds.0.shelves →
-        RunsFrom (origin_of setup.origin) (rows_in (shelves_of R.Rows stores.items)) events.now worlds.0) }
+        RunsFrom setup.origin (rows_in (shelves_of R.Rows stores.items)) events.now worlds.0) }
     ensures other_steps { IfOk result (λ worlds. AreClean worlds.1.shelves →
-        RunsFrom (origin_of other_setup.origin) (rows_in (shelves_of R.Rows other_stores.items)) other_events.now
+        RunsFrom other_setup.origin (rows_in (shelves_of R.Rows other_stores.items)) other_events.now
         worlds.1) }
     ensures equal { IfOk result (λ worlds. fault_count worlds.0.state ≡ 0 → fault_count worlds.1.state ≡ 0 →
         AreClean worlds.0.shelves → AreClean worlds.1.shelves → setup.origin ≡ other_setup.origin →
-        names_once (first_watch (origin_of setup.origin)) events.now →
-        names_once (first_watch (origin_of other_setup.origin)) other_events.now →
+        names_once (first_watch setup.origin) events.now →
+        names_once (first_watch other_setup.origin) other_events.now →
         (t : List ℕ) →
         rows_in (shelves_of R.Rows stores.items) t
         ≡ rows_in (shelves_of R.Rows other_stores.items) t →
-        view t (first_watch (origin_of setup.origin)) events.now
-        ≡ view t (first_watch (origin_of other_setup.origin)) other_events.now →
+        view t (first_watch setup.origin) events.now
+        ≡ view t (first_watch other_setup.origin) other_events.now →
         AreBuilt (refused_by worlds.0.state)
-        (patterns_asked (view t (first_watch (origin_of setup.origin)) events.now)) →
+        (patterns_asked (view t (first_watch setup.origin) events.now)) →
         AreBuilt (refused_by worlds.1.state)
-        (patterns_asked (view t (first_watch (origin_of other_setup.origin)) other_events.now)) →
-        outputs_of t (watch_all (first_watch (origin_of setup.origin)) events.now) (put_out worlds.0.state)
-        ≡ outputs_of t (watch_all (first_watch (origin_of other_setup.origin)) other_events.now)
+        (patterns_asked (view t (first_watch other_setup.origin) other_events.now)) →
+        outputs_of t (watch_all (first_watch setup.origin) events.now) (put_out worlds.0.state)
+        ≡ outputs_of t (watch_all (first_watch other_setup.origin) other_events.now)
         (put_out worlds.1.state)) }
     ensures refused { IfErr result (λ why. FailsToOpen R.Rows setup.origin.ring stores.items why
         ⊎ FailsToOpen R.Rows other_setup.origin.ring other_stores.items why) }

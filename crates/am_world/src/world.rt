@@ -46,7 +46,7 @@ impl<R: Rows + Drop> Drop for World<R> {
 }
 
 impl<R: Rows + Drop> World<R> {
-    ghost use Rattle.am_world.specs.Opening.{FailsToOpen, Opens, StayOutside, origin_of};
+    ghost use Rattle.am_world.specs.Opening.{FailsToOpen, Opens, StayOutside};
     ghost use Rattle.am_world.specs.Shelves.{AreClean, NeverCleaner, rows_in, shelves_of};
 
     /// A world at moment 0 over the stores of the eight instances, in order of number. No connection is open, and no
@@ -59,7 +59,7 @@ impl<R: Rows + Drop> World<R> {
     pub fn open(alloc: Global, setup: Setup, mut stores: Vec<R>) -> Result<World<R>, OpenRefusal>
         requires { length stores.items ≡ 8 }
         ensures opens { IfOk result (λ world. AreClean world.shelves →
-            Opens (origin_of setup.origin) (rows_in (shelves_of R.Rows stores.items)) world) }
+            Opens setup.origin (rows_in (shelves_of R.Rows stores.items)) world) }
         ensures clean { IfOk result (λ world. NeverCleaner (shelves_of R.Rows stores.items) world.shelves) }
         ensures left { IfOk result (λ world.
             StayOutside setup.origin.ring (shelves_of R.Rows stores.items) world.shelves) }

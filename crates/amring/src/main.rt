@@ -1,12 +1,16 @@
-//! `amring`: plays a scenario of events against a world, or serves connections, as its command line says.
+//! `amring`: plays a scenario of events against a world, serves connections, or judges a configuration's file, as its
+//! command line says.
 //!
 //! It ends with the status
-//! - 0 where all was played or served, or help or the version was asked for;
+//! - 0 where all was played or served, a configuration would be accepted, or help or the version was asked for;
 //! - 1 where a stream, a socket or the clock failed, or fewer than two instances are left that serve;
-//! - 2 where the command line, a store or a line of a scenario was refused, or the port can't be had;
+//! - 2 where the command line, a store, a line of a scenario or a configuration was refused, or the port or the
+//!   configuration's file can't be had;
 //! - 3 where it is out of memory.
 #![tactic(auto)]
 
+mod check;
+mod limits;
 mod serve;
 mod stores;
 
@@ -58,6 +62,7 @@ fn start<E: Sink>(rt: &HostRuntime, errors: &mut E) -> io::Result<ExitCode> {
     match options(rt.alloc(), words.as_slice())? {
         CommandLine::Run(running) => run(rt, running, errors),
         CommandLine::Serve(serving) => serve::serve(rt, serving, errors),
+        CommandLine::Check(file) => check::check(rt, file.as_str(), errors),
         CommandLine::Help(text) => {
             print!(rt; "{text}")?;
             Ok(ExitCode::SUCCESS)

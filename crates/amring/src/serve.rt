@@ -2,19 +2,27 @@
 
 ghost use Rattle.std.specs.Prelude.{◌≡◌, length};
 
+use crate::limits::{LimitsWatch, Renewal};
 use crate::stores;
 use am_admin::{AdminPort, Counted};
 use am_gateway::{Gateway, has_quorum};
+use am_limit::Limits;
+use am_log::{Entry, Form, Log};
 use am_options::Serving;
 use am_play::stops::Stops;
+use am_play::telling::tell;
 use am_report::ending;
 use am_rows::Rows;
 use am_server::{Server, listen};
 use am_setup::Setup;
 use am_stream::Sink;
+use am_tenant::TenantName;
+use am_text::Text;
 use am_world::World;
 use mio::net::TcpListener;
 use std::alloc::Global;
+use std::collections::BTreeMap;
+use std::fs::Files;
 use std::net::{Ipv4Addr, Net, SocketAddr};
 use std::process::ExitCode;
 use std::time::Clock;
@@ -23,13 +31,16 @@ use std::{io, mem};
 /// The exit status where the port can't be had.
 const NO_PORT: u8 = 2;
 
-/// Where the program serves, where those who run it ask, and how many connections are answered.
+/// The exit status where the file of limits is refused.
+const NO_LIMITS: u8 = 2;
+
+/// Where the program serves, where those who run it ask, and how it serves.
 #[derive(Drop)]
 struct Site {
     listener: TcpListener,
     address: SocketAddr,
     admin: Option<Desk>,
-    count: Option<u64>,
+    manner: Manner,
 }
 
 /// Where those who run the program ask.
@@ -39,8 +50,18 @@ struct Desk {
     address: SocketAddr,
 }
 
+/// How the program serves: how many connections are answered, by which file of limits, how it tells what it does, and
+/// whether it shows what was counted by tenant too.
+#[derive(Drop)]
+struct Manner {
+    count: Option<u64>,
+    limits: Option<LimitsWatch>,
+    form: Form,
+    by_tenant: bool,
+}
+
 /// Serves connections until as many were answered as were asked for, and prints `faults N` then; or until fewer than two
-/// instances are up, which ends the program with a failure. That an instance stops is told on standard error at once.
+/// instances are up, which ends the program with a failure. What becomes of it is told on standard error at once.
 ///
 /// # Errors
 /// Those of the system's poll and clocks, and of printing; out of memory.
@@ -53,8 +74,21 @@ pub fn serve<E: Sink>(rt: &HostRuntime, serving: Serving, errors: &mut E) -> io:
         port,
         admin,
         count,
+        limits,
+        log: form,
+        by_tenant,
     } = serving;
-    let Some(site) = open_site(rt, SocketAddr::from((address, port)), admin, count)? else {
+    let (setup, limits) = match open_limits(rt, setup, limits)? {
+        Ok(opened) => opened,
+        Err(cause) => return refuse_limits(rt, form, cause, errors),
+    };
+    let manner = Manner {
+        count,
+        limits,
+        form,
+        by_tenant,
+    };
+    let Some(site) = open_site(rt, SocketAddr::from((address, port)), admin, manner)? else {
         errors.write_whole(b"port\n")?;
         return Ok(ExitCode::from(NO_PORT));
     };
@@ -68,6 +102,51 @@ pub fn serve<E: Sink>(rt: &HostRuntime, serving: Serving, errors: &mut E) -> io:
     }
 }
 
+/// Reads the file of limits, where one is given: its default is that of the setup. The text says why it is refused.
+///
+/// # Errors
+/// Out of memory.
+fn open_limits<R: Files + AllocGlobal>(
+    rt: &R,
+    setup: Setup,
+    path: Option<Text>,
+) -> io::Result<Result<(Setup, Option<LimitsWatch>), String>> {
+    let Some(path) = path else {
+        return Ok(Ok((setup, None)));
+    };
+    match LimitsWatch::open(rt, path, setup.limits())? {
+        Ok(watch) => {
+            let default = watch.default();
+            Ok(Ok((setup.with_limits(default), Some(watch))))
+        }
+        Err(cause) => Ok(Err(cause)),
+    }
+}
+
+/// Tells why the file of limits is refused.
+///
+/// # Errors
+/// Those of the sink and the system's clock; out of memory.
+fn refuse_limits<R: Clock + AllocGlobal, E: Sink>(
+    rt: &R,
+    form: Form,
+    cause: String,
+    errors: &mut E,
+) -> io::Result<ExitCode> {
+    let entry = Entry::LimitsRefused(Text::from_string(cause));
+    tell(rt.alloc(), log_now(rt, form)?, &entry, errors)?;
+    Ok(ExitCode::from(NO_LIMITS))
+}
+
+/// A log by the wall clock.
+///
+/// # Errors
+/// Those of the system's clock.
+fn log_now<R: Clock>(rt: &R, form: Form) -> io::Result<Log> {
+    let milliseconds = rt.since_1970()?.as_millis().min(u128::from(u64::MAX)) as u64;
+    Ok(Log::new(form, milliseconds))
+}
+
 /// Where the program is to serve and be asked; none where a port can't be had.
 ///
 /// # Errors
@@ -76,7 +155,7 @@ fn open_site<R: Net>(
     rt: &R,
     address: SocketAddr,
     admin: Option<u16>,
-    count: Option<u64>,
+    manner: Manner,
 ) -> io::Result<Option<Site>> {
     let Some(listener) = listen_at(rt, address)? else {
         return Ok(None);
@@ -95,7 +174,7 @@ fn open_site<R: Net>(
         listener,
         address,
         admin,
-        count,
+        manner,
     }))
 }
 
@@ -112,7 +191,7 @@ fn listen_at<R: Net>(rt: &R, address: SocketAddr) -> io::Result<Option<TcpListen
 }
 
 /// Serves connections over stores that were in use before, in an incarnation after all of their rows.
-fn restart<S: Rows + Drop, R: Net + Clock + Print + AllocGlobal, E: Sink>(
+fn restart<S: Rows + Drop, R: Net + Clock + Files + Print + AllocGlobal, E: Sink>(
     rt: &R,
     setup: Setup,
     mut stores: Vec<S>,
@@ -129,7 +208,7 @@ fn restart<S: Rows + Drop, R: Net + Clock + Print + AllocGlobal, E: Sink>(
 }
 
 /// Serves connections over these stores.
-fn serve_over<S: Rows + Drop, R: Net + Clock + Print + AllocGlobal, E: Sink>(
+fn serve_over<S: Rows + Drop, R: Net + Clock + Files + Print + AllocGlobal, E: Sink>(
     rt: &R,
     setup: Setup,
     stores: Vec<S>,
@@ -151,13 +230,14 @@ fn serve_over<S: Rows + Drop, R: Net + Clock + Print + AllocGlobal, E: Sink>(
 }
 
 /// Serves a world, says where, and says at the end what became of it.
-fn serve_world<S: Rows + Drop, R: Net + Clock + Print + AllocGlobal, E: Sink>(
+fn serve_world<S: Rows + Drop, R: Net + Clock + Files + Print + AllocGlobal, E: Sink>(
     rt: &R,
     world: &mut World<S>,
     site: Site,
     errors: &mut E,
 ) -> io::Result<ExitCode> {
-    announce(rt.alloc(), &site, errors)?;
+    let log = log_now(rt, site.manner.form)?;
+    announce(rt.alloc(), log, &site, errors)?;
     attend(rt, site, world, errors)?;
     let faults = world.faults();
     print!(rt; "faults {faults}\n")?;
@@ -169,40 +249,58 @@ fn serve_world<S: Rows + Drop, R: Net + Clock + Print + AllocGlobal, E: Sink>(
 }
 
 /// Tells where connections are taken.
-fn announce<E: Sink>(alloc: Global, site: &Site, errors: &mut E) -> io::Result<()> {
+fn announce<E: Sink>(alloc: Global, log: Log, site: &Site, errors: &mut E) -> io::Result<()> {
     let address = site.address;
-    let ready = format!(in alloc;
-        "amring: serves http://{address}; GET /ready tells it the time, once a second or so\n"
-    )?;
-    errors.write_whole(ready.as_bytes())?;
+    let address = Text::from_string(format!(in alloc; "{address}")?);
+    tell(alloc, log, &Entry::Listening(address), errors)?;
     let Some(Desk { address, .. }) = &site.admin else {
         return Ok(());
     };
-    let ring = format!(in alloc; "amring: http://{address}/ring shows and changes the ring\n")?;
-    errors.write_whole(ring.as_bytes())
+    let address = Text::from_string(format!(in alloc; "{address}")?);
+    tell(alloc, log, &Entry::AdminListening(address), errors)?;
+    Ok(())
 }
 
 /// Serves the clients of a site until all is done, or too few instances are up.
-fn attend<S: Rows + Drop, R: Net + Clock + AllocGlobal, E: Sink>(
+fn attend<S: Rows + Drop, R: Net + Clock + Files + AllocGlobal, E: Sink>(
     rt: &R,
     site: Site,
     world: &mut World<S>,
     errors: &mut E,
 ) -> io::Result<()> {
-    let mut counted = Counted::new(Gateway::new(rt.alloc(), world)?);
-    let mut admin = match site.admin {
+    let Site {
+        listener,
+        admin,
+        manner,
+        ..
+    } = site;
+    let mut manner = manner;
+    let gateway = Gateway::new(rt.alloc(), world)?;
+    let mut counted = Counted::new(rt.alloc(), gateway, manner.by_tenant);
+    if let Some(watch) = &manner.limits {
+        let log = log_now(rt, manner.form)?;
+        set_limits(
+            rt.alloc(),
+            &mut counted,
+            watch.first(rt.alloc())?,
+            log,
+            errors,
+        )?;
+    }
+    let mut admin = match admin {
         Some(desk) => Some(AdminPort::new(rt, rt.alloc(), desk.listener)?),
         None => None,
     };
-    let mut server = Server::open(rt, rt.alloc(), site.listener, &mut counted, site.count)?;
-    take_turns(rt, &mut server, &mut admin, errors)
+    let mut server = Server::open(rt, rt.alloc(), listener, &mut counted, manner.count)?;
+    take_turns(rt, &mut server, &mut admin, &mut manner, errors)
 }
 
-/// Has a server work, turn by turn, until all is done, or too few instances are up. Tells of each that stops.
-fn take_turns<S: Rows + Drop, R: Net + Clock + AllocGlobal, E: Sink>(
+/// Has a server work, turn by turn, until all is done, or too few instances are up. Tells what becomes of it.
+fn take_turns<S: Rows + Drop, R: Net + Clock + Files + AllocGlobal, E: Sink>(
     rt: &R,
     server: &mut Server<'_, Counted<'_, S>>,
     admin: &mut Option<AdminPort>,
+    manner: &mut Manner,
     errors: &mut E,
 ) -> io::Result<()> {
     let mut stops = Stops::none();
@@ -210,26 +308,77 @@ fn take_turns<S: Rows + Drop, R: Net + Clock + AllocGlobal, E: Sink>(
         if server.is_done() || !server.is_up() {
             break;
         }
-        take_turn(rt, server, errors)?;
+        take_turn(rt, server, manner.form, errors)?;
         if let Some(admin) = admin {
             admin.turn(rt, rt.alloc(), server.service_mut())?;
         }
-        stops.tell(rt.alloc(), server.service().gateway().world(), errors)?;
+        if server.service_mut().take_tick() {
+            renew_limits(rt, server.service_mut(), manner, errors)?;
+        }
+        let log = Log::new(manner.form, server.service().moment());
+        stops.tell(rt.alloc(), server.service().gateway().world(), log, errors)?;
     }
     Ok(())
 }
 
-/// Has a server work for a turn, and tells where the clock is off.
+/// Has a server work for a turn, and tells where the clock is off and what failed.
 fn take_turn<S: Rows + Drop, R: Net + Clock + AllocGlobal, E: Sink>(
     rt: &R,
     server: &mut Server<'_, Counted<'_, S>>,
+    form: Form,
     errors: &mut E,
 ) -> io::Result<()> {
-    match server.turn(rt)? {
-        Some(news) => {
-            let text = format!(in rt.alloc(); "amring: {news}\n")?;
-            errors.write_whole(text.as_bytes())
-        }
-        None => Ok(()),
+    let news = server.turn(rt)?;
+    let load = server.load();
+    server.service_mut().note_load(load);
+    let log = Log::new(form, server.service().moment());
+    if let Some(news) = news {
+        let text = Text::from_string(format!(in rt.alloc(); "{news}")?);
+        tell(rt.alloc(), log, &Entry::Clock(text), errors)?;
     }
+    for _ in 0..u64::MAX {
+        let Some(entry) = server.service_mut().next_entry() else {
+            break;
+        };
+        tell(rt.alloc(), log, &entry, errors)?;
+    }
+    Ok(())
+}
+
+/// Reads the file of limits again, where one is given, and tells what comes of it.
+fn renew_limits<S: Rows + Drop, R: Files + AllocGlobal, E: Sink>(
+    rt: &R,
+    counted: &mut Counted<'_, S>,
+    manner: &mut Manner,
+    errors: &mut E,
+) -> io::Result<()> {
+    let log = Log::new(manner.form, counted.moment());
+    let Some(watch) = &mut manner.limits else {
+        return Ok(());
+    };
+    match watch.renew(rt)? {
+        Renewal::Same => Ok(()),
+        Renewal::Set(limits) => set_limits(rt.alloc(), counted, limits, log, errors),
+        Renewal::Refused(cause) => {
+            let entry = Entry::LimitsRefused(Text::from_string(cause));
+            tell(rt.alloc(), log, &entry, errors)?;
+            Ok(())
+        }
+    }
+}
+
+/// Gives tenants these limits, and tells how many they are.
+fn set_limits<S: Rows + Drop, E: Sink>(
+    alloc: Global,
+    counted: &mut Counted<'_, S>,
+    limits: BTreeMap<TenantName, Limits>,
+    log: Log,
+    errors: &mut E,
+) -> io::Result<()> {
+    for (tenant, own) in &limits {
+        counted.set_limits(*tenant, *own)?;
+    }
+    let entry = Entry::LimitsRead(limits.len() as u64);
+    tell(alloc, log, &entry, errors)?;
+    Ok(())
 }

@@ -1,18 +1,20 @@
-use Rattle.std.proofs.Common.{◌≡◌, ℕ, ◌+◌, ◌∙◌, ◌<◌, Bool, true, false, not, Vec, Global, ap, get_or, length, map, take, refl, sym, arith}
+use Rattle.std.proofs.Common.{◌≡◌, ℕ, ◌+◌, ◌∙◌, ◌<◌, All, Bool, true, false, not, Vec, Global, ap, get_or, length, map, take, refl, subst, sym, arith}
 use Rattle.std.proofs.lemmas.List.{get_or_default, length-map}
 use Rattle.std.proofs.lemmas.Slice.Eq.{bytes_eq-Decides}
 use Rattle.std.proofs.lemmas.List.Elements.{All-get_or}
 use Rattle.am_pattern.proofs.AskingLemmas.{grows-stays, grows-trans, stays-refl, stays-trans}
-use Rattle.am_labels.specs.Sets.{value_of}
-use Rattle.am_match.specs.Asking.{narrowed, narrowed_by}
-use Rattle.am_match.specs.Columns.{values_in}
+use Rattle.am_match.specs.Asking.{narrowed}
+use Rattle.am_match.specs.Columns.{IsColumnOf}
+use Rattle.am_match.specs.Holders.{held_at, holders_from}
 use Rattle.am_match.specs.Matchers.{MatcherText}
 use Rattle.am_match.specs.Tables.{answer_of}
 use Rattle.am_match.specs.declared.column.Column.{Column}
-use Rattle.am_match.proofs.NarrowLemmas.{failure_of_one, narrowed-values}
+use Rattle.am_match.proofs.ColumnLemmas.{column_long, column_of_held, column_within, held_whole}
+use Rattle.am_match.proofs.HolderLemmas.{name_among}
+use Rattle.am_match.proofs.NarrowLemmas.{failure_of_one}
 use Rattle.am_match.proofs.QuestionLemmas.{questions_more_patterns, questions_some_patterns}
 use Rattle.am_match.proofs.FailureLemmas.{asked_on, handed_on}
-use Rattle.am_match.proofs.TableLemmas.{matcher_among, table_more, table_start}
+use Rattle.am_match.proofs.TableLemmas.{matcher_among, some_there, table_more, table_none, table_start}
 use Rattle.am_match.proofs.table.ask_all.Goals.{then-ne+in_ok-column-2, else-ne}
 use Rattle.am_match.proofs.table.ask_all.Goals as goal
 
@@ -20,11 +22,37 @@ pub loop-number-init : goal.loop-number-init
 loop-number-init c = record {
   stays = stays-refl _;
   misses = omega arith;
-  values = c.in_ok-column.ensures.values ∙ ap (λ name. map (λ set. value_of name set.now) c.args.sets.now) (sym c.in_ok-column.ensures.name);
+  column = (
+      let q = c.index-questions-0.result in
+      let named : q.1.name ≡ c.name.result.now = ap (λ (p : ℕ × MatcherText). p.1.name) (sym c.first.view_is) ∙ sym c.name.ensures.name in
+      let there = name_among c.args.questions.now 0 q (some_there _ (sym c.is_empty.ensures ∙ c.if-is_empty.false)) c.index-questions-0.is c.name.result.now named in
+      column_of_held c.name.result.now (map (λ set. set.now) c.args.sets.now) (held_at c.in_ok-held.held c.name.result.now) c.in_ok-column.column
+      c.in_ok-held.ensures.label_sets (c.in_ok-held.ensures.held c.name.result.now there) c.in_ok-column.ensures.holders c.in_ok-column.ensures.name
+      );
   indexed = c.in_ok-column.ensures.indexed;
   last = λ a is. absurd (cc);
   table = table_start (λ set. set.now) c.args.sets.now c.args.table.now.items c.requires.rows;
 }
+
+pub returns-then-is_empty-clause-rows : goal.returns-then-is_empty-clause-rows
+returns-then-is_empty-clause-rows c =
+    table_none (λ set. set.now) c.args.sets.now c.args.questions.now c.args.table.now.items (sym c.is_empty.ensures ∙ c.if-is_empty.true) c.requires.rows
+
+pub of-requires : goal.of-requires
+of-requires c =
+    let q = c.index-questions-0.result in
+    let named : q.1.name ≡ c.name.result.now = ap (λ (p : ℕ × MatcherText). p.1.name) (sym c.first.view_is) ∙ sym c.name.ensures.name in
+    let there = name_among c.args.questions.now 0 q (some_there _ (sym c.is_empty.ensures ∙ c.if-is_empty.false)) c.index-questions-0.is c.name.result.now named in
+    held_whole (held_at c.in_ok-held.held c.name.result.now) (holders_from 0 c.name.result.now (map (λ set. set.now) c.args.sets.now))
+    (c.in_ok-held.ensures.held c.name.result.now there)
+
+pub of-requires-then-ne : goal.of-requires-then-ne
+of-requires-then-ne c =
+    let q = c.index-questions-number.result in
+    let name = c.name-name.result.now in
+    let named : q.1.name ≡ name = ap (λ (p : ℕ × MatcherText). p.1.name) (sym c.question.view_is) ∙ sym c.name-name.ensures.name in
+    let there = name_among c.args.questions.now c.loop-number.number q c.loop-number-test.true c.index-questions-number.is name named in
+    held_whole (held_at c.in_ok-held.held name) (holders_from 0 name (map (λ set. set.now) c.args.sets.now)) (c.in_ok-held.ensures.held name there)
 
 pub returns-in_err-column-2-clause-asked : goal.returns-in_err-column-2-clause-asked
 returns-in_err-column-2-clause-asked c =
@@ -41,28 +69,48 @@ ask-requires-clause-indexed c = elim c.if-ne.branch [
   | else-ne w ↦ rw w.column-is c.loop-number.invariant.indexed
 ]
 
-pub ask-requires-clause-each : goal.ask-requires-clause-each
-ask-requires-clause-each c =
-    let sets = c.args.sets.now in
+-- the column before the question is asked is that of its label
+pub ask-requires-clause-within : goal.ask-requires-clause-within
+ask-requires-clause-within c =
+    let sets = map (λ set. set.now) c.args.sets.now in
     let rows = c.loop-number.table.items in
     let row = c.index_mut-taken.result.now in
     let q = c.index-questions-number.result in
-    let asked = take c.loop-number.number c.args.questions.now in
+    let name = c.name-name.result.now in
     let number : q.0 ≡ c.question.inside.list = ap (λ (p : ℕ × MatcherText). p.0) (sym c.question.view_is) in
+    let named : q.1.name ≡ name = ap (λ (p : ℕ × MatcherText). p.1.name) (sym c.question.view_is) ∙ sym c.name-name.ensures.name in
     let fits : q.0 < length c.args.table.now.items =
     rw (c.index-questions-number.is) (All-get_or (λ (p : ℕ × MatcherText). p.0 < length c.args.table.now.items) c.args.questions.now
     c.loop-number.number q c.loop-number-test.true c.requires.numbers) in
-    let labels = map (λ set. set.now) sets in
     let before : row ≡ get_or rows q.0 row = c.index_mut-taken.ensures.value ∙ ap (λ n. get_or rows n row) (sym number) in
-    let long = ap (λ (r : Vec Bool Global). length r.items) before ∙ ap length (c.loop-number.invariant.table.1 q.0 row fits)
-    ∙ length-map labels (answer_of asked q.0) ∙ length-map sets (λ set. set.now) in
-    let values : length (values_in c.if-ne.column) ≡ length sets = elim c.if-ne.branch [
+    let long : length row.items ≡ length sets =
+    ap (λ (r : Vec Bool Global). length r.items) before ∙ ap length (c.loop-number.invariant.table.1 q.0 row fits)
+    ∙ length-map sets (answer_of (take c.loop-number.number c.args.questions.now) q.0) in
+    let told : IsColumnOf c.if-ne.column.name.now sets c.if-ne.column = elim c.if-ne.branch [
       | then-ne+in_ok-column-2 w ↦
-          ap (λ (x : Column). length (values_in x)) w.column-is ∙ ap length w.in_ok-column-2.ensures.values ∙ length-map sets _
-      | else-ne w ↦
-          ap (λ (x : Column). length (values_in x)) w.column-is ∙ ap length c.loop-number.invariant.values ∙ length-map sets _
+          rw w.column-is
+          (column_of_held name sets (held_at c.in_ok-held.held name) _ c.in_ok-held.ensures.label_sets
+          (c.in_ok-held.ensures.held name (name_among c.args.questions.now c.loop-number.number q c.loop-number-test.true c.index-questions-number.is name named))
+          w.in_ok-column-2.ensures.holders w.in_ok-column-2.ensures.name)
+      | else-ne w ↦ rw w.column-is c.loop-number.invariant.column
     ] in
-    long ∙ sym values
+    subst (λ n. All (λ place. place < n) c.if-ne.column.places.now) (sym long) (column_within c.if-ne.column.name.now sets c.if-ne.column told)
+
+pub ask-requires-clause-each : goal.ask-requires-clause-each
+ask-requires-clause-each c =
+    let sets = map (λ set. set.now) c.args.sets.now in
+    let q = c.index-questions-number.result in
+    let name = c.name-name.result.now in
+    let named : q.1.name ≡ name = ap (λ (p : ℕ × MatcherText). p.1.name) (sym c.question.view_is) ∙ sym c.name-name.ensures.name in
+    let told : IsColumnOf c.if-ne.column.name.now sets c.if-ne.column = elim c.if-ne.branch [
+      | then-ne+in_ok-column-2 w ↦
+          rw w.column-is
+          (column_of_held name sets (held_at c.in_ok-held.held name) _ c.in_ok-held.ensures.label_sets
+          (c.in_ok-held.ensures.held name (name_among c.args.questions.now c.loop-number.number q c.loop-number-test.true c.index-questions-number.is name named))
+          w.in_ok-column-2.ensures.holders w.in_ok-column-2.ensures.name)
+      | else-ne w ↦ rw w.column-is c.loop-number.invariant.column
+    ] in
+    column_long c.if-ne.column.name.now sets c.if-ne.column told
 
 pub returns-in_err-ask-clause-asked : goal.returns-in_err-ask-clause-asked
 returns-in_err-ask-clause-asked c =
@@ -102,21 +150,27 @@ loop-number-preserved c =
     let row = c.ask.new.taken in
     let old = c.index_mut-taken.result.now in
     let m = c.question.inside.matcher.now in
-    let sets = c.args.sets.now in
+    let name = c.name-name.result.now in
+    let sets = map (λ set. set.now) c.args.sets.now in
     let number : q.0 ≡ c.question.inside.list = ap (λ (p : ℕ × MatcherText). p.0) (sym c.question.view_is) in
     let matcher : q.1 ≡ m = ap (λ (p : ℕ × MatcherText). p.1) (sym c.question.view_is) in
+    let named : q.1.name ≡ name = ap (λ (n : MatcherText). n.name) matcher ∙ sym c.name-name.ensures.name in
     let fits : q.0 < length c.args.table.now.items =
     rw (c.index-questions-number.is) (All-get_or (λ (p : ℕ × MatcherText). p.0 < length c.args.table.now.items) qs k q c.loop-number-test.true c.requires.numbers) in
-    let labels = map (λ set. set.now) sets in
     let before : old ≡ get_or rows q.0 row =
     c.index_mut-taken.ensures.value
     ∙ get_or_default rows c.question.inside.list old row (omega (arith, fits, number, c.loop-number.invariant.table.0))
     ∙ ap (λ n. get_or rows n row) (sym number) in
-    let named : values_in c.if-ne.column ≡ map (λ set. value_of c.if-ne.column.name.now set.now) sets = elim c.if-ne.branch [
+    let long : length old.items ≡ length sets =
+    ap (λ (r : Vec Bool Global). length r.items) before ∙ ap length (c.loop-number.invariant.table.1 q.0 row fits)
+    ∙ length-map sets (answer_of (take k qs) q.0) in
+    let told : IsColumnOf c.if-ne.column.name.now sets c.if-ne.column = elim c.if-ne.branch [
       | then-ne+in_ok-column-2 w ↦
           rw w.column-is
-          (w.in_ok-column-2.ensures.values ∙ ap (λ name. map (λ set. value_of name set.now) sets) (sym w.in_ok-column-2.ensures.name))
-      | else-ne w ↦ rw w.column-is c.loop-number.invariant.values
+          (column_of_held name sets (held_at c.in_ok-held.held name) _ c.in_ok-held.ensures.label_sets
+          (c.in_ok-held.ensures.held name (name_among qs k q c.loop-number-test.true c.index-questions-number.is name named))
+          w.in_ok-column-2.ensures.holders w.in_ok-column-2.ensures.name)
+      | else-ne w ↦ rw w.column-is c.loop-number.invariant.column
     ] in
     let same : c.if-ne.column.name.now ≡ m.name = elim c.if-ne.branch [
       | then-ne+in_ok-column-2 w ↦
@@ -126,19 +180,16 @@ loop-number-preserved c =
           ∙ sym ((bytes_eq-Decides c.name-name.result.now c.loop-number.column.name.now).0 (passed _ w.if-ne.ensures))
           ∙ c.name-name.ensures.name
     ] in
-    let narrow : row.items ≡ narrowed q.1 labels (get_or rows q.0 row).items =
-    c.in_ok-ask.ensures.taken
-    ∙ ap (λ values. narrowed_by m values old.items) named
-    ∙ ap (λ name. narrowed_by m (map (λ set. value_of name set.now) sets) old.items) same
-    ∙ narrowed-values m (λ set. set.now) sets old.items
-    ∙ ap (λ n. narrowed n labels old.items) (sym matcher)
-    ∙ ap (λ (r : Vec Bool Global). narrowed q.1 labels r.items) before in
+    let narrow : row.items ≡ narrowed q.1 sets (get_or rows q.0 row).items =
+    c.in_ok-ask.ensures.taken sets (subst (λ n. IsColumnOf n sets c.if-ne.column) same told) long
+    ∙ ap (λ n. narrowed n sets old.items) (sym matcher)
+    ∙ ap (λ (r : Vec Bool Global). narrowed q.1 sets r.items) before in
     let more = questions_more_patterns qs k q c.loop-number-test.true c.index-questions-number.is in
     let asked = rw (← matcher) at c.in_ok-ask.ensures.misses in
     record {
       stays = stays-trans c.args.cache.now c.loop-number.cache c.ask.new.cache c.loop-number.invariant.stays c.in_ok-ask.ensures.asked;
       misses = omega (arith, more, asked, c.loop-number.invariant.misses);
-      values = named;
+      column = told;
       indexed = elim c.if-ne.branch [
         | then-ne+in_ok-column-2 w ↦ rw w.column-is w.in_ok-column-2.ensures.indexed
         | else-ne w ↦ rw w.column-is c.loop-number.invariant.indexed
@@ -146,6 +197,6 @@ loop-number-preserved c =
       last = c.in_ok-ask.ensures.last;
       table =
           rw (← number)
-          (table_more labels qs k q c.loop-number-test.true c.index-questions-number.is (length c.args.table.now.items) rows row
+          (table_more sets qs k q c.loop-number-test.true c.index-questions-number.is (length c.args.table.now.items) rows row
           c.loop-number.invariant.table fits narrow);
     }

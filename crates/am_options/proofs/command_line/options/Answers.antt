@@ -6,9 +6,9 @@ use Rattle.clap.specs.Simple.{subcommand_rows_of}
 use Rattle.clap.specs.declared.error.Error.{Error}
 use Rattle.clap.specs.declared.error.kind.ErrorKind.{ErrorKind}
 use Rattle.clap.proofs.OnLiterals.{clap_on_literals}
-use Rattle.am_options.specs.CommandLine.{Asks, Tells, asked_of, command_line, kinds, running_in, serving_in}
+use Rattle.am_options.specs.CommandLine.{Asks, Tells, asked_of, command_line, file_in, kinds, running_in, serving_in, world_asked}
 use Rattle.am_options.specs.declared.command_line.CommandLine.{CommandLine}
-use Rattle.am_options.specs.declared.command_line.CommandLine.TheVariants.{Run, Serve, Help, Bad}
+use Rattle.am_options.specs.declared.command_line.CommandLine.TheVariants.{Run, Serve, Check, Help, Bad}
 use Rattle.am_options.specs.declared.command_line.Running.{Running}
 use Rattle.am_options.specs.declared.command_line.Serving.{Serving}
 use Rattle.am_options.proofs.command_line.options.Goals as goal
@@ -26,6 +26,7 @@ is_read = refl
 asks_told : (words : List Text) (e : Error) (line : CommandLine) → HasKind (kinds words) e → Tells (kind_of e) line → Asks words line
 asks_told words e (Run running) has tells = absurd tells
 asks_told words e (Serve serving) has tells = absurd tells
+asks_told words e (Check file) has tells = absurd tells
 asks_told words e (Help text) has tells = elim tells [
   | inl help ↦ elim has [
     | inl memory ↦ cc
@@ -45,30 +46,43 @@ asks_told words e (Bad text) has tells = elim has [
 abbrev IsWork : CommandLine → Type 0
 IsWork (Run running) = Unit {0}
 IsWork (Serve serving) = Unit {0}
+IsWork (Check file) = Unit {0}
 IsWork (Help text) = ⊥
 IsWork (Bad text) = ⊥
 
-told_by : (b : Bool) (serving : Option Serving) (running : Option Running) (line : CommandLine) →
+told_by_world : (b : Bool) (serving : Option Serving) (running : Option Running) (line : CommandLine) →
     (if b then option_map Serve serving else option_map Run running) ≡ Some line → IsWork line
-told_by b serving running (Run _) e = tt
-told_by b serving running (Serve _) e = tt
-told_by true None running (Help text) e = cc
-told_by true (Some serving) running (Help text) e = cc
-told_by false serving None (Help text) e = cc
-told_by false serving (Some running) (Help text) e = cc
-told_by true None running (Bad text) e = cc
-told_by true (Some serving) running (Bad text) e = cc
-told_by false serving None (Bad text) e = cc
-told_by false serving (Some running) (Bad text) e = cc
+told_by_world b serving running (Run _) e = tt
+told_by_world b serving running (Serve _) e = tt
+told_by_world b serving running (Check _) e = tt
+told_by_world true None running (Help text) e = cc
+told_by_world true (Some serving) running (Help text) e = cc
+told_by_world false serving None (Help text) e = cc
+told_by_world false serving (Some running) (Help text) e = cc
+told_by_world true None running (Bad text) e = cc
+told_by_world true (Some serving) running (Bad text) e = cc
+told_by_world false serving None (Bad text) e = cc
+told_by_world false serving (Some running) (Bad text) e = cc
+
+told_by : (b : Bool) (file : Option Text) (name : Text) (rows : List Row) (line : CommandLine) →
+    (if b then option_map Check file else world_asked name rows) ≡ Some line → IsWork line
+told_by true None name rows line e = absurd cc
+told_by true (Some file) name rows (Run _) e = tt
+told_by true (Some file) name rows (Serve _) e = tt
+told_by true (Some file) name rows (Check _) e = tt
+told_by true (Some file) name rows (Help text) e = cc
+told_by true (Some file) name rows (Bad text) e = cc
+told_by false file name rows line e = told_by_world (bytes_eq name (codes "serve")) (serving_in rows) (running_in rows) line e
 
 is_work : (entered : Option (Text × List Row)) (line : CommandLine) → asked_of entered ≡ Some line → IsWork line
 is_work None line e = absurd cc
-is_work (Some sub) line e = told_by (bytes_eq sub.0 (codes "serve")) (serving_in sub.1) (running_in sub.1) line e
+is_work (Some sub) line e = told_by (bytes_eq sub.0 (codes "check")) (file_in sub.1) sub.0 sub.1 line e
 
 asks_work : (words : List Text) (line : CommandLine) → kinds words ≡ [] → asked_of (subcommand_of command_line words) ≡ Some line →
     IsWork line → Asks words line
 asks_work words (Run running) none asked work = (none, asked)
 asks_work words (Serve serving) none asked work = (none, asked)
+asks_work words (Check file) none asked work = (none, asked)
 asks_work words (Help text) none asked work = absurd work
 asks_work words (Bad text) none asked work = absurd work
 

@@ -4,7 +4,6 @@ use Rattle.am_cluster.specs.Courses.{told_all}
 use Rattle.am_cluster.specs.PrivateCluster.{opened}
 use Rattle.am_cluster.specs.View.{first_watch, view}
 use Rattle.am_item.specs.declared.item.Item.{Item}
-use Rattle.am_world.specs.Opening.{origin_of}
 use Rattle.am_world.specs.Shelves.{rows_in, shelves_of}
 use Rattle.am_setup.specs.Setup.{Origin}
 use Rattle.am_world.proofs.theorem.run_both.Goals as goal
@@ -13,14 +12,14 @@ pub returns : goal.returns
 returns g c =
     let rows = rows_in (shelves_of g.R.Rows c.args.stores.items) in
     let other_rows = rows_in (shelves_of g.R.Rows c.args.other_stores.items) in
-    let own = origin_of c.args.setup.origin in
-    let other = origin_of c.args.other_setup.origin in
+    let own = c.args.setup.origin in
+    let other = c.args.other_setup.origin in
     record {
       steps = c.in_ok-world.ensures.steps;
       other_steps = c.in_ok-other.ensures.steps;
       equal = λ none other_none clean other_clean start once other_once t stored same built other_built.
           (c.in_ok-world.ensures.alone none clean once).tenants t built
-          ∙ ap (λ (setting : Origin). told_all (opened (origin_of setting) t (rows t))
+          ∙ ap (λ (setting : Origin). told_all (opened setting t (rows t))
           (view t (first_watch own) c.args.events.now)) start
           ∙ ap (λ (had : ℕ → List Item). told_all (opened other t had) (view t (first_watch own) c.args.events.now))
           stored

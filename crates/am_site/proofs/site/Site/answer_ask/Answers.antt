@@ -24,14 +24,14 @@ unfolding local_of
 returns-clause-reacts c =
     let s = c.args.here.now.tenant.now in
     let here = here_of c.args.here.now in
-    let held = c.in_ok-held.held.items in
+    let held = c.held-held.result.now in
     let change = answered c.args.asker.now held in
     on_ok_weaker c.send_pieces.result
-    (λ sent. settled_sends s change (on change) c.args.self.now c.asked.new.self (λ p. refl) (rw c.as_slice.ensures.value at c.in_ok-pieces.ensures.each) c.in_ok-pieces.ensures.timed (λ p. refl)
+    (λ sent. settled_sends s change (on change) c.args.self.now c.asked.new.self (λ p. refl) c.in_ok-pieces.ensures.each c.in_ok-pieces.ensures.timed (λ p. refl)
     (each (send_piece here c.args.asker.now) c.in_ok-pieces.pieces.items) (answer_ask here c.args.asker.now)
-    (rw (c.in_ok-pieces.ensures.pieces, c.as_slice.ensures.value) (answer_as here c.args.asker.now held (local_of s c.args.self.now) (c.in_ok-held.ensures ∙ c.held.ensures.held)
+    (rw c.in_ok-pieces.ensures.pieces (answer_as here c.args.asker.now held (local_of s c.args.self.now) c.held-held.ensures.held
     (sym c.is_settled.ensures ∙ c.if-not-is_settled.false)))
-    c.args.outbox.now.items c.send_pieces.new.self c.send_pieces.new.outbox.items (rw c.as_slice-2.ensures.value at sent))
+    c.args.outbox.now.items c.send_pieces.new.self c.send_pieces.new.outbox.items (rw c.as_slice.ensures.value at sent))
     c.send_pieces.ensures.reacts
 
 pub returns-clause-fault : goal.returns-clause-fault
@@ -39,14 +39,14 @@ unfolding local_of
 returns-clause-fault c =
     let s = c.args.here.now.tenant.now in
     let here = here_of c.args.here.now in
-    let held = c.in_ok-held.held.items in
+    let held = c.held-held.result.now in
     let change = answered c.args.asker.now held in
     IfErr-weaker c.send_pieces.result _ _
-    (λ fault stops. settled_stops s change (on change) c.args.self.now c.asked.new.self (λ p. refl) (rw c.as_slice.ensures.value at c.in_ok-pieces.ensures.each) c.in_ok-pieces.ensures.timed (λ p. refl)
+    (λ fault stops. settled_stops s change (on change) c.args.self.now c.asked.new.self (λ p. refl) c.in_ok-pieces.ensures.each c.in_ok-pieces.ensures.timed (λ p. refl)
     (each (send_piece here c.args.asker.now) c.in_ok-pieces.pieces.items) (answer_ask here c.args.asker.now)
-    (rw (c.in_ok-pieces.ensures.pieces, c.as_slice.ensures.value) (answer_as here c.args.asker.now held (local_of s c.args.self.now) (c.in_ok-held.ensures ∙ c.held.ensures.held)
+    (rw c.in_ok-pieces.ensures.pieces (answer_as here c.args.asker.now held (local_of s c.args.self.now) c.held-held.ensures.held
     (sym c.is_settled.ensures ∙ c.if-not-is_settled.false)))
-    c.args.outbox.now.items fault (rw c.as_slice-2.ensures.value at stops))
+    c.args.outbox.now.items fault (rw c.as_slice.ensures.value at stops))
     c.send_pieces.ensures.fault
 
 pub returns-clause-order : goal.returns-clause-order

@@ -1,7 +1,6 @@
 use Rattle.std.proofs.Common.{refl, sym, ◌∙◌}
 use Rattle.std.proofs.lemmas.Result.{IfErr-weaker, err_from_is_err_and, on_ok_weaker}
 use Rattle.am_rows.proofs.Wearing.{unworn}
-use Rattle.am_site.specs.Here.{here_of}
 use Rattle.am_replica.specs.Storing.{fault_in}
 use Rattle.am_site.proofs.Learned.{dropped_in_order, elsewhere_in_order, learns_as_replica, learns_dropped, learns_elsewhere, none_open_then, sound_then, stops_as_replica, stops_being}
 use Rattle.am_site.proofs.Leaving.{held_stored, leaves_all, leaves_none, leaves_untouched, not_refused, not_stopped, still_stores, stops_dropping}

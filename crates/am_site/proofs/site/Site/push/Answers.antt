@@ -16,13 +16,13 @@ unfolding local_of
 returns-clause-reacts c =
     let s = c.args.here.now.tenant.now in
     let here = here_of c.args.here.now in
-    let held = c.in_ok-held.held.items in
+    let held = c.held-held.result.now in
     let change = pushed c.args.receiver.now here.moment held in
     on_ok_weaker c.send_pieces.result
-    (λ sent. settled_sends s change (on change) c.args.self.now c.push.new.self (λ p. refl) (rw c.as_slice.ensures.value at c.in_ok-pieces.ensures.each) c.in_ok-pieces.ensures.timed (λ p. refl)
+    (λ sent. settled_sends s change (on change) c.args.self.now c.push.new.self (λ p. refl) c.in_ok-pieces.ensures.each c.in_ok-pieces.ensures.timed (λ p. refl)
     (each (send_piece here c.args.receiver.now) c.in_ok-pieces.pieces.items) (push here c.args.receiver.now)
-    (rw (c.in_ok-pieces.ensures.pieces, c.as_slice.ensures.value) (push_as here c.args.receiver.now held (local_of s c.args.self.now) (c.in_ok-held.ensures ∙ c.held.ensures.held)))
-    c.args.outbox.now.items c.send_pieces.new.self c.send_pieces.new.outbox.items (rw c.as_slice-2.ensures.value at sent))
+    (rw c.in_ok-pieces.ensures.pieces (push_as here c.args.receiver.now held (local_of s c.args.self.now) c.held-held.ensures.held))
+    c.args.outbox.now.items c.send_pieces.new.self c.send_pieces.new.outbox.items (rw c.as_slice.ensures.value at sent))
     c.send_pieces.ensures.reacts
 
 pub returns-clause-fault : goal.returns-clause-fault
@@ -30,13 +30,13 @@ unfolding local_of
 returns-clause-fault c =
     let s = c.args.here.now.tenant.now in
     let here = here_of c.args.here.now in
-    let held = c.in_ok-held.held.items in
+    let held = c.held-held.result.now in
     let change = pushed c.args.receiver.now here.moment held in
     IfErr-weaker c.send_pieces.result _ _
-    (λ fault stops. settled_stops s change (on change) c.args.self.now c.push.new.self (λ p. refl) (rw c.as_slice.ensures.value at c.in_ok-pieces.ensures.each) c.in_ok-pieces.ensures.timed (λ p. refl)
+    (λ fault stops. settled_stops s change (on change) c.args.self.now c.push.new.self (λ p. refl) c.in_ok-pieces.ensures.each c.in_ok-pieces.ensures.timed (λ p. refl)
     (each (send_piece here c.args.receiver.now) c.in_ok-pieces.pieces.items) (push here c.args.receiver.now)
-    (rw (c.in_ok-pieces.ensures.pieces, c.as_slice.ensures.value) (push_as here c.args.receiver.now held (local_of s c.args.self.now) (c.in_ok-held.ensures ∙ c.held.ensures.held)))
-    c.args.outbox.now.items fault (rw c.as_slice-2.ensures.value at stops))
+    (rw c.in_ok-pieces.ensures.pieces (push_as here c.args.receiver.now held (local_of s c.args.self.now) c.held-held.ensures.held))
+    c.args.outbox.now.items fault (rw c.as_slice.ensures.value at stops))
     c.send_pieces.ensures.fault
 
 pub returns-clause-order : goal.returns-clause-order

@@ -1,7 +1,6 @@
 use Rattle.std.proofs.Common.{◌+◌, ◌<◌, ◌≤◌, List, length, ap, refl, sym, subst, ◌∙◌}
 use Rattle.std.proofs.lemmas.Result.{IfErr-weaker, err_from_is_err_and, on_ok_weaker}
 use Rattle.am_alert.specs.Made.{greatest_count}
-use Rattle.am_api.specs.Deciding.{decision_of}
 use Rattle.am_cluster.specs.Local.{Local}
 use Rattle.am_item.specs.Counts.{count_of}
 use Rattle.am_item.specs.declared.item.Item.{Item}
@@ -11,7 +10,7 @@ use Rattle.am_quorum.proofs.Seen.{target_here}
 use Rattle.am_quorum.specs.Dockets.{docket_of, operations_of}
 use Rattle.am_quorum.specs.Operations.{lists_by, operation_at}
 use Rattle.am_transfer.specs.Tenants.{settling_of}
-use Rattle.am_site.specs.Deciding.{IsDecided, StopsDeciding, asked_on}
+use Rattle.am_site.specs.Deciding.{IsDecided, StopsDeciding, asked_on, shared_as}
 use Rattle.am_site.specs.Locals.{local_of}
 use Rattle.am_site.specs.declared.site.Site.{Site}
 use Rattle.am_site.proofs.Answered.{answers_decided, answers_nothing, asks_decided, changes_here, same_site, still_here, stops_carrying, stops_deciding}
@@ -63,11 +62,11 @@ returns-clause-answers c =
     (sym c.in-Some.is ∙ c.in_ok-lists.ensures.decide) c.in_ok-lists.ensures.each c.in-Some-get.ensures.operation c.get.ensures.alone in
     let mid : Site = record { node = c.decide_on.new.node; operations = c.answer.new.self; sent = old.sent; settling = old.settling; elsewhere = c.decide_on.new.elsewhere } in
     let same = same_site old mid c.decide_on.ensures.stays still.dockets refl refl in
-    let decided = subst (λ (list : List Item). IsDecided c.args.cache.now.refused c.decide_on.new.cache.refused given o.request list (local_of s old) (decision_of c.in_ok-decided.decided)) c.in_ok-list.ensures
+    let decided = subst (λ (list : List Item). IsDecided c.args.cache.now.refused c.decide_on.new.cache.refused given o.request list (local_of s old) (shared_as c.in_ok-decided.decided)) c.in_ok-list.ensures
     (c.in_ok-decided.ensures.decided (docket_of s old.operations) (count_of s old.sent) (settling_of s old.settling.progress)) in
     on_ok_weaker c.carry_out.result
     (λ reacts. answers_decided given target.number target.epoch c.args.answered old c.in-Some.lists o mid still.found same
-    c.args.cache.now.refused c.decide_on.new.cache.refused c.carry_out.new.self c.args.outbox.now.items c.carry_out.new.outbox.items (decision_of c.in_ok-decided.decided)
+    c.args.cache.now.refused c.decide_on.new.cache.refused c.carry_out.new.self c.args.outbox.now.items c.carry_out.new.outbox.items (shared_as c.in_ok-decided.decided)
     (record { incarnation = c.answer.ensures.incarnation; positions = λ t. ap (λ (l : NodeLocal). l.position) (c.decide_on.ensures.stays t); asked = λ t. refl; timed = λ timed. timed })
     decided (reacts o (ap (λ (l : Local). operation_at target.number l.operations) (same s) ∙ still.at) still.epoch_is))
     c.carry_out.ensures.reacts
@@ -85,11 +84,11 @@ returns-clause-fault c =
     (sym c.in-Some.is ∙ c.in_ok-lists.ensures.decide) c.in_ok-lists.ensures.each c.in-Some-get.ensures.operation c.get.ensures.alone in
     let mid : Site = record { node = c.decide_on.new.node; operations = c.answer.new.self; sent = old.sent; settling = old.settling; elsewhere = c.decide_on.new.elsewhere } in
     let same = same_site old mid c.decide_on.ensures.stays still.dockets refl refl in
-    let decided = subst (λ (list : List Item). IsDecided c.args.cache.now.refused c.decide_on.new.cache.refused given o.request list (local_of s old) (decision_of c.in_ok-decided.decided)) c.in_ok-list.ensures
+    let decided = subst (λ (list : List Item). IsDecided c.args.cache.now.refused c.decide_on.new.cache.refused given o.request list (local_of s old) (shared_as c.in_ok-decided.decided)) c.in_ok-list.ensures
     (c.in_ok-decided.ensures.decided (docket_of s old.operations) (count_of s old.sent) (settling_of s old.settling.progress)) in
     IfErr-weaker c.carry_out.result _ _
     (λ fault stops. stops_carrying given target.number target.epoch c.args.answered old c.in-Some.lists o mid still.found same
-    c.args.cache.now.refused c.decide_on.new.cache.refused (decision_of c.in_ok-decided.decided) decided fault
+    c.args.cache.now.refused c.decide_on.new.cache.refused (shared_as c.in_ok-decided.decided) decided fault
     (stops o (ap (λ (l : Local). operation_at target.number l.operations) (same s) ∙ still.at) still.epoch_is))
     c.carry_out.ensures.fault
 

@@ -7,7 +7,7 @@ use Rattle.am_transfer.proofs.sent_list.SentList.new.Goals as goal
 pub invariant_of-result : goal.invariant_of-result
 invariant_of-result c =
     let whole : items_in c.in_ok-cut.field-0.items ≡ c.args.held.now = ap items_in c.in_ok-cut.ensures ∙ pieces_are_list c.args.held.now in
-    (c.in_ok-cut.ensures ∙ ap cut (sym whole), ap length (sym whole))
+    (c.in_ok-cut.ensures ∙ ap cut (sym whole), c.len.ensures ∙ ap length (sym whole))
 
 pub returns : goal.returns
 returns c =

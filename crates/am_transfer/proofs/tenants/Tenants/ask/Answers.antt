@@ -9,6 +9,11 @@ use Rattle.am_transfer.specs.Progress.{first_asked, to_ask}
 use Rattle.am_transfer.proofs.Table.{each_changed, entries_same, found_or_new, others_moved, others_stay, seen, tenants}
 use Rattle.am_transfer.proofs.tenants.Tenants.ask.Goals as goal
 
+pub invariant_of-self-2 : goal.invariant_of-self-2
+invariant_of-self-2 c =
+    let kept = c.in_ok-self-inside.ensures.update.2 c.ask_first.new.self in
+    search rules
+
 pub returns-clause-receivers : goal.returns-clause-receivers
 returns-clause-receivers c =
     let entry = c.in_ok-self-inside.ensures in

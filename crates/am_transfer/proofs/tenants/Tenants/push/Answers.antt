@@ -11,6 +11,11 @@ use Rattle.am_transfer.specs.Settling.{list_for, pushed}
 use Rattle.am_transfer.proofs.Table.{each_changed, entries_same, found_or_new, others_moved, others_stay, seen, tenants}
 use Rattle.am_transfer.proofs.tenants.Tenants.push.Goals as goal
 
+pub invariant_of-self-2 : goal.invariant_of-self-2
+invariant_of-self-2 c =
+    let kept = c.in_ok-self-inside.ensures.update.2 c.push.new.self in
+    search rules
+
 pub returns-clause-pieces : goal.returns-clause-pieces
 returns-clause-pieces c =
     let entry = c.in_ok-self-inside.ensures in

@@ -8,6 +8,11 @@ use Rattle.am_transfer.specs.Settling.{now_settled}
 use Rattle.am_transfer.proofs.Table.{each_changed, entries_same, found_or_new, others_moved, others_stay, seen, tenants}
 use Rattle.am_transfer.proofs.tenants.Tenants.settle.Goals as goal
 
+pub invariant_of-self-2 : goal.invariant_of-self-2
+invariant_of-self-2 c =
+    let kept = c.in_ok-self-inside.ensures.update.2 c.settle.new.self in
+    search rules
+
 pub returns-clause-each : goal.returns-clause-each
 returns-clause-each c =
     let entry = c.in_ok-self-inside.ensures in

@@ -9,6 +9,11 @@ use Rattle.am_transfer.specs.Settling.{place_behind, taken}
 use Rattle.am_transfer.proofs.Table.{each_changed, entries_same, found_or_new, others_moved, others_stay, seen, tenants}
 use Rattle.am_transfer.proofs.tenants.Tenants.take.Goals as goal
 
+pub invariant_of-self-2 : goal.invariant_of-self-2
+invariant_of-self-2 c =
+    let kept = c.in_ok-self-inside.ensures.update.2 c.take.new.self in
+    search rules
+
 pub returns-clause-place : goal.returns-clause-place
 returns-clause-place c =
     let entry = c.in_ok-self-inside.ensures in

@@ -9,6 +9,11 @@ use Rattle.am_transfer.specs.Progress.{again_to, sent_again}
 use Rattle.am_transfer.proofs.Table.{each_changed, entries_same, found_or_new, others_moved, others_stay, seen, tenants}
 use Rattle.am_transfer.proofs.tenants.Tenants.tick.Goals as goal
 
+pub invariant_of-self-2 : goal.invariant_of-self-2
+invariant_of-self-2 c =
+    let kept = c.in_ok-self-inside.ensures.update.2 c.tick.new.self in
+    search rules
+
 pub returns-clause-again : goal.returns-clause-again
 returns-clause-again c =
     let entry = c.in_ok-self-inside.ensures in

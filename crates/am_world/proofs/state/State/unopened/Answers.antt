@@ -1,4 +1,5 @@
 use Rattle.std.proofs.Common.{◌≡◌, ◌∙◌, ◌++◌, ◌∷◌, [], ℕ, List, ap, arith, length, map, refl, rules}
+use Rattle.am_limit.specs.Books.{unset_book}
 use Rattle.am_ring.specs.Instances.{Members}
 use Rattle.am_world.proofs.state.State.unopened.Goals as goal
 
@@ -12,7 +13,7 @@ returns c =
       begun = record {
         clock = search rules;
         service_key = c.service_key.ensures;
-        limits = c.new.ensures;
+        limits = c.new.ensures ∙ ap unset_book c.limits.ensures;
         rings = ap (map (λ (ring : Members). ring.instances)) rings
             ∙ ap (λ (ring : List ℕ). ring ∷ []) c.ring.ensures.instances;
         first = c.start-2.ensures;

@@ -1,6 +1,0 @@
-use Rattle.std.proofs.Common.{◌≡◌, ◌++◌, take}
-use Rattle.am_item.specs.Held.{items_by, entry_item}
-use Rattle.am_item.proofs.shared_item.push_entries.Given as goal
-
-abbrev pub invariant-loop-kept : goal.invariant-loop-kept
-invariant-loop-kept l = l.items.items ≡ l.initial.items.items ++ items_by entry_item (take l.kept-index l.entries)

@@ -1,0 +1,4 @@
+pub mod Incidents
+pub mod Lines
+pub mod Throttling
+pub mod Releases

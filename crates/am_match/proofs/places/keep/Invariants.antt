@@ -1,8 +1,0 @@
-use Rattle.std.proofs.Common.{◌≡◌, drop, false, length, replicate}
-use Rattle.am_match.specs.Places.{kept}
-use Rattle.am_match.proofs.places.keep.Given as goal
-
-abbrev pub invariant-loop-place : goal.invariant-loop-place
-invariant-loop-place l =
-    (kept (drop l.place-index l.places) l.flags l.left.items ≡ kept l.places l.flags (replicate (length l.flags) false))
-    × (length l.left.items ≡ length l.flags)
