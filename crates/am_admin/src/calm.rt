@@ -1,7 +1,6 @@
 //! When a ring may change without anything getting lost.
 
-use am_rows::Rows;
-use am_world::{Event, World};
+use am_world::{AnyWorld, Event};
 use std::alloc::{AllocError, Global};
 use std::fmt;
 
@@ -42,9 +41,9 @@ impl fmt::Display for Unready {
 ///
 /// # Errors
 /// Out of memory.
-pub fn obstacle<R: Rows>(
+pub fn obstacle<W: AnyWorld>(
     alloc: Global,
-    world: &World<R>,
+    world: &W,
     event: &Event,
 ) -> Result<Option<Unready>, AllocError> {
     match event {
@@ -57,9 +56,9 @@ pub fn obstacle<R: Rows>(
 }
 
 // The first instance of the ring, but for one, that isn't ready for a change.
-fn first_unready<R: Rows>(
+fn first_unready<W: AnyWorld>(
     alloc: Global,
-    world: &World<R>,
+    world: &W,
     but: Option<u8>,
 ) -> Result<Option<Unready>, AllocError> {
     let ring = world.ring();
@@ -75,9 +74,9 @@ fn first_unready<R: Rows>(
 }
 
 // What is under way at an instance of the ring.
-fn in_way<R: Rows>(
+fn in_way<W: AnyWorld>(
     alloc: Global,
-    world: &World<R>,
+    world: &W,
     number: u8,
 ) -> Result<Option<Unready>, AllocError> {
     if !world.is_up(number) {

@@ -1,18 +1,18 @@
 //! A gateway of which is counted what it does.
 
 ghost use Rattle.std.specs.Prelude.{◌≡◌, false};
+ghost use Rattle.am_admin.specs.Changes.{change_by};
 
 use crate::called::{Called, name_call};
 use am_gateway::{Gateway, Try};
 use am_limit::Limits;
-use am_log::{Entry, Incidents, LetGo, WebhookFailure};
-use am_rows::Rows;
+use am_log::{Change, Entry, Incidents, LetGo, WebhookFailure};
 use am_serve::{Host, Verdict};
 use am_server::{Notice, Service};
 use am_tally::{Load, Parting, Tally};
 use am_tenant::TenantName;
 use am_text::Text;
-use am_world::Event;
+use am_world::{AnyWorld, Event, Refused};
 use std::alloc::{AllocError, Global};
 use std::mem;
 
@@ -23,10 +23,10 @@ const TOLD: [(Parting, LetGo); 3] = [
     (Parting::Late, LetGo::Late),
 ];
 
-/// A gateway, how often it did what, and what failed and is to be told.
-pub struct Counted<'w, R: Rows> {
+/// A gateway, how often it did what, and what happened and is to be told.
+pub struct Counted<'w, W: AnyWorld> {
     alloc: Global,
-    gateway: Gateway<'w, R>,
+    gateway: Gateway<'w, W>,
     tally: Tally,
     incidents: Incidents,
     // What the server had open and held when it last said so.
@@ -38,7 +38,7 @@ pub struct Counted<'w, R: Rows> {
 }
 
 // Written out, so that a crate which owns one has no need to prove anew how each of its parts is dropped.
-impl<R: Rows> Drop for Counted<'_, R> {
+impl<W: AnyWorld> Drop for Counted<'_, W> {
     fn drop(self) {
         let Counted {
             alloc: _alloc,
@@ -55,10 +55,10 @@ impl<R: Rows> Drop for Counted<'_, R> {
     }
 }
 
-impl<'w, R: Rows> Counted<'w, R> {
+impl<'w, W: AnyWorld> Counted<'w, W> {
     /// A gateway of which nothing was counted. What becomes of notices is counted tenant by tenant, where that is asked
     /// for.
-    pub fn new(alloc: Global, gateway: Gateway<'w, R>, by_tenant: bool) -> Counted<'w, R>
+    pub fn new(alloc: Global, gateway: Gateway<'w, W>, by_tenant: bool) -> Counted<'w, W>
         ensures { result.gateway ≡ gateway.entry }
     {
         Counted {
@@ -73,13 +73,8 @@ impl<'w, R: Rows> Counted<'w, R> {
     }
 
     /// The gateway.
-    pub fn gateway(&self) -> &Gateway<'w, R> {
+    pub fn gateway(&self) -> &Gateway<'w, W> {
         &self.gateway
-    }
-
-    /// The gateway, to be told what those ask for who run it.
-    pub(crate) fn gateway_mut(&mut self) -> &mut Gateway<'w, R> {
-        &mut self.gateway
     }
 
     /// How often it did what.
@@ -101,7 +96,7 @@ impl<'w, R: Rows> Counted<'w, R> {
         self.load = load;
     }
 
-    /// What is to be told next of what failed.
+    /// What is to be told next of what happened.
     pub fn next_entry(&mut self) -> Option<Entry> {
         self.incidents.next(self.moment)
     }
@@ -131,6 +126,21 @@ impl<'w, R: Rows> Counted<'w, R> {
         Ok(())
     }
 
+    /// Has an event happen that those who run the service ask for, which is to be told then, unless memory is refused
+    /// for that. Gives why it is refused, where it is; nothing changed then.
+    ///
+    /// # Errors
+    /// Out of memory: the event happened, it isn't told, and of what was put out all but a first part is lost.
+    pub(crate) fn operate(&mut self, event: &Event) -> Result<Option<Refused>, AllocError> {
+        let refused = self.gateway.operate(event)?;
+        if refused.is_none() {
+            if let Some(change) = change_by(event) {
+                let _ = self.incidents.note_change(change);
+            }
+        }
+        Ok(refused)
+    }
+
     // A try failed. It isn't told where memory is refused.
     fn note_failure(&mut self, failed: &Try, receiver: Option<Text>, status: Option<u16>) {
         let Some(receiver) = receiver else {
@@ -141,19 +151,20 @@ impl<'w, R: Rows> Counted<'w, R> {
             receiver,
             status,
             tries: failed.tries,
+            instance: failed.attempt.instance,
         };
         let _ = self.incidents.note_failure(failure, self.moment);
     }
 }
 
-impl<R: Rows> Host for Counted<'_, R> {
+impl<W: AnyWorld> Host for Counted<'_, W> {
     ghost use Rattle.am_gateway.specs.Gateway.{ClosesConnection, OpensConnection, TakesPiece};
 
-    ghost opens = { λ old c result new. OpensConnection old.gateway c result new.gateway };
+    ghost opens = { λ old c result new. OpensConnection W.contents old.gateway c result new.gateway };
 
-    ghost takes = { λ old c piece verdict new. TakesPiece old.gateway c piece verdict new.gateway };
+    ghost takes = { λ old c piece verdict new. TakesPiece W.contents old.gateway c piece verdict new.gateway };
 
-    ghost closes = { λ old c new. ClosesConnection old.gateway c new.gateway };
+    ghost closes = { λ old c new. ClosesConnection W.contents old.gateway c new.gateway };
 
     fn open(&mut self, connection: u64) -> bool {
         self.gateway.open(connection)
@@ -172,7 +183,7 @@ impl<R: Rows> Host for Counted<'_, R> {
     }
 }
 
-impl<R: Rows> Service for Counted<'_, R> {
+impl<W: AnyWorld> Service for Counted<'_, W> {
     type Name = Called;
 
     fn is_up(&self) -> bool {
@@ -220,5 +231,19 @@ impl<R: Rows> Service for Counted<'_, R> {
             self.note_failure(&attempted, receiver, status);
         }
         self.gateway.end_call(attempted, status)
+    }
+}
+
+// What is told of an event once it was asked for; none where nobody asks for such a one.
+fn change_by(event: &Event) -> Option<Change>
+    ensures { result ≡ change_by event.now }
+{
+    match event {
+        Event::Join { instance } => Some(Change::Joined(*instance)),
+        Event::Leave { instance } => Some(Change::Left(*instance)),
+        Event::Crash { instance } => Some(Change::Crashed(*instance)),
+        Event::Restart { instance } => Some(Change::Restarted(*instance)),
+        Event::Force { tenant } => Some(Change::Forced(*tenant)),
+        _ => None,
     }
 }

@@ -7,30 +7,29 @@ use crate::telling::standing;
 use am_asking::{Asked, Heads, read};
 use am_gateway::has_quorum;
 use am_http::{refusal_body, reply_bytes};
-use am_rows::Rows;
 use am_serve::{Host, Verdict};
 use am_text::Octets;
-use am_world::{Event, World};
+use am_world::{AnyWorld, Event};
 use serde_json::json;
 use std::alloc::{AllocError, Global};
 
 /// Answers the clients of the port of those who run a service.
 #[derive(Drop)]
-pub struct Desk<'d, 'w, R: Rows> {
+pub struct Desk<'d, 'w, W: AnyWorld> {
     alloc: Global,
     heads: &'d mut Heads,
-    counted: &'d mut Counted<'w, R>,
+    counted: &'d mut Counted<'w, W>,
     // Whether memory ran out as something happened, so that a part of what was put out is lost.
     has_lost: bool,
 }
 
-impl<'d, 'w, R: Rows> Desk<'d, 'w, R> {
+impl<'d, 'w, W: AnyWorld> Desk<'d, 'w, W> {
     /// A desk before a gateway that is counted, to which these parts of heads came so far.
     pub fn new(
         alloc: Global,
         heads: &'d mut Heads,
-        counted: &'d mut Counted<'w, R>,
-    ) -> Desk<'d, 'w, R> {
+        counted: &'d mut Counted<'w, W>,
+    ) -> Desk<'d, 'w, W> {
         Desk {
             alloc,
             heads,
@@ -63,7 +62,7 @@ impl<'d, 'w, R: Rows> Desk<'d, 'w, R> {
     }
 
     // The world that is asked about.
-    fn world(&self) -> &World<R> {
+    fn world(&self) -> &W {
         self.counted.gateway().world()
     }
 
@@ -89,7 +88,7 @@ impl<'d, 'w, R: Rows> Desk<'d, 'w, R> {
         if let Some(unready) = obstacle(self.alloc, self.world(), event)? {
             return self.refuse(unready);
         }
-        match self.counted.gateway_mut().operate(event) {
+        match self.counted.operate(event) {
             Ok(None) => reply_bytes(self.alloc, 200, b"{}"),
             Ok(Some(refused)) => {
                 let body = refusal_body(self.alloc, refused.code())?;
@@ -110,7 +109,7 @@ impl<'d, 'w, R: Rows> Desk<'d, 'w, R> {
     }
 }
 
-impl<R: Rows> Host for Desk<'_, '_, R> {
+impl<W: AnyWorld> Host for Desk<'_, '_, W> {
     fn open(&mut self, _connection: u64) -> bool {
         true
     }

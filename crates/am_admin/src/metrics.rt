@@ -1,10 +1,9 @@
-//! What was counted, and how the ring stands, as Prometheus reads it: its text format, version 0.0.4.
+//! What was counted, what is held, and how the ring stands, as Prometheus reads it: its text format, version 0.0.4.
 
 use crate::counted::Counted;
-use am_rows::Rows;
 use am_tally::{Metric, add, add_counts, add_each, add_load};
 use am_text::Octets;
-use am_world::World;
+use am_world::AnyWorld;
 use std::alloc::{AllocError, Global};
 
 /// How the reply begins.
@@ -13,6 +12,18 @@ const START: &str =
 
 /// The numbers of all instances.
 const NUMBERS: [u8; 8] = [1, 2, 3, 4, 5, 6, 7, 8];
+
+const ALERTS: Metric = Metric {
+    name: "alertmanager_alerts",
+    kind: "gauge",
+    help: "Alerts that are held.",
+};
+
+const HELD_BACK: Metric = Metric {
+    name: "amring_notifications_held_back_total",
+    kind: "counter",
+    help: "How often an allowance held a notice back.",
+};
 
 const EPOCH: Metric = Metric {
     name: "amring_ring_epoch",
@@ -38,16 +49,17 @@ const BEHIND: Metric = Metric {
     help: "Whether an instance has yet to learn the newest ring.",
 };
 
-/// A reply with all that was counted, what is open and held, and how the ring stands.
+/// A reply with all that was counted, what is open and held, and how the ring stands. It looks at each tenant.
 ///
 /// # Errors
 /// Out of memory.
-pub fn reply<R: Rows>(alloc: Global, counted: &Counted<'_, R>) -> Result<Octets, AllocError> {
+pub fn reply<W: AnyWorld>(alloc: Global, counted: &Counted<'_, W>) -> Result<Octets, AllocError> {
     let mut text = String::new(alloc);
     let world = counted.gateway().world();
     add_counts(alloc, &mut text, counted.tally(), world.faults())?;
     let waiting = counted.gateway().waiting_bytes() as u64;
     add_load(alloc, &mut text, counted.load(), waiting)?;
+    add_held(alloc, &mut text, world)?;
     add_ring(alloc, &mut text, world)?;
     let length = text.len();
     let mut head = format!(in alloc; "{START}Content-Length: {length}\r\n\r\n")?.into_bytes();
@@ -55,8 +67,21 @@ pub fn reply<R: Rows>(alloc: Global, counted: &Counted<'_, R>) -> Result<Octets,
     Ok(Octets::from_vec(head))
 }
 
+// How many alerts are held, each counted at the first of its tenant's replicas, and how often notices were held back.
+fn add_held<W: AnyWorld>(alloc: Global, text: &mut String, world: &W) -> Result<(), AllocError> {
+    let mut alerts = 0u64;
+    let mut held_back = 0u64;
+    for number in NUMBERS {
+        let standing = world.standing(alloc, number)?;
+        alerts = alerts.saturating_add(standing.alerts);
+        held_back = held_back.saturating_add(standing.held_back);
+    }
+    add(alloc, text, ALERTS, "", alerts)?;
+    add(alloc, text, HELD_BACK, "", held_back)
+}
+
 // How the ring and its instances stand.
-fn add_ring<R: Rows>(alloc: Global, text: &mut String, world: &World<R>) -> Result<(), AllocError> {
+fn add_ring<W: AnyWorld>(alloc: Global, text: &mut String, world: &W) -> Result<(), AllocError> {
     add(alloc, text, EPOCH, "", world.epoch())?;
     let ring = world.ring();
     add_each(

@@ -3,8 +3,8 @@
 use crate::counted::Counted;
 use crate::desk::Desk;
 use am_asking::Heads;
-use am_rows::Rows;
 use am_server::SidePort;
+use am_world::AnyWorld;
 use mio::net::TcpListener;
 use std::alloc::Global;
 use std::io;
@@ -42,11 +42,11 @@ impl AdminPort {
     ///
     /// # Errors
     /// That of the clock; out of memory as the ring changed.
-    pub fn turn<R: Clock, S: Rows>(
+    pub fn turn<R: Clock, W: AnyWorld>(
         &mut self,
         rt: &R,
         alloc: Global,
-        counted: &mut Counted<'_, S>,
+        counted: &mut Counted<'_, W>,
     ) -> io::Result<()> {
         let now = Instant::now(rt)?;
         let mut desk = Desk::new(alloc, &mut self.heads, counted);

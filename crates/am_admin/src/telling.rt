@@ -1,9 +1,8 @@
 //! How a ring and its instances stand, as JSON (RFC 8259).
 
-use am_rows::Rows;
 use am_tenant::TenantName;
 use am_text::Octets;
-use am_world::{Standing, World};
+use am_world::{AnyWorld, Standing};
 use serde_json::{Value, json};
 use std::alloc::{AllocError, Global};
 
@@ -19,7 +18,7 @@ const MOST_NAMED: usize = 10;
 ///
 /// # Errors
 /// Out of memory.
-pub fn standing<R: Rows>(alloc: Global, world: &World<R>) -> Result<Octets, AllocError> {
+pub fn standing<W: AnyWorld>(alloc: Global, world: &W) -> Result<Octets, AllocError> {
     let ring = members(alloc, world)?;
     let instances = instances(alloc, world)?;
     let epoch = world.epoch();
@@ -28,7 +27,7 @@ pub fn standing<R: Rows>(alloc: Global, world: &World<R>) -> Result<Octets, Allo
 }
 
 // The numbers of the ring's instances.
-fn members<R: Rows>(alloc: Global, world: &World<R>) -> Result<Vec<Value>, AllocError> {
+fn members<W: AnyWorld>(alloc: Global, world: &W) -> Result<Vec<Value>, AllocError> {
     let ring = world.ring();
     let mut members = Vec::new(alloc);
     for number in NUMBERS {
@@ -40,7 +39,7 @@ fn members<R: Rows>(alloc: Global, world: &World<R>) -> Result<Vec<Value>, Alloc
 }
 
 // How each instance stands.
-fn instances<R: Rows>(alloc: Global, world: &World<R>) -> Result<Vec<Value>, AllocError> {
+fn instances<W: AnyWorld>(alloc: Global, world: &W) -> Result<Vec<Value>, AllocError> {
     let mut instances = Vec::new(alloc);
     for number in NUMBERS {
         instances.push(instance(alloc, world, number)?)?;
@@ -49,8 +48,12 @@ fn instances<R: Rows>(alloc: Global, world: &World<R>) -> Result<Vec<Value>, All
 }
 
 // How one stands.
-fn instance<R: Rows>(alloc: Global, world: &World<R>, number: u8) -> Result<Value, AllocError> {
-    let Standing { tenants, unsettled } = world.standing(alloc, number)?;
+fn instance<W: AnyWorld>(alloc: Global, world: &W, number: u8) -> Result<Value, AllocError> {
+    let Standing {
+        tenants,
+        unsettled,
+        ..
+    } = world.standing(alloc, number)?;
     let settled = tenants.saturating_sub(unsettled.len());
     let unsettled = names(alloc, &unsettled)?;
     let cause = match world.cause(number) {

@@ -29,22 +29,22 @@ handles w mid ended w' e moment step run taken =
     record { handled = ended; run = (mid, step, run); outputs = refl; taken = taken }
 
 -- both parts of what is sorted
-pub sorts : {R X E : Type 0} (result : Result X E) (named : Option ℕ) (outs : List Output) (old new : Gateway R)
+pub sorts : {W X E : Type 0} (result : Result X E) (named : Option ℕ) (outs : List Output) (old new : Gateway W)
     → OnOk result (Queues old.notices.lanes outs new.notices.lanes)
     → OnOk result (Keeps named old.replies.items outs new.replies.items) → OnOk result (Sorts named outs old new)
 sorts (Ok value) named outs old new queues keeps = record { queues = queues; keeps = keeps }
 sorts (Err error) named outs old new queues keeps = tt
 
-pub sorts_some : {R X E : Type 0} (result : Result X E) (named : Option ℕ) (outs : List Output) (old new : Gateway R)
+pub sorts_some : {W X E : Type 0} (result : Result X E) (named : Option ℕ) (outs : List Output) (old new : Gateway W)
     → OnErr result (QueuesSome old.notices.lanes outs new.notices.lanes)
     → OnErr result (KeepsSome named old.replies.items outs new.replies.items) → OnErr result (SortsSome named outs old new)
 sorts_some (Ok value) named outs old new queues keeps = tt
 sorts_some (Err error) named outs old new queues keeps = record { queues = queues; keeps = keeps }
 
-replies_with : {R : Type 0} (c : ℕ) (e : Event) (reply : Option (List ℕ)) (outs : List Output) (old mid : Gateway R)
-    (is_tick_due : Bool) → GivesReply c e reply outs old mid
-    → GivesReply c e reply outs old (record mid { is_tick_due = is_tick_due })
-replies_with c e reply outs old mid is_tick_due g = record {
+replies_with : {W : Type 0} (contents : W → Contents) (c : ℕ) (e : Event) (reply : Option (List ℕ)) (outs : List Output)
+    (old mid : Gateway W) (is_tick_due : Bool) → GivesReply contents c e reply outs old mid
+    → GivesReply contents c e reply outs old (record mid { is_tick_due = is_tick_due })
+replies_with contents c e reply outs old mid is_tick_due g = record {
   handles = g.handles;
   reply_is = g.reply_is;
   sorts = record { queues = g.sorts.queues; keeps = g.sorts.keeps };
@@ -53,17 +53,18 @@ replies_with c e reply outs old mid is_tick_due g = record {
 }
 
 -- whether a tick is due is no part of a reply
-pub replies_still : {R : Type 0} (c : ℕ) (e : Event) (reply : Option (List ℕ)) (outs : List Output) (old mid new : Gateway R)
-    → new ≡ record mid { is_tick_due = new.is_tick_due } → GivesReply c e reply outs old mid
-    → GivesReply c e reply outs old new
-replies_still c e reply outs old mid new same g = rw same (replies_with c e reply outs old mid new.is_tick_due g)
+pub replies_still : {W : Type 0} (contents : W → Contents) (c : ℕ) (e : Event) (reply : Option (List ℕ))
+    (outs : List Output) (old mid new : Gateway W) → new ≡ record mid { is_tick_due = new.is_tick_due }
+    → GivesReply contents c e reply outs old mid → GivesReply contents c e reply outs old new
+replies_still contents c e reply outs old mid new same g =
+    rw same (replies_with contents c e reply outs old mid new.is_tick_due g)
 
 -- a tick is due as it was before the world was told
-pub lets_before : {R : Type 0} (old mid new : Gateway R) (reply : List ℕ) → mid.is_tick_due ≡ old.is_tick_due → mid.ready ≡ old.ready →
+pub lets_before : {W : Type 0} (old mid new : Gateway W) (reply : List ℕ) → mid.is_tick_due ≡ old.is_tick_due → mid.ready ≡ old.ready →
     LetsTick mid reply new → LetsTick old reply new
 lets_before old mid new reply due ready lets = rw (← due, ← ready) lets
 
-waits_before : {R : Type 0} (old mid new : Gateway R) (outs : List Output)
+waits_before : {W : Type 0} (old mid new : Gateway W) (outs : List Output)
     → ((t : List ℕ) → waiting_of t mid.notices.lanes ≡ waiting_of t old.notices.lanes)
     → mid.replies.items ≡ old.replies.items → Sorts None outs mid new → Sorts None outs old new
 waits_before old mid new outs stay same sorts = record {
@@ -71,7 +72,7 @@ waits_before old mid new outs stay same sorts = record {
   keeps = rw (← same) sorts.keeps;
 }
 
-waits_some_before : {R : Type 0} (old mid new : Gateway R) (outs : List Output)
+waits_some_before : {W : Type 0} (old mid new : Gateway W) (outs : List Output)
     → ((t : List ℕ) → waiting_of t mid.notices.lanes ≡ waiting_of t old.notices.lanes)
     → mid.replies.items ≡ old.replies.items → SortsSome None outs mid new → SortsSome None outs old new
 waits_some_before old mid new outs stay same sorts = record {
@@ -80,11 +81,12 @@ waits_some_before old mid new outs stay same sorts = record {
 }
 
 -- what waited before a call ended waits after it
-pub tells_before : {R : Type 0} {X E : Type 0} (result : Result X E) (e : Event) (old mid new : Gateway R)
+pub tells_before : {W X E : Type 0} (contents : W → Contents) (result : Result X E) (e : Event) (old mid new : Gateway W)
     → mid.world.now ≡ old.world.now → mid.moment ≡ old.moment
     → ((t : List ℕ) → waiting_of t mid.notices.lanes ≡ waiting_of t old.notices.lanes)
-    → mid.replies.items ≡ old.replies.items → TellsWorld result e mid new → TellsWorld result e old new
-tells_before result e old mid new world moment stay same tells = record {
+    → mid.replies.items ≡ old.replies.items → TellsWorld contents result e mid new
+    → TellsWorld contents result e old new
+tells_before contents result e old mid new world moment stay same tells = record {
   outs = tells.outs;
   handles = rw (← world, ← moment) tells.handles;
   sorts = on_ok_weaker result (waits_before old mid new tells.outs stay same) tells.sorts;
@@ -92,19 +94,20 @@ tells_before result e old mid new world moment stay same tells = record {
 }
 
 -- the verdict where there is no reply yet, by whether a message was sent
-pub unreplied_on : {R : Type 0} (c : ℕ) (e : Event) (outs : List Output) (old mid new : Gateway R) (given : Verdict)
-    (asked : Option (List ℕ)) → asked_in outs ≡ asked → GivesReply c e None outs old mid
-    → mid.is_tick_due ≡ old.is_tick_due
-    → MatchOption asked ((given ≡ Undecided) × (new ≡ mid)) (λ t. (given ≡ Later) × SettlesInTime t mid new)
-    → IsVerdictOn c e old given new
-unreplied_on c e outs old mid new given None asks gives due is =
+pub unreplied_on : {W : Type 0} (contents : W → Contents) (c : ℕ) (e : Event) (outs : List Output)
+    (old mid new : Gateway W) (given : Verdict) (asked : Option (List ℕ)) → asked_in outs ≡ asked
+    → GivesReply contents c e None outs old mid → mid.is_tick_due ≡ old.is_tick_due
+    → MatchOption asked ((given ≡ Undecided) × (new ≡ mid)) (λ t. (given ≡ Later) × SettlesInTime contents t mid new)
+    → IsVerdictOn contents c e old given new
+unreplied_on contents c e outs old mid new given None asks gives due is =
     rw is.0 (outs, rw is.1 gives, asks, rw is.1 due)
-unreplied_on c e outs old mid new given (Some t) asks gives due is =
+unreplied_on contents c e outs old mid new given (Some t) asks gives due is =
     rw is.0 (outs, t, mid, gives, asks, due, is.1)
 
-tells_with : {R X E : Type 0} (result : Result X E) (e : Event) (old mid : Gateway R) (vain : Vec ℕ Global)
-    → TellsWorld result e old mid → TellsWorld result e old (record mid { vain = vain })
-tells_with result e old mid vain tells = record {
+tells_with : {W X E : Type 0} (contents : W → Contents) (result : Result X E) (e : Event) (old mid : Gateway W)
+    (vain : Vec ℕ Global) → TellsWorld contents result e old mid
+    → TellsWorld contents result e old (record mid { vain = vain })
+tells_with contents result e old mid vain tells = record {
   outs = tells.outs;
   handles = tells.handles;
   sorts = on_ok_weaker result (λ s. record { queues = s.queues; keeps = s.keeps }) tells.sorts;
@@ -112,21 +115,22 @@ tells_with result e old mid vain tells = record {
 }
 
 -- which restarts were in vain is no part of what the world was told
-pub tells_still : {R X E : Type 0} (result : Result X E) (e : Event) (old mid new : Gateway R)
-    → new ≡ record mid { vain = new.vain } → TellsWorld result e old mid → TellsWorld result e old new
-tells_still result e old mid new same tells = rw same (tells_with result e old mid new.vain tells)
+pub tells_still : {W X E : Type 0} (contents : W → Contents) (result : Result X E) (e : Event) (old mid new : Gateway W)
+    → new ≡ record mid { vain = new.vain } → TellsWorld contents result e old mid → TellsWorld contents result e old new
+tells_still contents result e old mid new same tells =
+    rw same (tells_with contents result e old mid new.vain tells)
 
 -- no instance is to be restarted
-pub restarts_none : {R X E : Type 0} (result : Result X E) (old new : Gateway R) (found : Option ℕ)
-    → found ≡ fallen old.vain.items old.world.now.state → found ≡ None → IsOk result → new ≡ old
-    → RestartsNext result old new
-restarts_none result old new found is none ok same = rw (← is, none) (ok, same)
+pub restarts_none : {W X E : Type 0} (contents : W → Contents) (result : Result X E) (old new : Gateway W)
+    (found : Option ℕ) → found ≡ fallen old.vain.items (contents old.world.now).state → found ≡ None → IsOk result
+    → new ≡ old → RestartsNext contents result old new
+restarts_none contents result old new found is none ok same = rw (← is, none) (ok, same)
 
 -- this one is
-pub restarts_one : {R X E : Type 0} (result : Result X E) (i : ℕ) (old new : Gateway R) (found : Option ℕ)
-    → found ≡ fallen old.vain.items old.world.now.state → found ≡ Some i → RestartsAt result i old new
-    → RestartsNext result old new
-restarts_one result i old new found is some at = rw (← is, some) at
+pub restarts_one : {W X E : Type 0} (contents : W → Contents) (result : Result X E) (i : ℕ) (old new : Gateway W)
+    (found : Option ℕ) → found ≡ fallen old.vain.items (contents old.world.now).state → found ≡ Some i
+    → RestartsAt contents result i old new → RestartsNext contents result old new
+restarts_one contents result i old new found is some at = rw (← is, some) at
 
 -- what is counted of a restart, by whether a fault stopped the instance again
 pub counted_then : {X E : Type 0} (result : Result X E) (i : ℕ) (new told old : List ℕ) (is_vain is_stopped : Bool)
@@ -136,39 +140,41 @@ counted_then result i new told old is_vain is_stopped same is noted =
     on_ok_weaker result (λ e. e ∙ ap (λ l. counted l is_vain i) same ∙ ap (λ b. counted old b i) is) noted
 
 -- no instance is behind
-pub learns_none : {R X E : Type 0} (result : Result X E) (old new : Gateway R) (found : Option ℕ)
-    → found ≡ behind old.world.now.state → found ≡ None → IsOk result → new ≡ old → LearnsNext result old new
-learns_none result old new found is none ok same = rw (← is, none) (ok, same)
+pub learns_none : {W X E : Type 0} (contents : W → Contents) (result : Result X E) (old new : Gateway W)
+    (found : Option ℕ) → found ≡ behind (contents old.world.now).state → found ≡ None → IsOk result → new ≡ old
+    → LearnsNext contents result old new
+learns_none contents result old new found is none ok same = rw (← is, none) (ok, same)
 
 -- this one is
-pub learns_one : {R X E : Type 0} (result : Result X E) (i : ℕ) (old new : Gateway R) (found : Option ℕ)
-    → found ≡ behind old.world.now.state → found ≡ Some i → TellsWorld result (event.Learn i) old new
-    → LearnsNext result old new
-learns_one result i old new found is some tells = rw (← is, some) tells
+pub learns_one : {W X E : Type 0} (contents : W → Contents) (result : Result X E) (i : ℕ) (old new : Gateway W)
+    (found : Option ℕ) → found ≡ behind (contents old.world.now).state → found ≡ Some i
+    → TellsWorld contents result (event.Learn i) old new → LearnsNext contents result old new
+learns_one contents result i old new found is some tells = rw (← is, some) tells
 
-settles_where : {R : Type 0} (t : List ℕ) (old new : Gateway R) (found : Option ℕ)
-    → (is_none found ≡ true → Settles t old new) → (is_none found ≡ false → new ≡ old)
-    → MatchOption found (Settles t old new) (λ i. new ≡ old)
-settles_where t old new None settles stays = settles refl
-settles_where t old new (Some i) settles stays = stays refl
+settles_where : {W : Type 0} (contents : W → Contents) (t : List ℕ) (old new : Gateway W) (found : Option ℕ)
+    → (is_none found ≡ true → Settles contents t old new) → (is_none found ≡ false → new ≡ old)
+    → MatchOption found (Settles contents t old new) (λ i. new ≡ old)
+settles_where contents t old new None settles stays = settles refl
+settles_where contents t old new (Some i) settles stays = stays refl
 
 -- a tenant is settled where no instance is behind
-pub settles_by : {R : Type 0} (t : List ℕ) (old new : Gateway R) (found : Option ℕ) (none : Bool)
-    → found ≡ behind old.world.now.state → none ≡ is_none found
-    → (none ≡ true → Settles t old new) → (none ≡ false → new ≡ old) → SettlesInTime t old new
-settles_by t old new found none is told settles stays =
-    rw (← is) (settles_where t old new found (λ e. settles (told ∙ e)) (λ e. stays (told ∙ e)))
+pub settles_by : {W : Type 0} (contents : W → Contents) (t : List ℕ) (old new : Gateway W) (found : Option ℕ)
+    (none : Bool) → found ≡ behind (contents old.world.now).state → none ≡ is_none found
+    → (none ≡ true → Settles contents t old new) → (none ≡ false → new ≡ old) → SettlesInTime contents t old new
+settles_by contents t old new found none is told settles stays =
+    rw (← is) (settles_where contents t old new found (λ e. settles (told ∙ e)) (λ e. stays (told ∙ e)))
 
 -- an event that was refused
-pub operates_none : {R E : Type 0} (result : Result (Option Refused) E) (e : Event) (old new : Gateway R) (why : Refused)
-    → refusal old.world.now.state e ≡ Some why → result ≡ Ok (Some why) → new ≡ old → Operates result e old new
-operates_none result e old new why refused is same = rw refused (is, same)
+pub operates_none : {W E : Type 0} (contents : W → Contents) (result : Result (Option Refused) E) (e : Event)
+    (old new : Gateway W) (why : Refused) → refusal (contents old.world.now).state e ≡ Some why
+    → result ≡ Ok (Some why) → new ≡ old → Operates contents result e old new
+operates_none contents result e old new why refused is same = rw refused (is, same)
 
 -- .. and one that happened
-pub operates : {R E : Type 0} (result : Result (Option Refused) E) (e : Event) (old new : Gateway R)
-    → refusal old.world.now.state e ≡ None → IfOk result (λ why. why ≡ None) → TellsWorld result e old new
-    → Operates result e old new
-operates result e old new none is tells = rw none (is, tells)
+pub operates : {W E : Type 0} (contents : W → Contents) (result : Result (Option Refused) E) (e : Event)
+    (old new : Gateway W) → refusal (contents old.world.now).state e ≡ None → IfOk result (λ why. why ≡ None)
+    → TellsWorld contents result e old new → Operates contents result e old new
+operates contents result e old new none is tells = rw none (is, tells)
 
 -- a result is no success and failure at once
 pub not_both : {X E : Type 0} (result : Result X E) → IsErr result → IsOk result → ⊥

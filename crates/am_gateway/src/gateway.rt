@@ -1,5 +1,6 @@
 //! What stands between a server and its world.
-ghost use Rattle.std.specs.Prelude.{◌≡◌, ◌∷◌, ℕ, List, [], Some, false, true, min, IfOk, IfSome, IfNone, IsOk, MatchOption, OnErr, OnOk, length};
+ghost use Rattle.std.specs.Prelude.{◌≡◌, ◌∷◌, ℕ, List, [], Some, false, true, min, length};
+ghost use Rattle.std.specs.Prelude.{IfOk, IfSome, IfNone, IsOk, MatchOption, OnErr, OnOk};
 ghost use Rattle.am_http.specs.Replies.{ready_reply as the_ready_reply};
 ghost use Rattle.am_serve.specs.Lanes.{is_ready, under_way_of, waiting_of};
 ghost use Rattle.am_serve.specs.Weights.{all_bytes};
@@ -15,12 +16,11 @@ use crate::restarting::{fallen, note};
 use crate::serving::{has_quorum, serving};
 use crate::sorting::{LateReply, sort};
 use am_http::{ConnectionId, ready_reply};
-use am_rows::Rows;
 use am_serve::{Host, Lanes, Verdict};
 use am_server::{Notice, Service};
 use am_tenant::TenantName;
 use am_text::Octets;
-use am_world::{AttemptName, Event, LAST_MOMENT, Refused, World};
+use am_world::{AnyWorld, AttemptName, Event, LAST_MOMENT, Refused};
 use std::alloc::{AllocError, Global};
 use std::collections::VecDeque;
 
@@ -33,11 +33,11 @@ pub struct Try {
     pub tries: u8,
 }
 
-/// A world, with what it put out and the server hasn't taken yet: notices whose calls weren't begun, and replies that came
-/// later than their requests.
-pub struct Gateway<'w, R: Rows> {
+/// A world, with what it put out and the server hasn't taken yet: notices whose calls weren't begun, and replies that
+/// came later than their requests.
+pub struct Gateway<'w, W: AnyWorld> {
     alloc: Global,
-    world: &'w mut World<R>,
+    world: &'w mut W,
     // The moment of what happens now, in milliseconds since 1970.
     moment: u64,
     // The reply to `GET /ready`, after which the clock is told.
@@ -50,7 +50,7 @@ pub struct Gateway<'w, R: Rows> {
 }
 
 // Written out, so that a crate which owns a gateway has no need to prove anew how each of its parts is dropped.
-impl<R: Rows> Drop for Gateway<'_, R> {
+impl<W: AnyWorld> Drop for Gateway<'_, W> {
     fn drop(self) {
         let Gateway {
             alloc: _alloc,
@@ -69,7 +69,7 @@ impl<R: Rows> Drop for Gateway<'_, R> {
     }
 }
 
-impl<'w, R: Rows> Gateway<'w, R> {
+impl<'w, W: AnyWorld> Gateway<'w, W> {
     ghost use Rattle.am_gateway.specs.Gateway.{IsSameGateway, IsVerdictOn, LearnsNext, LetsTick, LosesEvent};
     ghost use Rattle.am_gateway.specs.Gateway.{MakesReady, Operates, RestartsNext, SameUnderWay, Settles};
     ghost use Rattle.am_gateway.specs.Gateway.{SettlesInTime, Sorts, SortsSome, TakesPiece, TellsWorld, piece_event};
@@ -79,7 +79,7 @@ impl<'w, R: Rows> Gateway<'w, R> {
     ///
     /// # Errors
     /// Out of memory.
-    pub fn new(alloc: Global, world: &'w mut World<R>) -> Result<Gateway<'w, R>, AllocError>
+    pub fn new(alloc: Global, world: &'w mut W) -> Result<Gateway<'w, W>, AllocError>
         ensures world { IfOk result (λ gateway. gateway.world.now ≡ world.old) }
         ensures moment { IfOk result (λ gateway. gateway.moment ≡ 0) }
         ensures ready { IfOk result (λ gateway. gateway.ready ≡ the_ready_reply) }
@@ -103,7 +103,7 @@ impl<'w, R: Rows> Gateway<'w, R> {
     }
 
     /// The world behind it.
-    pub fn world(&self) -> &World<R>
+    pub fn world(&self) -> &W
         ensures { result.now ≡ self.now.world.now }
     {
         self.world
@@ -127,10 +127,13 @@ impl<'w, R: Rows> Gateway<'w, R> {
     // connection is given, where one is named, and those on others wait. Out of memory: the reply is lost, and of the
     // others and of the notices all but a first part.
     fn sort(&mut self, connection: Option<u64>) -> Result<Option<Octets>, AllocError>
-        ensures reply { IfOk result (λ reply. reply ≡ reply_on connection (put_out self.old.world.now.state)) }
-        ensures sorted { OnOk result (Sorts connection (put_out self.old.world.now.state) self.old self.new) }
-        ensures err { OnErr result (SortsSome connection (put_out self.old.world.now.state) self.old self.new) }
-        ensures forgets { ForgetsOver self.old.world.now self.new.world.now }
+        ensures reply { IfOk result (λ reply.
+            reply ≡ reply_on connection (put_out (W.contents self.old.world.now).state)) }
+        ensures sorted { OnOk result
+            (Sorts connection (put_out (W.contents self.old.world.now).state) self.old self.new) }
+        ensures err { OnErr result
+            (SortsSome connection (put_out (W.contents self.old.world.now).state) self.old self.new) }
+        ensures forgets { ForgetsOver (W.contents self.old.world.now) (W.contents self.new.world.now) }
         ensures is_tick_due { self.new.is_tick_due ≡ self.old.is_tick_due }
         ensures under_way { SameUnderWay self.old self.new }
         ensures same { IsSameGateway self.old self.new }
@@ -142,7 +145,7 @@ impl<'w, R: Rows> Gateway<'w, R> {
 
     // Hands the world an event of no connection, and the messages that come of it.
     fn tell(&mut self, event: &Event) -> Result<(), AllocError>
-        ensures told { TellsWorld result event.now self.old self.new }
+        ensures told { TellsWorld W.contents result event.now self.old self.new }
         ensures is_tick_due { self.new.is_tick_due ≡ self.old.is_tick_due }
         ensures under_way { SameUnderWay self.old self.new }
         ensures same { IsSameGateway self.old self.new }
@@ -158,8 +161,9 @@ impl<'w, R: Rows> Gateway<'w, R> {
 
     // What the world makes of a piece of a connection.
     fn take_piece(&mut self, connection: ConnectionId, piece: &[u8]) -> Result<Verdict, AllocError>
-        ensures takes { IfOk result (λ verdict. TakesPiece self.old connection piece.now verdict self.new) }
-        ensures err { OnErr result (LosesEvent connection (piece_event self.old connection piece.now) self.old self.new) }
+        ensures takes { IfOk result (λ verdict. TakesPiece W.contents self.old connection piece.now verdict self.new) }
+        ensures err { OnErr result (LosesEvent W.contents connection (piece_event self.old connection piece.now)
+            self.old self.new) }
     {
         let event = Event::Bytes {
             connection,
@@ -171,8 +175,9 @@ impl<'w, R: Rows> Gateway<'w, R> {
 
     // What the world makes of an event of a connection, and of the messages that come of it.
     fn answer(&mut self, connection: u64, event: &Event) -> Result<Verdict, AllocError>
-        ensures verdict { IfOk result (λ verdict. IsVerdictOn connection event.now self.old verdict self.new) }
-        ensures err { OnErr result (LosesEvent connection event.now self.old self.new) }
+        ensures verdict { IfOk result (λ verdict.
+            IsVerdictOn W.contents connection event.now self.old verdict self.new) }
+        ensures err { OnErr result (LosesEvent W.contents connection event.now self.old self.new) }
     {
         if self.world.step(self.alloc, event).is_err() {
             return Ok(Verdict::Gone);
@@ -192,7 +197,7 @@ impl<'w, R: Rows> Gateway<'w, R> {
     // The verdict on a request that got no reply yet, of a tenant where it is whole.
     fn unreplied(&mut self, asked: Option<TenantName>) -> Verdict
         ensures { MatchOption asked ((result ≡ verdict.Undecided) × (self.new ≡ self.old))
-            (λ t. (result ≡ verdict.Later) × SettlesInTime t self.old self.new) }
+            (λ t. (result ≡ verdict.Later) × SettlesInTime W.contents t self.old self.new) }
     {
         let Some(tenant) = asked else {
             return Verdict::Undecided;
@@ -203,7 +208,7 @@ impl<'w, R: Rows> Gateway<'w, R> {
 
     // Settles a tenant by force, once all instances know the newest ring.
     fn settle_in_time(&mut self, tenant: TenantName)
-        ensures { SettlesInTime tenant self.old self.new }
+        ensures { SettlesInTime W.contents tenant self.old self.new }
     {
         if behind(self.world).is_none() {
             self.settle(tenant);
@@ -212,7 +217,7 @@ impl<'w, R: Rows> Gateway<'w, R> {
 
     // Settles a tenant by force.
     fn settle(&mut self, tenant: TenantName)
-        ensures { Settles tenant self.old self.new }
+        ensures { Settles W.contents tenant self.old self.new }
     {
         let event = Event::Force { tenant };
         let _ = self.tell(&event);
@@ -220,7 +225,7 @@ impl<'w, R: Rows> Gateway<'w, R> {
 
     // Restarts the instance that is next, and has one go on to the next ring, where there is one.
     fn make_ready(&mut self) -> Result<(), AllocError>
-        ensures ready { MakesReady result self.old self.new }
+        ensures ready { MakesReady W.contents result self.old self.new }
         ensures is_tick_due { self.new.is_tick_due ≡ self.old.is_tick_due }
         ensures under_way { SameUnderWay self.old self.new }
         ensures same { IsSameGateway self.old self.new }
@@ -231,7 +236,7 @@ impl<'w, R: Rows> Gateway<'w, R> {
 
     // Restarts the instance that is next, where one is.
     fn restart_next(&mut self) -> Result<(), AllocError>
-        ensures restarts { RestartsNext result self.old self.new }
+        ensures restarts { RestartsNext W.contents result self.old self.new }
         ensures is_tick_due { self.new.is_tick_due ≡ self.old.is_tick_due }
         ensures under_way { SameUnderWay self.old self.new }
         ensures same { IsSameGateway self.old self.new }
@@ -247,7 +252,7 @@ impl<'w, R: Rows> Gateway<'w, R> {
 
     // The lowest instance that is behind goes on to the next ring, where one is behind.
     fn learn_next(&mut self) -> Result<(), AllocError>
-        ensures learns { LearnsNext result self.old self.new }
+        ensures learns { LearnsNext W.contents result self.old self.new }
         ensures is_tick_due { self.new.is_tick_due ≡ self.old.is_tick_due }
         ensures under_way { SameUnderWay self.old self.new }
         ensures same { IsSameGateway self.old self.new }
@@ -264,7 +269,7 @@ impl<'w, R: Rows> Gateway<'w, R> {
     /// # Errors
     /// Out of memory: the event happened, and of what was put out all but a first part is lost.
     pub fn operate(&mut self, event: &Event) -> Result<Option<Refused>, AllocError>
-        ensures operates { Operates result event.now self.old self.new }
+        ensures operates { Operates W.contents result event.now self.old self.new }
         ensures is_tick_due { self.new.is_tick_due ≡ self.old.is_tick_due }
         ensures under_way { SameUnderWay self.old self.new }
         ensures same { IsSameGateway self.old self.new }
@@ -291,14 +296,14 @@ impl<'w, R: Rows> Gateway<'w, R> {
     }
 }
 
-impl<R: Rows> Host for Gateway<'_, R> {
+impl<W: AnyWorld> Host for Gateway<'_, W> {
     ghost use Rattle.am_gateway.specs.Gateway.{ClosesConnection, OpensConnection, TakesPiece};
 
-    ghost opens = { OpensConnection };
+    ghost opens = { OpensConnection W.contents };
 
-    ghost takes = { TakesPiece };
+    ghost takes = { TakesPiece W.contents };
 
-    ghost closes = { ClosesConnection };
+    ghost closes = { ClosesConnection W.contents };
 
     // A connection is opened to the lowest instance that is up.
     fn open(&mut self, connection: u64) -> bool {
@@ -331,7 +336,7 @@ impl<R: Rows> Host for Gateway<'_, R> {
     }
 }
 
-impl<R: Rows> Service for Gateway<'_, R> {
+impl<W: AnyWorld> Service for Gateway<'_, W> {
     ghost use Rattle.am_gateway.specs.Gateway.{BeginsCall, EndsCall, GivesUpCall, IsSameGateway, SameUnderWay};
     ghost use Rattle.am_gateway.specs.Gateway.{GoesOn, TellsWorld};
     ghost use Rattle.am_gateway.specs.Serving.{has_quorum as has_quorum_in};
@@ -340,7 +345,7 @@ impl<R: Rows> Service for Gateway<'_, R> {
 
     // As long as two instances are up.
     fn is_up(&self) -> bool
-        ensures { result ≡ has_quorum_in self.now.world.now.state }
+        ensures { result ≡ has_quorum_in (W.contents self.now.world.now).state }
     {
         has_quorum(self.world)
     }
@@ -357,7 +362,7 @@ impl<R: Rows> Service for Gateway<'_, R> {
     fn tick(&mut self) -> Result<(), AllocError>
         ensures not_due { self.old.is_tick_due ≡ false → IsOk result × (self.new ≡ self.old) }
         ensures told { self.old.is_tick_due ≡ true →
-            GoesOn result (record self.old { is_tick_due = false }) self.new }
+            GoesOn W.contents result (record self.old { is_tick_due = false }) self.new }
         ensures is_tick_due { self.new.is_tick_due ≡ false }
         ensures under_way { SameUnderWay self.old self.new }
         ensures same { IsSameGateway self.old self.new }
@@ -406,7 +411,8 @@ impl<R: Rows> Service for Gateway<'_, R> {
     }
 
     fn end_call(&mut self, name: Try, status: Option<u16>) -> Result<(), AllocError>
-        ensures told { TellsWorld result (event.Outcome name.attempt name.tries self.old.moment status) self.old self.new }
+        ensures told { TellsWorld W.contents result (event.Outcome name.attempt name.tries self.old.moment status)
+            self.old self.new }
         ensures under_way { EndsCall name.attempt.tenant self.old self.new }
         ensures is_tick_due { self.new.is_tick_due ≡ self.old.is_tick_due }
         ensures same { IsSameGateway self.old self.new }

@@ -3,20 +3,19 @@ ghost use Rattle.std.specs.Prelude.{◌≡◌, find};
 ghost use Rattle.am_gateway.specs.Learning.{behind, is_behind};
 
 use crate::serving::NUMBERS;
-use am_rows::Rows;
-use am_world::World;
+use am_world::AnyWorld;
 
 /// The lowest instance that is up and knows a ring that isn't the newest.
 #[tactic(auto, unfolding(crate::specs::Learning::behind))]
-pub fn behind<R: Rows>(world: &World<R>) -> Option<u8>
-    ensures { result ≡ behind world.now.state }
+pub fn behind<W: AnyWorld>(world: &W) -> Option<u8>
+    ensures { result ≡ behind (W.contents world.now).state }
 {
     first_behind(world, &NUMBERS)
 }
 
 // The first of these instances that is.
-fn first_behind<R: Rows>(world: &World<R>, numbers: &[u8]) -> Option<u8>
-    ensures { result ≡ find (is_behind world.now.state) numbers.now }
+fn first_behind<W: AnyWorld>(world: &W, numbers: &[u8]) -> Option<u8>
+    ensures { result ≡ find (is_behind (W.contents world.now).state) numbers.now }
 {
     numbers
         .iter()
@@ -26,8 +25,8 @@ fn first_behind<R: Rows>(world: &World<R>, numbers: &[u8]) -> Option<u8>
 
 // Whether an instance is.
 #[tactic(auto, unfolding(crate::specs::Learning::is_behind))]
-fn is_behind<R: Rows>(world: &World<R>, number: u8) -> bool
-    ensures { result ≡ is_behind world.now.state number }
+fn is_behind<W: AnyWorld>(world: &W, number: u8) -> bool
+    ensures { result ≡ is_behind (W.contents world.now).state number }
 {
     world.is_behind(number)
 }

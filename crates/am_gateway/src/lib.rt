@@ -1,5 +1,5 @@
-//! `am_gateway`: a world behind a server's port. Pieces of connections go to the world as events, and the messages of its
-//! instances to and fro; what it puts out comes back as replies and notices.
+//! `am_gateway`: a world behind a server's port. Pieces of connections go to the world as events, and the messages of
+//! its instances to and fro; what it puts out comes back as replies and notices.
 #![tactic(auto)]
 
 mod gateway;

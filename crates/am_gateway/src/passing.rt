@@ -7,9 +7,8 @@ ghost use Rattle.am_world.specs.Runs.{Run};
 ghost use Rattle.am_world.specs.Simulation.{put_out};
 
 use am_messages::MessageName;
-use am_rows::Rows;
 use am_tenant::TenantName;
-use am_world::{Event, Output, World};
+use am_world::{AnyWorld, Event, Output};
 use std::alloc::Global;
 
 /// Of how many outputs the messages are delivered, at most.
@@ -17,8 +16,8 @@ const MOST_OUTPUTS: usize = 1_000_000;
 
 /// Delivers each message that the world has put out, in order, those too that this puts out, and has it lost then, so
 /// that the world holds none of them. Those behind a million outputs are only lost.
-pub fn pass_all<R: Rows>(world: &mut World<R>, alloc: Global, moment: u64)
-    ensures { Run world.old (passes moment (put_out world.new.state)) world.new }
+pub fn pass_all<W: AnyWorld>(world: &mut W, alloc: Global, moment: u64)
+    ensures { Run (W.contents world.old) (passes moment (put_out (W.contents world.new).state)) (W.contents world.new) }
 {
     let mut place = 0;
     while place < world.outputs().len() {
@@ -47,9 +46,10 @@ fn first_message(outputs: &[Output]) -> Option<&Output>
 }
 
 // Delivers the message at a place among the outputs, where it is one, and has it lost then.
-fn pass<R: Rows>(world: &mut World<R>, alloc: Global, place: usize, moment: u64)
-    ensures passed { Run world.old (passes_at place moment (message_at place (put_out world.old.state))) world.new }
-    ensures stay { AddsTo (put_out world.old.state) (put_out world.new.state) }
+fn pass<W: AnyWorld>(world: &mut W, alloc: Global, place: usize, moment: u64)
+    ensures passed { Run (W.contents world.old)
+        (passes_at place moment (message_at place (put_out (W.contents world.old).state))) (W.contents world.new) }
+    ensures stay { AddsTo (put_out (W.contents world.old).state) (put_out (W.contents world.new).state) }
 {
     if let Some(name) = message_at(world.outputs(), place) {
         deliver(world, alloc, &name, place, moment);
@@ -58,15 +58,16 @@ fn pass<R: Rows>(world: &mut World<R>, alloc: Global, place: usize, moment: u64)
 }
 
 // Delivers the message at a place, unless a million outputs come before it.
-fn deliver<R: Rows>(
-    world: &mut World<R>,
+fn deliver<W: AnyWorld>(
+    world: &mut W,
     alloc: Global,
     message: &MessageName,
     place: usize,
     moment: u64,
 )
-    ensures delivered { Run world.old (deliveries_at place moment (Some message.now)) world.new }
-    ensures stay { AddsTo (put_out world.old.state) (put_out world.new.state) }
+    ensures delivered { Run (W.contents world.old) (deliveries_at place moment (Some message.now))
+        (W.contents world.new) }
+    ensures stay { AddsTo (put_out (W.contents world.old).state) (put_out (W.contents world.new).state) }
 {
     if place < MOST_OUTPUTS {
         let event = Event::Deliver {
@@ -78,9 +79,9 @@ fn deliver<R: Rows>(
 }
 
 // The world loses a message.
-fn lose<R: Rows>(world: &mut World<R>, alloc: Global, message: &MessageName)
-    ensures lost { Run world.old (losses (Some message.now)) world.new }
-    ensures stay { AddsTo (put_out world.old.state) (put_out world.new.state) }
+fn lose<W: AnyWorld>(world: &mut W, alloc: Global, message: &MessageName)
+    ensures lost { Run (W.contents world.old) (losses (Some message.now)) (W.contents world.new) }
+    ensures stay { AddsTo (put_out (W.contents world.old).state) (put_out (W.contents world.new).state) }
 {
     let event = Event::Lose { message: *message };
     let _ = world.step(alloc, &event);

@@ -3,8 +3,7 @@ ghost use Rattle.std.specs.Prelude.{◌≡◌, ◌==◌, OnErr, OnOk, count_by, 
 ghost use Rattle.am_gateway.specs.Restarting.{counted, fallen, is_fallen};
 
 use crate::serving::NUMBERS;
-use am_rows::Rows;
-use am_world::World;
+use am_world::AnyWorld;
 use std::alloc::AllocError;
 
 /// How many restarts of an instance may be in vain, one after the other.
@@ -13,15 +12,15 @@ const MOST_VAIN: usize = 3;
 /// The lowest instance that a fault stopped, but for those whose last three restarts were in vain: of each that was in
 /// vain the number stands in the list.
 #[tactic(auto, unfolding(crate::specs::Restarting::fallen))]
-pub fn fallen<R: Rows>(world: &World<R>, vain: &[u8]) -> Option<u8>
-    ensures { result ≡ fallen vain.now world.now.state }
+pub fn fallen<W: AnyWorld>(world: &W, vain: &[u8]) -> Option<u8>
+    ensures { result ≡ fallen vain.now (W.contents world.now).state }
 {
     first_fallen(world, vain, &NUMBERS)
 }
 
 // The first of these instances that is to be restarted.
-fn first_fallen<R: Rows>(world: &World<R>, vain: &[u8], numbers: &[u8]) -> Option<u8>
-    ensures { result ≡ find (is_fallen vain.now world.now.state) numbers.now }
+fn first_fallen<W: AnyWorld>(world: &W, vain: &[u8], numbers: &[u8]) -> Option<u8>
+    ensures { result ≡ find (is_fallen vain.now (W.contents world.now).state) numbers.now }
 {
     numbers
         .iter()
@@ -31,8 +30,8 @@ fn first_fallen<R: Rows>(world: &World<R>, vain: &[u8], numbers: &[u8]) -> Optio
 
 // Whether an instance is to be restarted.
 #[tactic(auto, unfolding(crate::specs::Restarting::is_fallen))]
-fn is_fallen<R: Rows>(world: &World<R>, vain: &[u8], number: u8) -> bool
-    ensures { result ≡ is_fallen vain.now world.now.state number }
+fn is_fallen<W: AnyWorld>(world: &W, vain: &[u8], number: u8) -> bool
+    ensures { result ≡ is_fallen vain.now (W.contents world.now).state number }
 {
     world.cause(number).is_some() && count(vain, number) < MOST_VAIN
 }

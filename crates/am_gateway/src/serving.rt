@@ -3,8 +3,7 @@ ghost use Rattle.std.specs.Prelude.{◌≡◌, count_by, find};
 ghost use Rattle.am_gateway.specs.Serving.{has_quorum, serving_in};
 ghost use Rattle.am_world.specs.Places.{up_at};
 
-use am_rows::Rows;
-use am_world::World;
+use am_world::AnyWorld;
 
 /// How many replicas answer for a tenant.
 const QUORUM: usize = 2;
@@ -13,29 +12,29 @@ const QUORUM: usize = 2;
 pub const NUMBERS: [u8; 8] = [1, 2, 3, 4, 5, 6, 7, 8];
 
 /// The instance that connections are opened to: the lowest that is up.
-pub fn serving<R: Rows>(world: &World<R>) -> Option<u8>
-    ensures { result ≡ serving_in world.now.state }
+pub fn serving<W: AnyWorld>(world: &W) -> Option<u8>
+    ensures { result ≡ serving_in (W.contents world.now).state }
 {
     first_up(world, &NUMBERS)
 }
 
 // The first of these instances that is up.
-fn first_up<R: Rows>(world: &World<R>, numbers: &[u8]) -> Option<u8>
-    ensures { result ≡ find (λ i. up_at i world.now.state.instances) numbers.now }
+fn first_up<W: AnyWorld>(world: &W, numbers: &[u8]) -> Option<u8>
+    ensures { result ≡ find (λ i. up_at i (W.contents world.now).state.instances) numbers.now }
 {
     numbers.iter().copied().find(|number| world.is_up(*number))
 }
 
 /// Whether as many instances are up as answer for a tenant.
-pub fn has_quorum<R: Rows>(world: &World<R>) -> bool
-    ensures { result ≡ has_quorum world.now.state }
+pub fn has_quorum<W: AnyWorld>(world: &W) -> bool
+    ensures { result ≡ has_quorum (W.contents world.now).state }
 {
     count_up(world, &NUMBERS) >= QUORUM
 }
 
 // How many of these instances are up.
-fn count_up<R: Rows>(world: &World<R>, numbers: &[u8]) -> usize
-    ensures { result ≡ count_by (λ i. up_at i world.now.state.instances) numbers.now }
+fn count_up<W: AnyWorld>(world: &W, numbers: &[u8]) -> usize
+    ensures { result ≡ count_by (λ i. up_at i (W.contents world.now).state.instances) numbers.now }
 {
     numbers
         .iter()

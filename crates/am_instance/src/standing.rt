@@ -1,4 +1,4 @@
-//! For which tenants an instance is settled.
+//! For which tenants an instance is settled, and how much it holds.
 
 ghost use Rattle.std.specs.Prelude.{◌≡◌, ◌<◌, IfOk, count_by, filter, length};
 ghost use Rattle.am_instance.specs.Here.{circumstances};
@@ -16,6 +16,10 @@ pub struct Standing {
     pub tenants: usize,
     /// Those of them for whom it isn't settled, in order.
     pub unsettled: Vec<TenantName>,
+    /// How many alerts it holds of those of them whose first replica it is, at most 2^64 - 1.
+    pub alerts: u64,
+    /// How often an allowance held a notice back in it since the program began, at most 2^64 - 1.
+    pub held_back: u64,
 }
 
 impl Instance {
@@ -31,6 +35,8 @@ impl Instance {
         Ok(Standing {
             tenants: self.replicas_among(occasion, &names),
             unsettled: self.unsettled_among(alloc, occasion, &names)?,
+            alerts: self.alerts_among(occasion, &names),
+            held_back: self.site.held_back(),
         })
     }
 
@@ -66,6 +72,30 @@ impl Instance {
             }
         }
         Ok(unsettled)
+    }
+
+    // How many alerts it holds of those of these tenants whose first replica it is.
+    fn alerts_among(&self, occasion: &Occasion<'_>, tenants: &[TenantName]) -> u64
+        requires { self.now.known < length occasion.now.rings.now }
+    {
+        let mut alerts = 0u64;
+        for tenant in tenants {
+            alerts = alerts.saturating_add(self.alerts_shown(occasion, tenant));
+        }
+        alerts
+    }
+
+    // How many alerts of a tenant it holds, where it is the first of its replicas.
+    fn alerts_shown(&self, occasion: &Occasion<'_>, tenant: &TenantName) -> u64
+        requires { self.now.known < length occasion.now.rings.now }
+    {
+        let three = self.three(occasion, tenant);
+        let replicas = &three[..];
+        if replicas[0] == self.number {
+            self.site.held(tenant).alerts().len() as u64
+        } else {
+            0
+        }
     }
 
     // Whether it is a replica of a tenant.

@@ -1,5 +1,5 @@
 -- What a value by itself is refused for, by what the crates below say of it.
-use Rattle.std.specs.Prelude.{ℕ, ◌==◌, Bool, true, false, not, ◌&&◌, ◌||◌, count_by, nat_lt, List, codes, length}
+use Rattle.std.specs.Prelude.{ℕ, ◌==◌, Bool, true, false, not, ◌&&◌, ◌||◌, nat_lt, List, codes, length, take}
 use Rattle.std.specs.Prelude.{Option, Some, None, is_none, option_and_then, is_ok}
 use Rattle.std.specs.Str.{bytes_eq}
 use Rattle.serde_json.specs.Data.{Data}
@@ -43,14 +43,10 @@ is_bad_name text.LabelName s = not (is_label_name s)
 is_bad_name text.LoneName s = not (bytes_eq s (codes "...")) && not (is_label_name s)
 is_bad_name _ s = false
 
--- more than one receiver has this name
-abbrev pub is_shared : List ReceiverDraft → List ℕ → Bool
-is_shared receivers name = nat_lt 1 (count_by (λ (receiver : ReceiverDraft). bytes_eq receiver.name name) receivers)
-
--- the receiver that a route names isn't listed, or the name of a receiver is another's too
+-- the receiver that a route names isn't listed, or one of those before a receiver has its name
 abbrev pub is_bad_receiver : List ReceiverDraft → TextKind → List ℕ → Bool
 is_bad_receiver receivers text.Named s = not (is_listed receivers s)
-is_bad_receiver receivers text.Name s = is_shared receivers s
+is_bad_receiver receivers (text.Name before) s = is_listed (take before receivers) s
 is_bad_receiver receivers _ s = false
 
 -- a duration of at least so many milliseconds
@@ -144,8 +140,8 @@ abbrev pub is_bad_form : ConfigRefusal → Kind → Data → Bool
 is_bad_form reason kind.Files d = are_bad_files reason d
 is_bad_form reason kind.Flag d = is_for_form reason && is_none (as_bool d)
 is_bad_form reason kind.Count d = is_for_form reason && is_none (option_and_then as_u64 (as_number d))
-is_bad_form reason kind.LeftOut d = is_for_left_out reason
-is_bad_form reason kind.Unknown d = is_for_form reason
+is_bad_form reason (kind.LeftOut left_out) d = is_for_left_out reason
+is_bad_form reason (kind.Unknown o) d = is_for_form reason
 is_bad_form reason _ d = false
 
 -- a value of this kind by itself has the refusal that is looked for

@@ -21,6 +21,8 @@ use Rattle.am_config.specs.Configuration.{Configuration}
 use Rattle.am_config.specs.Judging.{IsRefusalOf, configuration}
 use Rattle.am_config.specs.declared.refusal.ConfigRefusal.{ConfigRefusal}
 use Rattle.am_judge.specs.Search.{Checked, checked_document}
+use Rattle.am_judge.specs.declared.cause.Cause.TheVariants.{Whole}
+use Rattle.am_judge.specs.declared.cause.Finding.{Finding}
 use Rattle.am_judge.specs.declared.facts.Facts.{Facts}
 use Rattle.am_judge.specs.declared.judging.Verdict.{Verdict}
 use Rattle.am_judge.specs.declared.judging.Verdict.TheVariants.{Accepted, Refused}
@@ -55,7 +57,7 @@ wrapped file = wrapped_by file (json file)
 abbrev pub document_of : List ℕ → List ℕ
 document_of file = unwrap_or (wrapped file) file
 
--- ---- the place
+-- ---- the place, and what stands there
 
 -- a text of matchers is refused since a pattern of it isn't built
 abbrev pub IsUnbuilt : List ℕ → Type 0
@@ -67,30 +69,36 @@ facts_of reason unbuilt (Ok draft) =
     record { reason = reason; routes = draft.routes; receivers = draft.receivers; unbuilt = unbuilt }
 facts_of reason unbuilt (Err refusal) = record { reason = reason; routes = []; receivers = []; unbuilt = unbuilt }
 
--- the place at which a check refused; the whole where it passed
-abbrev pub place_of_check : Checked → List ℕ
-place_of_check (Ok done) = []
-place_of_check (Err place) = place
+-- the whole
+abbrev pub whole : Finding
+whole = record { place = []; cause = Whole }
 
-abbrev pub place_in : Facts → Result Data JsonRefusal → List ℕ
-place_in facts (Ok d) = place_of_check (checked_document facts d)
-place_in facts (Err refusal) = []
+-- where a check refused, and what stands there; the whole where it passed
+abbrev pub finding_of_check : Checked → Finding
+finding_of_check (Ok done) = whole
+finding_of_check (Err finding) = finding
 
--- it is the first place at which a value has this refusal; none for a document that isn't JSON, or where there is none
-pub record IsPlaceOf (document : List ℕ) (reason : ConfigRefusal) (place : List ℕ) : Type 0 where
+abbrev pub finding_in : Facts → Result Data JsonRefusal → Finding
+finding_in facts (Ok d) = finding_of_check (checked_document facts d)
+finding_in facts (Err refusal) = whole
+
+-- it is the first place at which a value has this refusal, with what stands there; the whole for a document that isn't
+-- JSON, or where there is none
+pub record IsFindingOf (document : List ℕ) (reason : ConfigRefusal) (finding : Finding) : Type 0 where
   pub unbuilt : Option (List ℕ)
   pub is_unbuilt : ForSome unbuilt IsUnbuilt
-  pub is : place ≡ place_in (facts_of reason unbuilt (posted document)) (json document)
+  pub is : finding ≡ finding_in (facts_of reason unbuilt (posted document)) (json document)
 
 -- ---- the verdict
 
 -- a document that is too long is refused as a whole, before anything else; every other one with the configuration's
 -- refusal
-abbrev pub IsRefusal : List ℕ → Limits → Cache → Cache → Reason → List ℕ → Type 0
-IsRefusal document limits old new TooLong place = (limits.configuration < length document) × (place ≡ [])
-IsRefusal document limits old new (Config reason) place =
+abbrev pub IsRefusal : List ℕ → Limits → Cache → Cache → Reason → Finding → Type 0
+IsRefusal document limits old new (TooLong most) finding =
+    (limits.configuration < length document) × ((most ≡ limits.configuration) × (finding ≡ whole))
+IsRefusal document limits old new (Config reason) finding =
     (length document ≤ limits.configuration)
-    × (IsRefusalOf (posted document) old new reason × IsPlaceOf document reason place)
+    × (IsRefusalOf (posted document) old new reason × IsFindingOf document reason finding)
 
 -- every check of its configuration passes
 abbrev pub IsAccepted : List ℕ → Type 0
@@ -100,7 +108,8 @@ IsAccepted document = (c : Configuration) × (configuration (posted document) �
 abbrev pub IsVerdict : List ℕ → Limits → Cache → Cache → Verdict → Type 0
 IsVerdict document limits old new Accepted =
     (length document ≤ limits.configuration) × IsAccepted document
-IsVerdict document limits old new (Refused refusal) = IsRefusal document limits old new refusal.reason refusal.place
+IsVerdict document limits old new (Refused refusal) =
+    IsRefusal document limits old new refusal.reason (record { place = refusal.place; cause = refusal.cause })
 
 pub record Judges (document : List ℕ) (limits : Limits) (old : Cache) (verdict : Verdict) : Type 0 where
   pub built : Cache

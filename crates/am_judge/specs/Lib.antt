@@ -6,6 +6,8 @@ pub mod Places
 pub mod Kinds
 -- what is at fault
 pub mod Faults
+-- what it is that is
+pub mod Causes
 -- the first place at which something is
 pub mod Search
 -- what becomes of a file

@@ -6,5 +6,5 @@ use Rattle.am_judge.specs.declared.reason.Reason.TheVariants.{TooLong, Config}
 
 -- the code that a refusal carries
 abbrev pub code_of : Reason → List ℕ
-code_of TooLong = codes "Li3"
+code_of (TooLong most) = codes "Li3"
 code_of (Config refusal) = config.code_of refusal

@@ -9,27 +9,35 @@ use Rattle.am_text.specs.Outcome.{◌>>=◌}
 use Rattle.am_json.specs.Reading.{json}
 use Rattle.am_json.specs.declared.refusal.JsonRefusal.{JsonRefusal}
 use Rattle.am_place.specs.Places.{at_key}
+use Rattle.am_judge.specs.declared.cause.Cause.{Cause}
+use Rattle.am_judge.specs.declared.cause.Cause.TheVariants.{Absent, Value}
+use Rattle.am_judge.specs.declared.cause.Finding.{Finding}
 use Rattle.am_judge.specs.declared.facts.Facts.{Facts}
 use Rattle.am_judge.specs.declared.kind.Kind.{Kind}
 use Rattle.am_judge.specs.declared.kind.Kind.TheVariants as kind
 use Rattle.am_judge.specs.declared.kind.ObjectKind.TheVariants as object_kind
+use Rattle.am_judge.specs.declared.kind.TextKind.TheVariants as text_kind
+use Rattle.am_judge.specs.Causes.{cause_of}
 use Rattle.am_judge.specs.Faults.{has_fault, is_for_form}
-use Rattle.am_judge.specs.Kinds.{absent_key, item_of, member_of}
+use Rattle.am_judge.specs.Kinds.{absent_key, item_of, member_of, numbered}
 use Rattle.am_judge.specs.Places.{at_item}
 
--- passed, or the place at which it is not
+-- passed, or the place at which it is not, and what stands there
 abbrev pub Checked : Type 0
-Checked = Result (Unit {0}) (List ℕ)
+Checked = Result (Unit {0}) Finding
+
+abbrev pub refused_at : List ℕ → Cause → Checked
+refused_at place cause = Err (record { place = place; cause = cause })
 
 -- a key that is absent and must be there
 abbrev pub checked_keys : List ℕ → Option (List ℕ) → Checked
 checked_keys place None = Ok tt
-checked_keys place (Some key) = Err (at_key place key)
+checked_keys place (Some key) = refused_at (at_key place key) Absent
 
 -- the value by itself, with the keys that it must have
 unfoldable pub here : Facts → List ℕ → Kind → Data → Checked
 here facts place k d =
-    if has_fault facts k d then Err place
+    if has_fault facts k d then refused_at place (cause_of facts.reason k d)
     else if is_for_form facts.reason then checked_keys place (absent_key k d)
     else Ok tt
 
@@ -45,11 +53,11 @@ abbrev mutual
   checked facts place k (object ms) =
       here facts place k (object ms) >>= λ _. checked_members facts place k ms
 
-  -- the items of a list from this number on, each of this kind
+  -- the items of a list from this number on, the first of the list of this kind
   pub checked_items : Facts → List ℕ → Kind → ℕ → Items → Checked
   checked_items facts place k n no_items = Ok tt
   checked_items facts place k n (item d ds) =
-      checked facts (at_item place n) k d >>= λ _. checked_items facts place k (n + 1) ds
+      checked facts (at_item place n) (numbered k n) d >>= λ _. checked_items facts place k (n + 1) ds
 
   -- the members of an object of this kind
   pub checked_members : Facts → List ℕ → Kind → Members → Checked
@@ -60,7 +68,7 @@ abbrev mutual
 -- the value of a configuration's text; a text that isn't JSON is refused where it stands
 abbrev pub checked_top : Facts → Result Data JsonRefusal → Checked
 checked_top facts (Ok d) = checked facts [] (kind.Object object_kind.Top) d
-checked_top facts (Err refusal) = Err (codes "alertmanager_config")
+checked_top facts (Err refusal) = refused_at (codes "alertmanager_config") (Value (kind.Text text_kind.Plain))
 
 abbrev pub checked_within : Facts → List ℕ → Checked
 checked_within facts text = checked_top facts (json text)

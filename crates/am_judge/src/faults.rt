@@ -1,13 +1,13 @@
 //! What a value by itself is refused for.
 
-ghost use Rattle.std.specs.Prelude.{◌≡◌, IfOk};
+ghost use Rattle.std.specs.Prelude.{◌≡◌, IfOk, take};
 ghost use Rattle.serde_json.specs.View.{members_view, view};
 ghost use Rattle.am_draft.specs.Keys.{has_members};
 ghost use Rattle.am_config.specs.Checks.{is_listed};
 ghost use Rattle.am_config.specs.Matching.{reads_matchers};
 ghost use Rattle.am_judge.specs.Faults.{are_bad_files, has_fault, is_bad_duration, is_bad_form, is_bad_list};
 ghost use Rattle.am_judge.specs.Faults.{is_bad_matcher, is_bad_name, is_bad_object, is_bad_receiver, is_bad_text};
-ghost use Rattle.am_judge.specs.Faults.{is_bad_url, is_for_form, is_for_left_out, is_shared, is_span, is_unbuilt};
+ghost use Rattle.am_judge.specs.Faults.{is_bad_url, is_for_form, is_for_left_out, is_span, is_unbuilt};
 
 use crate::facts::Facts;
 use crate::kind::{Kind, ListKind, ObjectKind, TextKind};
@@ -80,8 +80,8 @@ fn is_bad_form(reason: ConfigRefusal, kind: Kind, value: &Value) -> bool
         Kind::Files => are_bad_files(reason, value),
         Kind::Flag => is_for_form(reason) && value.as_bool().is_none(),
         Kind::Count => is_for_form(reason) && value.as_u64().is_none(),
-        Kind::LeftOut => is_for_left_out(reason),
-        Kind::Unknown => is_for_form(reason),
+        Kind::LeftOut(_) => is_for_left_out(reason),
+        Kind::Unknown(_) => is_for_form(reason),
         _ => false,
     }
 }
@@ -165,7 +165,7 @@ fn is_bad_receiver(receivers: &[ReceiverDraft], role: TextKind, text: &str) -> b
 {
     match role {
         TextKind::Named => !is_listed(receivers, text),
-        TextKind::Name => is_shared(receivers, text),
+        TextKind::Name(before) => is_listed_before(receivers, before, text),
         _ => false,
     }
 }
@@ -178,15 +178,14 @@ fn is_listed(receivers: &[ReceiverDraft], name: &str) -> bool
         .any(|receiver| receiver.name.as_str() == name)
 }
 
-// Whether more than one receiver has this name.
-fn is_shared(receivers: &[ReceiverDraft], name: &str) -> bool
-    ensures { result ≡ is_shared receivers.now name.now }
+// Whether one of the first so many receivers has this name.
+fn is_listed_before(receivers: &[ReceiverDraft], before: usize, name: &str) -> bool
+    ensures { result ≡ is_listed (take before receivers.now) name.now }
 {
-    let count = receivers
+    receivers
         .iter()
-        .filter(|receiver| receiver.name.as_str() == name)
-        .count();
-    1 < count
+        .take(before)
+        .any(|receiver| receiver.name.as_str() == name)
 }
 
 fn is_bad_duration(role: TextKind, text: &str) -> bool

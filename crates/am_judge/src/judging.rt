@@ -7,11 +7,13 @@ ghost use Rattle.am_json.specs.Written.{data_tokens};
 ghost use Rattle.am_draft.specs.Drafts.{posted};
 ghost use Rattle.am_config.specs.Judging.{IsFailureOf};
 ghost use Rattle.am_judge.specs.Search.{checked_document};
-ghost use Rattle.am_judge.specs.Judging.{IsAccepted, IsPlaceOf, Judges, document_around, document_data, document_of};
-ghost use Rattle.am_judge.specs.Judging.{document_text, is_document, place_in, place_of_check, wrapped};
+ghost use Rattle.am_judge.specs.Judging.{IsAccepted, IsFindingOf, Judges, document_around, document_data, document_of};
+ghost use Rattle.am_judge.specs.Judging.{document_text, finding_in, finding_of_check, is_document, whole, wrapped};
 
+use crate::cause::{Cause, Finding};
 use crate::facts::{Facts, facts_of};
 use crate::reason::Reason;
+use crate::remedy::remedy_of;
 use crate::search::check_document;
 use am_config::{Config, ConfigRefusal};
 use am_json::{JsonWriter, read_json};
@@ -29,13 +31,28 @@ pub struct Refusal {
     /// The place of a value that by itself has this refusal, as `route.routes[2].matchers[0]`; empty for the whole, and
     /// where there is none.
     pub place: Text,
+    /// What stands at that place.
+    pub(crate) cause: Cause,
 }
 
-/// The code, the place where there is one, and what to do.
+impl Refusal {
+    /// What to do, by what stands at the place.
+    pub fn remedy(&self) -> &'static str {
+        remedy_of(self.reason, self.cause)
+    }
+}
+
+/// The code, the place where there is one, and what to do; of a document that is too long also how long it may be.
 impl fmt::Display for Refusal {
     fn fmt<W: fmt::Write>(&self, f: &mut fmt::Formatter<W>) -> fmt::Result {
         let code = self.reason.code();
-        let remedy = self.reason.remedy();
+        let remedy = self.remedy();
+        if let Reason::TooLong(most) = self.reason {
+            return write!(
+                f,
+                "{code}: {remedy} It may have {most} bytes as posted; `--limits`, unread here, may set others."
+            );
+        }
         if self.place.is_empty() {
             write!(f, "{code}: {remedy}")
         } else {
@@ -88,17 +105,27 @@ fn judge_document(
     ensures { IfOk result (Judges document.now limits cache.old) }
 {
     if limits.configuration < document.len() as u64 {
-        let place = Text::read(alloc, "")?;
-        let reason = Reason::TooLong;
-        return Ok(Verdict::Refused(Refusal { reason, place }));
+        let finding = whole(alloc)?;
+        let Finding { place, cause } = finding;
+        let reason = Reason::TooLong(limits.configuration);
+        return Ok(Verdict::Refused(Refusal {
+            reason,
+            place,
+            cause,
+        }));
     }
     match read_document(alloc, document, cache) {
         Ok(()) => Ok(Verdict::Accepted),
         Err(Failure::OutOfMemory) => Err(AllocError),
         Err(Failure::Refused(refusal)) => {
-            let place = place_of(alloc, document, refusal, cache)?;
+            let finding = finding_of(alloc, document, refusal, cache)?;
+            let Finding { place, cause } = finding;
             let reason = Reason::Config(refusal);
-            Ok(Verdict::Refused(Refusal { reason, place }))
+            Ok(Verdict::Refused(Refusal {
+                reason,
+                place,
+                cause,
+            }))
         }
     }
 }
@@ -118,35 +145,43 @@ fn read_document(
     }
 }
 
-// The place of a document that is refused for this reason.
-fn place_of(
+fn whole(alloc: Global) -> Result<Finding, AllocError>
+    ensures { IfOk result (λ finding. finding ≡ whole) }
+{
+    let place = Text::read(alloc, "")?;
+    let cause = Cause::Whole;
+    Ok(Finding { place, cause })
+}
+
+// The place of a document that is refused for this reason, and what stands there.
+fn finding_of(
     alloc: Global,
     document: &[u8],
     reason: ConfigRefusal,
     cache: &mut PatternCache,
-) -> Result<Text, AllocError>
-    ensures { IfOk result (IsPlaceOf document.now reason) }
+) -> Result<Finding, AllocError>
+    ensures { IfOk result (IsFindingOf document.now reason) }
 {
     let facts = facts_of(alloc, document, reason, cache)?;
-    place_in(alloc, &facts, document)
+    finding_in(alloc, &facts, document)
 }
 
-fn place_in(alloc: Global, facts: &Facts, document: &[u8]) -> Result<Text, AllocError>
-    ensures { IfOk result (λ place. place ≡ place_in facts.now (json document.now)) }
+fn finding_in(alloc: Global, facts: &Facts, document: &[u8]) -> Result<Finding, AllocError>
+    ensures { IfOk result (λ finding. finding ≡ finding_in facts.now (json document.now)) }
 {
     match read_json(alloc, document) {
-        Ok(value) => place_within(alloc, facts, &value),
+        Ok(value) => finding_within(alloc, facts, &value),
         Err(Failure::OutOfMemory) => Err(AllocError),
-        Err(Failure::Refused(_)) => Text::read(alloc, ""),
+        Err(Failure::Refused(_)) => whole(alloc),
     }
 }
 
-fn place_within(alloc: Global, facts: &Facts, document: &Value) -> Result<Text, AllocError>
-    ensures { IfOk result (λ place. place ≡ place_of_check (checked_document facts.now (view document.now))) }
+fn finding_within(alloc: Global, facts: &Facts, document: &Value) -> Result<Finding, AllocError>
+    ensures { IfOk result (λ finding. finding ≡ finding_of_check (checked_document facts.now (view document.now))) }
 {
     match check_document(alloc, facts, document) {
-        Ok(()) => Text::read(alloc, ""),
-        Err(Failure::Refused(place)) => Ok(place),
+        Ok(()) => whole(alloc),
+        Err(Failure::Refused(finding)) => Ok(finding),
         Err(Failure::OutOfMemory) => Err(AllocError),
     }
 }

@@ -7,7 +7,7 @@ ghost use Rattle.serde_json.specs.View.{view};
 ghost use Rattle.am_draft.specs.Keys.{has_text, left_out_keys};
 ghost use Rattle.am_judge.specs.Kinds.{absent_key, absent_of, at_document, at_global, at_object, at_receiver};
 ghost use Rattle.am_judge.specs.Kinds.{at_route, at_route_text, at_rule, at_top, at_webhook, item_of, lacks};
-ghost use Rattle.am_judge.specs.Kinds.{member_of, other};
+ghost use Rattle.am_judge.specs.Kinds.{left_out_kind, member_of, numbered, other};
 
 use serde_json::Value;
 
@@ -19,7 +19,8 @@ pub(crate) enum ObjectKind {
     Global,
     /// A route of this depth, where the root's is 1.
     Route(usize),
-    Receiver,
+    /// A receiver before which so many stand in the list.
+    Receiver(usize),
     Webhook,
     Rule,
 }
@@ -53,13 +54,26 @@ pub(crate) enum TextKind {
     Matcher,
     /// The receiver that a route names.
     Named,
-    /// The name of a receiver.
-    Name,
+    /// The name of a receiver before which so many stand in the list.
+    Name(usize),
     Url,
     /// A duration.
     Wait,
     /// A duration of at least a second.
     Interval,
+}
+
+/// A kind of key that amring leaves out.
+#[derive(Clone, Copy, PartialEq, Eq)]
+pub(crate) enum LeftOutKind {
+    /// `match` and `match_re`, older forms of `matchers`.
+    Matching,
+    /// Those of time intervals.
+    Intervals,
+    /// How notices are sent, beyond a URL.
+    Sending,
+    /// Receivers of another kind than webhooks.
+    Receivers,
 }
 
 /// A kind of value of a configuration.
@@ -73,9 +87,9 @@ pub(crate) enum Kind {
     Flag,
     Count,
     /// What stands at a key that amring leaves out.
-    LeftOut,
-    /// What stands at a key that isn't known.
-    Unknown,
+    LeftOut(LeftOutKind),
+    /// What stands at a key that isn't known in an object of this kind.
+    Unknown(ObjectKind),
     /// A value of which nothing is asked.
     Any,
 }
@@ -110,7 +124,7 @@ fn at_object(object: ObjectKind, key: &str) -> Kind
         ObjectKind::Top => at_top(key),
         ObjectKind::Global => at_global(key),
         ObjectKind::Route(depth) => at_route(depth, key),
-        ObjectKind::Receiver => at_receiver(key),
+        ObjectKind::Receiver(before) => at_receiver(before, key),
         ObjectKind::Webhook => at_webhook(key),
         ObjectKind::Rule => at_rule(key),
     }
@@ -122,7 +136,7 @@ fn at_document(key: &str) -> Kind
     if key == "alertmanager_config" {
         return Kind::Text(TextKind::Plain);
     }
-    other(key)
+    other(ObjectKind::Document, key)
 }
 
 fn at_global(key: &str) -> Kind
@@ -131,7 +145,7 @@ fn at_global(key: &str) -> Kind
     if key == "resolve_timeout" {
         return Kind::Text(TextKind::Wait);
     }
-    other(key)
+    other(ObjectKind::Global, key)
 }
 
 fn at_top(key: &str) -> Kind
@@ -149,7 +163,7 @@ fn at_top(key: &str) -> Kind
     if key == "inhibit_rules" {
         return Kind::List(ListKind::Rules);
     }
-    other(key)
+    other(ObjectKind::Top, key)
 }
 
 fn at_route(depth: usize, key: &str) -> Kind
@@ -171,11 +185,11 @@ fn at_route(depth: usize, key: &str) -> Kind
     if key == "routes" {
         return Kind::List(ListKind::Routes(depth.saturating_add(1)));
     }
-    at_route_text(key)
+    at_route_text(depth, key)
 }
 
-fn at_route_text(key: &str) -> Kind
-    ensures { result ≡ at_route_text key.now }
+fn at_route_text(depth: usize, key: &str) -> Kind
+    ensures { result ≡ at_route_text depth key.now }
 {
     if key == "receiver" {
         return Kind::Text(TextKind::Named);
@@ -189,22 +203,22 @@ fn at_route_text(key: &str) -> Kind
     if key == "repeat_interval" {
         return Kind::Text(TextKind::Interval);
     }
-    other(key)
+    other(ObjectKind::Route(depth), key)
 }
 
-fn at_receiver(key: &str) -> Kind
-    ensures { result ≡ at_receiver key.now }
+fn at_receiver(before: usize, key: &str) -> Kind
+    ensures { result ≡ at_receiver before key.now }
 {
     if key == "name" {
-        return Kind::Text(TextKind::Name);
+        return Kind::Text(TextKind::Name(before));
     }
     if key == "webhook_configs" {
         return Kind::List(ListKind::Webhooks);
     }
     if key.as_bytes().ends_with(b"_configs") {
-        return Kind::LeftOut;
+        return Kind::LeftOut(LeftOutKind::Receivers);
     }
-    other(key)
+    other(ObjectKind::Receiver(before), key)
 }
 
 fn at_webhook(key: &str) -> Kind
@@ -219,7 +233,7 @@ fn at_webhook(key: &str) -> Kind
     if key == "max_alerts" {
         return Kind::Count;
     }
-    other(key)
+    other(ObjectKind::Webhook, key)
 }
 
 fn at_rule(key: &str) -> Kind
@@ -234,12 +248,12 @@ fn at_rule(key: &str) -> Kind
     if key == "equal" {
         return Kind::List(ListKind::Names);
     }
-    other(key)
+    other(ObjectKind::Rule, key)
 }
 
-// What stands at a key that may be in any object.
-fn other(key: &str) -> Kind
-    ensures { result ≡ other key.now }
+// What stands at a key of an object that has no such key of its own.
+fn other(object: ObjectKind, key: &str) -> Kind
+    ensures { result ≡ other object key.now }
 {
     if key == "templates" {
         return Kind::List(ListKind::Templates);
@@ -248,15 +262,28 @@ fn other(key: &str) -> Kind
         return Kind::Files;
     }
     if is_left_out(key) {
-        return Kind::LeftOut;
+        return Kind::LeftOut(left_out_kind(key));
     }
-    Kind::Unknown
+    Kind::Unknown(object)
 }
 
 fn is_left_out(key: &str) -> bool
     ensures { result ≡ has_text left_out_keys key.now }
 {
     is_one_of(&LEFT_OUT_KEYS, key)
+}
+
+// The kind of a key that is left out in any object.
+fn left_out_kind(key: &str) -> LeftOutKind
+    ensures { result ≡ left_out_kind key.now }
+{
+    if key == "match" || key == "match_re" {
+        return LeftOutKind::Matching;
+    }
+    if key.as_bytes().ends_with(b"time_intervals") {
+        return LeftOutKind::Intervals;
+    }
+    LeftOutKind::Sending
 }
 
 fn is_one_of(texts: &[&str], text: &str) -> bool
@@ -272,7 +299,7 @@ pub(crate) fn item_of(kind: Kind, count: usize) -> Kind
     match kind {
         Kind::List(list) => match list {
             ListKind::Routes(depth) => Kind::Object(ObjectKind::Route(depth)),
-            ListKind::Receivers => Kind::Object(ObjectKind::Receiver),
+            ListKind::Receivers => Kind::Object(ObjectKind::Receiver(0)),
             ListKind::Webhooks => Kind::Object(ObjectKind::Webhook),
             ListKind::Rules => Kind::Object(ObjectKind::Rule),
             ListKind::Grouping => Kind::Text(if count == 1 {
@@ -286,6 +313,20 @@ pub(crate) fn item_of(kind: Kind, count: usize) -> Kind
             ListKind::Templates => Kind::Any,
         },
         _ => Kind::Any,
+    }
+}
+
+/// The kind of the item of this number, from 0 on, in a list of which the first is of this kind: a receiver's says how
+/// many stand before it.
+pub(crate) fn numbered(kind: Kind, number: usize) -> Kind
+    ensures { result ≡ numbered kind number }
+{
+    match kind {
+        Kind::Object(object) => match object {
+            ObjectKind::Receiver(_) => Kind::Object(ObjectKind::Receiver(number)),
+            _ => kind,
+        },
+        _ => kind,
     }
 }
 
@@ -316,7 +357,7 @@ fn absent_of(object: ObjectKind, value: &Value) -> Option<&'static str>
                 None
             }
         }
-        ObjectKind::Receiver => lacks(value, "name"),
+        ObjectKind::Receiver(_) => lacks(value, "name"),
         ObjectKind::Webhook => lacks(value, "url"),
         ObjectKind::Rule => None,
     }

@@ -4,12 +4,14 @@
 //! `alertmanager_config`.
 #![tactic(auto)]
 
+mod cause;
 mod facts;
 mod faults;
 mod judging;
 mod kind;
 mod place;
 mod reason;
+mod remedy;
 mod search;
 
 pub use judging::{Refusal, Verdict, judge};

@@ -7,9 +7,10 @@ ghost use Rattle.am_judge.specs.Kinds.{absent_key};
 ghost use Rattle.am_judge.specs.Search.{checked, checked_document, checked_items, checked_keys, checked_members};
 ghost use Rattle.am_judge.specs.Search.{checked_text, checked_within, here};
 
+use crate::cause::{Cause, Finding, cause_of};
 use crate::facts::Facts;
 use crate::faults::{has_fault, is_for_form};
-use crate::kind::{Kind, ObjectKind, absent_key, item_of, member_of};
+use crate::kind::{Kind, ObjectKind, TextKind, absent_key, item_of, member_of, numbered};
 use crate::place::at_item;
 use am_json::read_json;
 use am_place::at_key;
@@ -24,7 +25,7 @@ pub(crate) fn check_document(
     alloc: Global,
     facts: &Facts,
     document: &Value,
-) -> Result<(), Failure<Text>>
+) -> Result<(), Failure<Finding>>
     ensures { Gives (λ _. tt) result (checked_document facts.now (view document.now)) }
 {
     check_text(alloc, facts, document)?;
@@ -39,7 +40,7 @@ pub(crate) fn check_document(
 }
 
 // The same of the text in a document, where there is one.
-fn check_text(alloc: Global, facts: &Facts, document: &Value) -> Result<(), Failure<Text>>
+fn check_text(alloc: Global, facts: &Facts, document: &Value) -> Result<(), Failure<Finding>>
     ensures { Gives (λ _. tt) result (checked_text facts.now (view document.now)) }
 {
     match document.get("alertmanager_config") {
@@ -52,7 +53,7 @@ fn check_text(alloc: Global, facts: &Facts, document: &Value) -> Result<(), Fail
 }
 
 // The same of a text, which is refused itself where it isn't JSON.
-fn check_within(alloc: Global, facts: &Facts, text: &str) -> Result<(), Failure<Text>>
+fn check_within(alloc: Global, facts: &Facts, text: &str) -> Result<(), Failure<Finding>>
     ensures { Gives (λ _. tt) result (checked_within facts.now text.now) }
 {
     match read_json(alloc, text.as_bytes()) {
@@ -63,7 +64,8 @@ fn check_within(alloc: Global, facts: &Facts, text: &str) -> Result<(), Failure<
         Err(Failure::OutOfMemory) => Err(Failure::OutOfMemory),
         Err(Failure::Refused(_)) => {
             let place = Text::read(alloc, "alertmanager_config")?;
-            Err(Failure::Refused(place))
+            let cause = Cause::Value(Kind::Text(TextKind::Plain));
+            Err(Failure::Refused(Finding { place, cause }))
         }
     }
 }
@@ -76,7 +78,7 @@ fn check(
     place: &Text,
     kind: Kind,
     value: &Value,
-) -> Result<(), Failure<Text>>
+) -> Result<(), Failure<Finding>>
     ensures { Gives (λ _. tt) result (checked facts.now place.now kind (view value.now)) }
 {
     check_here(alloc, facts, place, kind, value)?;
@@ -99,7 +101,7 @@ fn check_members(
     place: &Text,
     kind: Kind,
     members: &Map<String, Value>,
-) -> Result<(), Failure<Text>>
+) -> Result<(), Failure<Finding>>
     ensures { Gives (λ _. tt) result
         (checked_members facts.now place.now kind (members_view members.now.entries)) }
 {
@@ -110,7 +112,7 @@ fn check_members(
     Ok(())
 }
 
-// The items of a list, each of which is of this kind.
+// The items of a list, of which the first is of this kind.
 #[cycle(walk)]
 fn check_items(
     alloc: Global,
@@ -118,13 +120,13 @@ fn check_items(
     place: &Text,
     kind: Kind,
     items: &Vec<Value>,
-) -> Result<(), Failure<Text>>
+) -> Result<(), Failure<Finding>>
     ensures { Gives (λ _. tt) result
         (checked_items facts.now place.now kind 0 (items_view items.now.items)) }
 {
     for (number, item) in items.iter().enumerate() {
         let place = at_item(alloc, place, number)?;
-        check(alloc, facts, &place, kind, item)?;
+        check(alloc, facts, &place, numbered(kind, number), item)?;
     }
     Ok(())
 }
@@ -137,11 +139,13 @@ fn check_here(
     place: &Text,
     kind: Kind,
     value: &Value,
-) -> Result<(), Failure<Text>>
+) -> Result<(), Failure<Finding>>
     ensures { Gives (λ _. tt) result (here facts.now place.now kind (view value.now)) }
 {
     if has_fault(alloc, facts, kind, value)? {
-        return Err(Failure::Refused(place.copy(alloc)?));
+        let place = place.copy(alloc)?;
+        let cause = cause_of(alloc, facts.reason, kind, value)?;
+        return Err(Failure::Refused(Finding { place, cause }));
     }
     if is_for_form(facts.reason) {
         return check_keys(alloc, place, kind, value);
@@ -149,11 +153,20 @@ fn check_here(
     Ok(())
 }
 
-fn check_keys(alloc: Global, place: &Text, kind: Kind, value: &Value) -> Result<(), Failure<Text>>
+fn check_keys(
+    alloc: Global,
+    place: &Text,
+    kind: Kind,
+    value: &Value,
+) -> Result<(), Failure<Finding>>
     ensures { Gives (λ _. tt) result (checked_keys place.now (absent_key kind (view value.now))) }
 {
     match absent_key(kind, value) {
         None => Ok(()),
-        Some(key) => Err(Failure::Refused(at_key(alloc, place, key)?)),
+        Some(key) => {
+            let place = at_key(alloc, place, key)?;
+            let cause = Cause::Absent;
+            Err(Failure::Refused(Finding { place, cause }))
+        }
     }
 }

@@ -1,2 +1,3 @@
 pub mod LimitsFiles
 pub mod Changes
+pub mod Watching

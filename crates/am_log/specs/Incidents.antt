@@ -1,4 +1,4 @@
--- What failed, and is to be told.
+-- What happened, and is to be told.
 use Rattle.std.specs.Prelude.{ℕ, List, [], ◌∷◌, Option, None, Some}
 use Rattle.am_log.specs.declared.entry.ToldFailure.{ToldFailure}
 use Rattle.am_log.specs.declared.entry.WebhookFailure.{WebhookFailure}

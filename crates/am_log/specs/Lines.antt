@@ -4,10 +4,12 @@ use Rattle.json.specs.Print.{quoted}
 use Rattle.serde_json.specs.Data.{Data, Members, member, no_members, number, object, string, unsigned}
 use Rattle.serde_json.specs.Written.{compact_text}
 use Rattle.am_text.specs.Printing.{moment_text}
+use Rattle.am_log.specs.declared.entry.Change.{Change}
+use Rattle.am_log.specs.declared.entry.Change.TheVariants.{Joined, Left, Crashed, Restarted, Forced}
 use Rattle.am_log.specs.declared.entry.Entry.{Entry}
 use Rattle.am_log.specs.declared.entry.Entry.TheVariants.{Listening, AdminListening, LimitsRead, LimitsRefused}
 use Rattle.am_log.specs.declared.entry.Entry.TheVariants.{WebhookFailed, ConnectionsLetGo, Clock}
-use Rattle.am_log.specs.declared.entry.Entry.TheVariants.{InstanceStopped, InstanceUp}
+use Rattle.am_log.specs.declared.entry.Entry.TheVariants.{InstanceStopped, InstanceUp, Changed}
 use Rattle.am_log.specs.declared.entry.LetGo.{LetGo}
 use Rattle.am_log.specs.declared.entry.LetGo.TheVariants.{Crowded, Unread, Late}
 use Rattle.am_log.specs.declared.entry.ToldFailure.{ToldFailure}
@@ -38,7 +40,16 @@ failure_text told =
     codes "amring: a webhook of " ++ (told.failure.tenant
     ++ (codes " failed: receiver " ++ (quoted told.failure.receiver
     ++ (codes ", " ++ (status_text told.failure.status
-    ++ (codes ", try " ++ (decimal told.failure.tries ++ left_out_text told.left_out)))))))
+    ++ (codes ", try " ++ (decimal told.failure.tries
+    ++ (codes " of instance " ++ (decimal told.failure.instance ++ left_out_text told.left_out)))))))))
+
+-- what was done by hand
+abbrev pub change_text : Change → List ℕ
+change_text (Joined instance) = codes "instance " ++ (decimal instance ++ codes " was taken into the ring by hand")
+change_text (Left instance) = codes "instance " ++ (decimal instance ++ codes " was taken out of the ring by hand")
+change_text (Crashed instance) = codes "instance " ++ (decimal instance ++ codes " was shut down by hand")
+change_text (Restarted instance) = codes "instance " ++ (decimal instance ++ codes " was restarted by hand")
+change_text (Forced tenant) = codes "amring: the replicas of " ++ (tenant ++ codes " were settled by force")
 
 -- an entry
 abbrev pub plain_text : Entry → List ℕ
@@ -53,6 +64,7 @@ plain_text (ConnectionsLetGo reason count) =
 plain_text (Clock news) = codes "amring: " ++ news
 plain_text (InstanceStopped instance cause) = codes "instance " ++ (decimal instance ++ (codes " stopped: " ++ cause))
 plain_text (InstanceUp instance) = codes "instance " ++ (decimal instance ++ codes " is up again")
+plain_text (Changed change) = change_text change
 
 -- ---- as JSON objects
 
@@ -67,6 +79,15 @@ level_of (ConnectionsLetGo reason count) = codes "warn"
 level_of (Clock news) = codes "warn"
 level_of (InstanceStopped instance cause) = codes "error"
 level_of (InstanceUp instance) = codes "info"
+level_of (Changed change) = codes "info"
+
+-- the word for what was done by hand
+abbrev pub change_event : Change → List ℕ
+change_event (Joined instance) = codes "instance_joined"
+change_event (Left instance) = codes "instance_left"
+change_event (Crashed instance) = codes "instance_crashed"
+change_event (Restarted instance) = codes "instance_restarted"
+change_event (Forced tenant) = codes "tenant_forced"
 
 -- the word for what happened
 abbrev pub event_of : Entry → List ℕ
@@ -79,6 +100,7 @@ event_of (ConnectionsLetGo reason count) = codes "connections_let_go"
 event_of (Clock news) = codes "clock"
 event_of (InstanceStopped instance cause) = codes "instance_stopped"
 event_of (InstanceUp instance) = codes "instance_up"
+event_of (Changed change) = change_event change
 
 -- the word for why connections were let go
 abbrev pub reason_word : LetGo → List ℕ
@@ -102,7 +124,8 @@ failure_members told =
     (member (codes "receiver") (string told.failure.receiver)
     (member (status_name told.failure.status) (status_data told.failure.status)
     (member (codes "try") (number (unsigned told.failure.tries))
-    (member (codes "left_out") (number (unsigned told.left_out)) no_members))))
+    (member (codes "instance") (number (unsigned told.failure.instance))
+    (member (codes "left_out") (number (unsigned told.left_out)) no_members)))))
 
 -- .. of connections that were let go
 abbrev pub let_go_members : LetGo → ℕ → Members
@@ -115,6 +138,14 @@ abbrev pub stopped_members : ℕ → List ℕ → Members
 stopped_members instance cause =
     member (codes "instance") (number (unsigned instance)) (member (codes "cause") (string cause) no_members)
 
+-- .. of what was done by hand
+abbrev pub change_members : Change → Members
+change_members (Joined instance) = member (codes "instance") (number (unsigned instance)) no_members
+change_members (Left instance) = member (codes "instance") (number (unsigned instance)) no_members
+change_members (Crashed instance) = member (codes "instance") (number (unsigned instance)) no_members
+change_members (Restarted instance) = member (codes "instance") (number (unsigned instance)) no_members
+change_members (Forced tenant) = member (codes "tenant") (string tenant) no_members
+
 -- what is told of an entry besides
 abbrev pub members_of : Entry → Members
 members_of (Listening address) = member (codes "address") (string address) no_members
@@ -126,6 +157,7 @@ members_of (ConnectionsLetGo reason count) = let_go_members reason count
 members_of (Clock news) = member (codes "news") (string news) no_members
 members_of (InstanceStopped instance cause) = stopped_members instance cause
 members_of (InstanceUp instance) = member (codes "instance") (number (unsigned instance)) no_members
+members_of (Changed change) = change_members change
 
 -- the object of an entry: when, how grave, what happened, and what is told besides
 abbrev pub entry_data : ℕ → Entry → Data

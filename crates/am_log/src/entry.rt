@@ -24,6 +24,23 @@ pub enum Entry {
     InstanceStopped(u8, Text),
     /// The instance of this number, which stopped before, is up again.
     InstanceUp(u8),
+    /// This was done by hand.
+    Changed(Change),
+}
+
+/// What those who run a service have it do.
+#[derive(Drop)]
+pub enum Change {
+    /// The instance of this number was taken into the ring.
+    Joined(u8),
+    /// The instance of this number was taken out of the ring.
+    Left(u8),
+    /// The instance of this number was shut down.
+    Crashed(u8),
+    /// The instance of this number was restarted.
+    Restarted(u8),
+    /// The replicas of this tenant were settled by force.
+    Forced(TenantName),
 }
 
 /// A call of a webhook that failed.
@@ -36,6 +53,8 @@ pub struct WebhookFailure {
     pub status: Option<u16>,
     /// Which try of its notice it was, from 1 on.
     pub tries: u8,
+    /// The instance that tried, 1 to 8.
+    pub instance: u8,
 }
 
 /// A call of a webhook that failed, as it is told.

@@ -11,7 +11,7 @@ mod releases;
 mod throttle;
 mod writing;
 
-pub use entry::{Entry, LetGo, ToldFailure, WebhookFailure};
+pub use entry::{Change, Entry, LetGo, ToldFailure, WebhookFailure};
 pub use form::Form;
 pub use incidents::Incidents;
 pub use releases::Releases;

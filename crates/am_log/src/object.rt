@@ -4,10 +4,11 @@ ghost use Rattle.std.specs.Prelude.{◌≡◌, ◌++◌, IfOk, OnOk};
 ghost use Rattle.serde_json.specs.Data.{member, no_members, number, string, unsigned};
 ghost use Rattle.serde_json.specs.Written.{compact_text};
 ghost use Rattle.am_json.specs.Written.{data_tokens, member_tokens, members_tokens};
-ghost use Rattle.am_log.specs.Lines.{entry_data, event_of, failure_members, let_go_members, level_of, members_of};
-ghost use Rattle.am_log.specs.Lines.{reason_word, status_data, status_name, stopped_members};
+ghost use Rattle.am_log.specs.Lines.{change_event, change_members, entry_data, event_of, failure_members};
+ghost use Rattle.am_log.specs.Lines.{let_go_members, level_of, members_of, reason_word, status_data, status_name};
+ghost use Rattle.am_log.specs.Lines.{stopped_members};
 
-use crate::entry::{Entry, LetGo, ToldFailure};
+use crate::entry::{Change, Entry, LetGo, ToldFailure};
 use am_json::JsonWriter;
 use am_text::{Moment, Octets, Text};
 use std::alloc::{AllocError, Global};
@@ -49,6 +50,7 @@ fn put_members(text: &mut JsonWriter, entry: &Entry) -> Result<(), AllocError>
         Entry::Clock(news) => end_with_text(text, "news", news),
         Entry::InstanceStopped(number, cause) => put_stopped(text, *number, cause),
         Entry::InstanceUp(number) => end_with_number(text, "instance", u64::from(*number)),
+        Entry::Changed(change) => put_change(text, change),
     }
 }
 
@@ -59,6 +61,7 @@ fn put_failure(text: &mut JsonWriter, told: &ToldFailure) -> Result<(), AllocErr
     text.text_member("receiver", &told.failure.receiver)?;
     status_member(text, told.failure.status)?;
     number_member(text, "try", u64::from(told.failure.tries))?;
+    number_member(text, "instance", u64::from(told.failure.instance))?;
     end_with_number(text, "left_out", told.left_out)
 }
 
@@ -76,11 +79,31 @@ fn put_stopped(text: &mut JsonWriter, number: u8, cause: &Text) -> Result<(), Al
     end_with_text(text, "cause", cause)
 }
 
+fn put_change(text: &mut JsonWriter, change: &Change) -> Result<(), AllocError>
+    ensures { OnOk result (text.new ≡ text.old ++ members_tokens (change_members change.now)) }
+{
+    match change {
+        Change::Joined(number)
+        | Change::Left(number)
+        | Change::Crashed(number)
+        | Change::Restarted(number) => end_with_number(text, "instance", u64::from(*number)),
+        Change::Forced(tenant) => end_with_word(text, "tenant", tenant.as_str()),
+    }
+}
+
 // The last member of the object, and its end.
 fn end_with_text(text: &mut JsonWriter, name: &str, value: &Text) -> Result<(), AllocError>
     ensures { OnOk result (text.new ≡ text.old ++ members_tokens (member name.now (string value.now) no_members)) }
 {
     text.text_member(name, value)?;
+    text.end_object()
+}
+
+// The last member of the object, and its end.
+fn end_with_word(text: &mut JsonWriter, name: &str, word: &str) -> Result<(), AllocError>
+    ensures { OnOk result (text.new ≡ text.old ++ members_tokens (member name.now (string word.now) no_members)) }
+{
+    word_member(text, name, word)?;
     text.end_object()
 }
 
@@ -124,7 +147,8 @@ fn level_of(entry: &Entry) -> &'static str
         Entry::Listening(_)
         | Entry::AdminListening(_)
         | Entry::LimitsRead(_)
-        | Entry::InstanceUp(_) => "info",
+        | Entry::InstanceUp(_)
+        | Entry::Changed(_) => "info",
         Entry::WebhookFailed(_) | Entry::ConnectionsLetGo(..) | Entry::Clock(_) => "warn",
         Entry::LimitsRefused(_) | Entry::InstanceStopped(..) => "error",
     }
@@ -143,6 +167,19 @@ fn event_of(entry: &Entry) -> &'static str
         Entry::Clock(_) => "clock",
         Entry::InstanceStopped(..) => "instance_stopped",
         Entry::InstanceUp(_) => "instance_up",
+        Entry::Changed(change) => change_event(change),
+    }
+}
+
+fn change_event(change: &Change) -> &'static str
+    ensures { result.now ≡ change_event change.now }
+{
+    match change {
+        Change::Joined(_) => "instance_joined",
+        Change::Left(_) => "instance_left",
+        Change::Crashed(_) => "instance_crashed",
+        Change::Restarted(_) => "instance_restarted",
+        Change::Forced(_) => "tenant_forced",
     }
 }
 

@@ -2,9 +2,9 @@
 
 ghost use Rattle.std.specs.Prelude.{◌≡◌, IfOk, string_bytes};
 ghost use Rattle.json.specs.Print.{quoted};
-ghost use Rattle.am_log.specs.Lines.{failure_text, left_out_text, plain_text, reason_text, status_text};
+ghost use Rattle.am_log.specs.Lines.{change_text, failure_text, left_out_text, plain_text, reason_text, status_text};
 
-use crate::entry::{Entry, LetGo, ToldFailure};
+use crate::entry::{Change, Entry, LetGo, ToldFailure};
 use serde_json::Value;
 use std::alloc::{AllocError, Global};
 
@@ -44,6 +44,27 @@ pub(crate) fn plain_text(alloc: Global, entry: &Entry) -> Result<String, AllocEr
             format!(in alloc; "instance {number} stopped: {cause}")
         }
         Entry::InstanceUp(number) => format!(in alloc; "instance {number} is up again"),
+        Entry::Changed(change) => change_text(alloc, change),
+    }
+}
+
+// The sentence that tells what was done by hand.
+fn change_text(alloc: Global, change: &Change) -> Result<String, AllocError>
+    ensures { IfOk result (λ text. string_bytes text ≡ change_text change.now) }
+{
+    match change {
+        Change::Joined(number) => {
+            format!(in alloc; "instance {number} was taken into the ring by hand")
+        }
+        Change::Left(number) => {
+            format!(in alloc; "instance {number} was taken out of the ring by hand")
+        }
+        Change::Crashed(number) => format!(in alloc; "instance {number} was shut down by hand"),
+        Change::Restarted(number) => format!(in alloc; "instance {number} was restarted by hand"),
+        Change::Forced(tenant) => {
+            let tenant = tenant.as_str();
+            format!(in alloc; "amring: the replicas of {tenant} were settled by force")
+        }
     }
 }
 
@@ -55,9 +76,11 @@ fn failure_text(alloc: Global, told: &ToldFailure) -> Result<String, AllocError>
     let receiver = quoted(alloc, told.failure.receiver.as_str())?;
     let status = status_text(alloc, told.failure.status)?;
     let tries = told.failure.tries;
+    let instance = told.failure.instance;
     let left_out = left_out_text(alloc, told.left_out)?;
     format!(in alloc;
-        "amring: a webhook of {tenant} failed: receiver {receiver}, {status}, try {tries}{left_out}"
+        "amring: a webhook of {tenant} failed: \
+        receiver {receiver}, {status}, try {tries} of instance {instance}{left_out}"
     )
 }
 

@@ -121,6 +121,13 @@ impl Node {
         self.parts.places.place(tenant)
     }
 
+    /// How often an allowance held a notice back since there is the node, at most 2^64 - 1.
+    pub fn held_back(&self) -> u64
+        ensures { result ≡ self.now.notifier.held_back }
+    {
+        self.parts.notifier.held_back()
+    }
+
     /// What is held of a tenant, in the order of keys.
     #[tactic(auto, unfolding(crate::specs::Held::local_of))]
     pub fn held(&self, tenant: &TenantName) -> &Held

@@ -72,6 +72,7 @@ impl Notifier {
     {
         let limit = context.limits.notices;
         if !self.allowances.take(alloc, tenant, limit, context.moment)? {
+            self.held_back = self.held_back.saturating_add(1);
             return Ok(None);
         }
         match self.agenda.start(alloc, tenant, notice) {

@@ -25,6 +25,8 @@ pub struct Notifier {
     pub(crate) agenda: Agenda,
     pub(crate) allowances: Allowances,
     pub(crate) positions: Positions,
+    // How often an allowance held a notice back, at most 2^64 - 1.
+    pub(crate) held_back: u64,
 }
 
 // Written out, so that a crate which owns a notifier has no need to prove anew how each of its parts is dropped.
@@ -34,6 +36,7 @@ impl Drop for Notifier {
             agenda,
             allowances,
             positions,
+            held_back: _held_back,
         } = self;
         drop(agenda);
         drop(allowances);
@@ -53,10 +56,12 @@ impl Notifier {
             agenda: Agenda::new(alloc)?,
             allowances: Allowances::new(alloc),
             positions: Positions::new(alloc),
+            held_back: 0,
         })
     }
 
-    /// Forgets all that is planned of all tenants, as a crash does. It takes no memory.
+    /// Forgets all that is planned of all tenants, as a crash does. How often an allowance held a notice back is kept. It
+    /// takes no memory.
     #[tactic(auto, unfolding(crate::specs::Notifies::notifies_of))]
     pub fn clear(&mut self, alloc: Global)
         ensures { (t : List ℕ) → notifies_of t self.new ≡ nothing }
@@ -75,6 +80,13 @@ impl Notifier {
         self.agenda.drop_tenant(tenant);
         self.allowances.drop_tenant(tenant);
         self.positions.drop_tenant(tenant);
+    }
+
+    /// How often an allowance held a notice back since there is the notifier, at most 2^64 - 1.
+    pub fn held_back(&self) -> u64
+        ensures { result ≡ self.now.held_back }
+    {
+        self.held_back
     }
 
     /// Whether the outcome of this try of a tenant's attempt is awaited.

@@ -1,10 +1,10 @@
 -- What a scenario came to of which a stream or the memory failed.
-use Rattle.std.proofs.Common.{◌≡◌, ℕ, List, [], ◌++◌, Option, None, Some, IfSome, refl, sym, subst, ◌∙◌, inl, inr, append-nil}
+use Rattle.std.proofs.Common.{◌≡◌, ◌∙◌, ℕ, List, [], ◌++◌, Option, None, Some, IfSome, inl, inr}
+use Rattle.std.proofs.Common.{refl, sym, subst, append-nil}
 use Rattle.std.proofs.lemmas.List.Concat.{flat_map-append}
 use Rattle.std.specs.Io.KnownBytes.{Appends}
 use Rattle.am_world.specs.Consistent.{Contents}
 use Rattle.am_world.specs.Opening.{Opens}
-use Rattle.am_world.specs.Shelves.{Shelf}
 use Rattle.am_world.specs.Simulation.{fault_count}
 use Rattle.am_play.proofs.ScenarioLemmas.{Rest, Upto}
 use Rattle.am_play.proofs.TraceLemmas.{course_alone, course_clean, course_until_fault}
@@ -32,11 +32,12 @@ all_read : (known : KnownLines) (lines : List (List ℕ)) → IfSome known (λ k
 all_read None lines read = tt
 all_read (Some all) lines read = append-nil lines ∙ read
 
-module _ {R : Type 0} (carries : Carries) (answers : Answers) (start : Player R) (known : KnownLines) (old new : Option (List ℕ)) where
+module _ {W : Type 0} (contents : W → Contents) (carries : Carries) (answers : Answers) (start : Player W)
+    (known : KnownLines) (old new : Option (List ℕ)) where
   -- some lines were played
-  pub upto_breaks : (p : Player R) (left : KnownLines) (n : ℕ) (trace : List Happened) →
-      Upto carries answers start known p left n trace → AppendsPart old new (printed trace) →
-      CourseBreaks carries answers start known old new
+  pub upto_breaks : (p : Player W) (left : KnownLines) (n : ℕ) (trace : List Happened) →
+      Upto contents carries answers start known p left n trace → AppendsPart old new (printed trace) →
+      CourseBreaks contents carries answers start known old new
   upto_breaks p left n trace upto written =
       let others = others_of known left upto.lines upto.rest in
       record {
@@ -51,10 +52,10 @@ module _ {R : Type 0} (carries : Carries) (answers : Answers) (start : Player R)
       }
 
   -- all lines were played
-  pub course_breaks : (played : Played) (trace : List Happened) (end : Player R) →
-      Course carries answers start known played trace end →
-      AppendsPart old new (printed trace ++ ending played (fault_count end.world.state)) →
-      CourseBreaks carries answers start known old new
+  pub course_breaks : (played : Played) (trace : List Happened) (end : Player W) →
+      Course contents carries answers start known played trace end →
+      AppendsPart old new (printed trace ++ ending played (fault_count (contents end.world).state)) →
+      CourseBreaks contents carries answers start known old new
   course_breaks played trace end course written = record {
     lines = course.lines;
     others = [];
@@ -67,33 +68,36 @@ module _ {R : Type 0} (carries : Carries) (answers : Answers) (start : Player R)
   }
 
   -- .. from a new world on
-  pub scenario_breaks : (c : Contents) → IsStart c start → CourseBreaks carries answers start known old new →
-      ScenarioBreaks R carries answers c known old new
+  pub scenario_breaks : (c : Contents) → IsStart contents c start →
+      CourseBreaks contents carries answers start known old new →
+      ScenarioBreaks contents carries answers c known old new
   scenario_breaks c is_start course = record {
     start = start;
     is_start = is_start;
     course = course;
     until_fault = λ origin rows opens.
         subst (λ (begun : Contents). AloneUntilFault origin rows begun course.trace) is_start.begins
-        (course_until_fault carries answers origin rows start None course.played course.trace course.end
+        (course_until_fault contents carries answers origin rows start None course.played course.trace course.end
         (subst (Opens origin rows) (sym is_start.begins) opens)
         (record { lines = course.lines; are_read = tt; plays = course.plays }));
   }
 
--- all of a scenario was played from a new world on, of whose stores this is seen afterwards
-pub isolates : {R : Type 0} (carries : Carries) (answers : Answers) (start : Player R) (known : KnownLines)
-    (c : Contents) → IsStart c start → (played : Played) (trace : List Happened) (end : Player R) →
-    Course carries answers start known played trace end → (shelves : List Shelf) → shelves ≡ end.world.shelves →
-    IsolatesTenants c trace (fault_count end.world.state) shelves
-isolates carries answers start known c is_start played trace end course shelves stores =
-    let at_start : IsolatesTenants start.world trace (fault_count end.world.state) end.world.shelves = record {
-      alone = λ origin rows opens. course_alone carries answers origin rows start known played trace end opens course;
+-- all of a scenario was played from a world on
+pub isolates : {W : Type 0} (contents : W → Contents) (carries : Carries) (answers : Answers) (start : Player W)
+    (known : KnownLines) (c : Contents) → IsStart contents c start → (played : Played) (trace : List Happened)
+    (end : Player W) → Course contents carries answers start known played trace end →
+    IsolatesTenants c trace (fault_count (contents end.world).state) (contents end.world).shelves
+isolates contents carries answers start known c is_start played trace end course =
+    let faults = fault_count (contents end.world).state in
+    let shelves = (contents end.world).shelves in
+    let at_start : IsolatesTenants (contents start.world) trace faults shelves = record {
+      alone = λ origin rows opens.
+          course_alone contents carries answers origin rows start known played trace end opens course;
       until_fault = λ origin rows opens.
-          course_until_fault carries answers origin rows start known played trace end opens course;
-      clean = course_clean carries answers start known played trace end course;
+          course_until_fault contents carries answers origin rows start known played trace end opens course;
+      clean = course_clean contents carries answers start known played trace end course;
     } in
-    rw stores (subst (λ (begun : Contents). IsolatesTenants begun trace (fault_count end.world.state)
-    end.world.shelves) is_start.begins at_start)
+    subst (λ (begun : Contents). IsolatesTenants begun trace faults shelves) is_start.begins at_start
 
 -- the lines of a trace were written, and then a first part of those of what followed
 pub trace_later : (a b c : Option (List ℕ)) (trace more : List Happened) → Appends a b (printed trace) →

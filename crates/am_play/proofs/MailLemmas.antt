@@ -9,6 +9,7 @@ use Rattle.am_event.specs.declared.event.Event.TheVariants as event
 use Rattle.am_messages.specs.declared.name.MessageName.{MessageName}
 use Rattle.am_wire.specs.Messages.{Spells}
 use Rattle.am_wire.specs.declared.message.Message.{Message}
+use Rattle.am_world.specs.Consistent.{Contents}
 use Rattle.am_world.specs.Refusal.{refusal}
 use Rattle.am_world.specs.Simulation.{message_named}
 use Rattle.am_stream.specs.Link.{Carries}
@@ -22,8 +23,14 @@ use Rattle.am_report.specs.declared.report.Report.{Report}
 -- ---- bytes over a link
 
 pub crosses_nothing : (carries : Carries) → Crosses carries [] true
-crosses_nothing carries =
-    record { pieces = []; left = []; cut = refl; sizes = refl; carried = All-nil (λ piece. carries piece true); ends = refl }
+crosses_nothing carries = record {
+  pieces = [];
+  left = [];
+  cut = refl;
+  sizes = refl;
+  carried = All-nil (λ piece. carries piece true);
+  ends = refl;
+}
 
 pub crosses_lost : (carries : Carries) (piece after : List ℕ) → is_piece piece ≡ true → carries piece false →
     Crosses carries (piece ++ after) false
@@ -49,16 +56,24 @@ crosses_more carries piece bytes came size carried crosses = record {
 
 -- ---- letters handed over
 
-module _ {R : Type 0} (carries : Carries) where
-  pub hands_more : (handed : List (Letter × Bool)) (p mid p' : Player R) (trace first : List Happened) (letter : Letter)
-      (is_done : Bool) (mail : List Letter) → Hands carries handed p mid trace → mid.mail ≡ letter ∷ mail →
-      HandsOver carries letter.name (record mid { mail = mail }) is_done p' first →
-      Hands carries (handed ++ (letter, is_done) ∷ []) p p' (trace ++ first)
+module _ {W : Type 0} (contents : W → Contents) (carries : Carries) where
+  pub hands_more : (handed : List (Letter × Bool)) (p mid p' : Player W) (trace first : List Happened) (letter : Letter)
+      (is_done : Bool) (mail : List Letter) → Hands contents carries handed p mid trace → mid.mail ≡ letter ∷ mail →
+      HandsOver contents carries letter.name (record mid { mail = mail }) is_done p' first →
+      Hands contents carries (handed ++ (letter, is_done) ∷ []) p p' (trace ++ first)
   hands_more [] p mid p' trace first letter is_done mail (same, nothing) waits over =
-      rw nothing
-      (mail, p', first, [], ap (λ (x : Player R). x.mail) (sym same) ∙ waits, rw same at over, sym (append-nil first), (refl, refl))
-  hands_more (one ∷ more) p mid p' trace first letter is_done mail (left, next, head, rest, one_waits, one_over, both, later)
-      waits over = (
+      rw nothing (
+        mail,
+        p',
+        first,
+        [],
+        ap (λ (x : Player W). x.mail) (sym same) ∙ waits,
+        rw same at over,
+        sym (append-nil first),
+        (refl, refl),
+      )
+  hands_more (one ∷ more) p mid p' trace first letter is_done mail
+      (left, next, head, rest, one_waits, one_over, both, later) waits over = (
         left,
         next,
         head,
@@ -70,10 +85,10 @@ module _ {R : Type 0} (carries : Carries) where
       )
 
   -- all were handed over, or as many as may be; those that aren't done with wait before the others
-  pub pumped : (handed : List (Letter × Bool)) (p mid stop : Player R) (trace : List Happened) (kept letters : List Letter) →
-      Hands carries handed p mid trace → length handed ≤ 1000000 →
+  pub pumped : (handed : List (Letter × Bool)) (p mid stop : Player W) (trace : List Happened)
+      (kept letters : List Letter) → Hands contents carries handed p mid trace → length handed ≤ 1000000 →
       (mid.mail ≡ []) ⊎ (length handed ≡ 1000000) → kept ≡ kept_of handed → stop ≡ mid →
-      letters ≡ kept ++ stop.mail → Pumps carries p (record stop { mail = letters }) trace
+      letters ≡ kept ++ stop.mail → Pumps contents carries p (record stop { mail = letters }) trace
   pumped handed p mid stop trace kept letters hands bound over is same put = record {
     handed = handed;
     until = mid;
@@ -81,16 +96,16 @@ module _ {R : Type 0} (carries : Carries) where
     bound = bound;
     over = over;
     kept = ap (λ ls. record stop { mail = ls }) (put ∙ ap (λ ls. ls ++ stop.mail) is)
-        ∙ ap (λ (q : Player R). record q { mail = kept_of handed ++ q.mail }) same;
+        ∙ ap (λ (q : Player W). record q { mail = kept_of handed ++ q.mail }) same;
   }
 
   -- a message that is there went over the link, and was delivered or refused
-  pub reached : (message : Message) (name : MessageName) (p p' : Player R) (old new : Report)
-      (r : Result Bool AllocError) (bytes : List ℕ) → message_named name p.world.state ≡ Some message →
+  pub reached : (message : Message) (name : MessageName) (p p' : Player W) (old new : Report)
+      (r : Result Bool AllocError) (bytes : List ℕ) → message_named name (contents p.world).state ≡ Some message →
       Spells bytes message → Crosses carries bytes true →
-      IfOk r (λ taken. taken ≡ is_none (refusal p.world.state (event.Deliver name p.moment))) →
-      OnOk r (Reports old new (Happens p (event.Deliver name p.moment) p')) →
-      IfOk r (λ is_done. Reports old new (HandsOver carries name p is_done p'))
+      IfOk r (λ taken. taken ≡ is_none (refusal (contents p.world).state (event.Deliver name p.moment))) →
+      OnOk r (Reports old new (Happens contents p (event.Deliver name p.moment) p')) →
+      IfOk r (λ is_done. Reports old new (HandsOver contents carries name p is_done p'))
   reached message name p p' old new (Ok taken) bytes found spells crosses is (trace, grows, happens) = (
     trace,
     grows,

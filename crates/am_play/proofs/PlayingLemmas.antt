@@ -1,5 +1,8 @@
 -- What is reported event by event, and what pieces on a connection come to.
-use Rattle.std.proofs.Common.{◌≡◌, ℕ, suc, ◌+◌, ◌<◌, ◌≤◌, min, Bool, true, false, List, [], ◌∷◌, ◌++◌, length, get_or, drop, drop-cons, add-one, string_bytes, Option, None, Some, IsSome, MatchOption, Result, Ok, Err, IsOk, is_ok, inl, inr, refl, sym, ap, ◌∙◌, arith, append-nil, append_assoc}
+use Rattle.std.proofs.Common.{◌≡◌, ◌∙◌, ℕ, suc, ◌+◌, ◌<◌, ◌≤◌, min, Bool, true, false}
+use Rattle.std.proofs.Common.{List, [], ◌∷◌, ◌++◌, length, get_or, drop, drop-cons, add-one, string_bytes}
+use Rattle.std.proofs.Common.{Option, None, Some, IsSome, MatchOption, Result, Ok, Err, IsOk, is_ok, inl, inr}
+use Rattle.std.proofs.Common.{refl, sym, ap, arith, append-nil, append_assoc}
 use Rattle.std.proofs.lemmas.Bool.Decides.{nat_tests}
 use Rattle.std.proofs.lemmas.List.Concat.{flat_map-append}
 use Rattle.std.specs.List.{flat_map}
@@ -31,9 +34,11 @@ grows_nothing report = record {
 }
 
 -- the tries of one trace and then another
-tries_in-append : (first rest : List Happened) → tries_in (outputs (first ++ rest)) ≡ tries_in (outputs first) ++ tries_in (outputs rest)
+tries_in-append : (first rest : List Happened) →
+    tries_in (outputs (first ++ rest)) ≡ tries_in (outputs first) ++ tries_in (outputs rest)
 tries_in-append first rest =
-    ap tries_in (flat_map-append (λ (h : Happened). h.outputs) first rest) ∙ flat_map-append try_of (outputs first) (outputs rest)
+    ap tries_in (flat_map-append (λ (h : Happened). h.outputs) first rest)
+    ∙ flat_map-append try_of (outputs first) (outputs rest)
 
 -- the lines of one trace and then another
 pub printed_more : (old mid new : List ℕ) (first rest : List Happened) → mid ≡ old ++ printed first →
@@ -94,40 +99,6 @@ refused_some (Some d) r e is told =
     let same : d ≡ e = cc in
     ap Some same
 
--- an event came and was reported: its outputs, and then its refusal
-pub reports_event : {R : Type 0} (p : Player R) (e : Event) (p' : Player R) (before : Contents)
-    (refused : Option Refused) (old new : Report) →
-    ForgetsOver p.world before → Step before e p'.world → refusal before.state e ≡ refused →
-    (IsSome refused → p'.world ≡ before) →
-    p'.connections ≡ p.connections → p'.moment ≡ p.moment → p'.hook ≡ p.hook →
-    p'.mail ≡ p.mail ++ letters_in (put_out p'.world.state) →
-    string_bytes new.text ≡
-    (string_bytes old.text ++ flat_map (output_line p.connections) (put_out p'.world.state)) ++ refusal_line refused →
-    new.tries.items ≡ old.tries.items ++ tries_in (put_out p'.world.state) →
-    Reports old new (Happens p e p')
-reports_event p e p' before refused old new forgets step is same connections moment hook mail text tries =
-    let seen : refusal p.world.state e ≡ refused =
-    sym (refusal_same p.world.state before.state e forgets.forgets) ∙ is in
-    let lines = flat_map (output_line p.connections) (put_out p'.world.state) in (
-      happened p e p' ∷ [],
-      record {
-        text = rw seen (text ∙ append_assoc (string_bytes old.text) lines (refusal_line refused)
-            ∙ ap (λ s. string_bytes old.text ++ s) (sym (append-nil (lines ++ refusal_line refused))));
-        tries = tries ∙ ap (λ os. old.tries.items ++ tries_in os) (sym (append-nil (put_out p'.world.state)));
-      },
-      record {
-        before = before;
-        forgets = forgets;
-        step = step;
-        refused = rw seen same;
-        connections = connections;
-        moment = moment;
-        hook = hook;
-        mail = mail;
-        traced = refl;
-      },
-    )
-
 -- a chunk is a piece
 pub piece_fits : (size : ℕ) (piece rest : List ℕ) → size ≡ 4096 → length piece ≡ min size (length rest) →
     0 < length rest → is_piece piece ≡ true
@@ -136,58 +107,99 @@ piece_fits size piece rest is_size cut some =
     let high : length piece ≤ 4096 = omega arith in
     grind (arith, nat_tests)
 
--- no bytes came
-pub gives_nothing : {R : Type 0} (carries : Carries) (c : ℕ) (p : Player R) → Gives carries c p [] p []
-gives_nothing carries c p =
-    record { pieces = []; left = []; cut = refl; sizes = refl; come = (inl refl, refl, refl) }
+module _ {W : Type 0} (contents : W → Contents) where
+  -- an event came and was reported: its outputs, and then its refusal
+  pub reports_event : (p : Player W) (e : Event) (p' : Player W) (before : W)
+      (refused : Option Refused) (old new : Report) →
+      ForgetsOver (contents p.world) (contents before) → Step (contents before) e (contents p'.world) →
+      refusal (contents before).state e ≡ refused →
+      (IsSome refused → p'.world ≡ before) →
+      p'.connections ≡ p.connections → p'.moment ≡ p.moment → p'.hook ≡ p.hook →
+      p'.mail ≡ p.mail ++ letters_in (put_out (contents p'.world).state) →
+      string_bytes new.text ≡
+      (string_bytes old.text ++ flat_map (output_line p.connections) (put_out (contents p'.world).state))
+      ++ refusal_line refused →
+      new.tries.items ≡ old.tries.items ++ tries_in (put_out (contents p'.world).state) →
+      Reports old new (Happens contents p e p')
+  reports_event p e p' before refused old new forgets step is same connections moment hook mail text tries =
+      let seen : refusal (contents p.world).state e ≡ refused =
+      sym (refusal_same (contents p.world).state (contents before).state e forgets.forgets) ∙ is in
+      let lines = flat_map (output_line p.connections) (put_out (contents p'.world).state) in (
+        happened contents p e p' ∷ [],
+        record {
+          text = rw seen (text ∙ append_assoc (string_bytes old.text) lines (refusal_line refused)
+              ∙ ap (λ s. string_bytes old.text ++ s) (sym (append-nil (lines ++ refusal_line refused))));
+          tries = tries
+              ∙ ap (λ os. old.tries.items ++ tries_in os) (sym (append-nil (put_out (contents p'.world).state)));
+        },
+        record {
+          before = before;
+          forgets = forgets;
+          step = step;
+          refused = rw seen same;
+          connections = connections;
+          moment = moment;
+          hook = hook;
+          mail = mail;
+          traced = refl;
+        },
+      )
 
--- the next piece was lost
-pub gives_lost : {R : Type 0} (carries : Carries) (c : ℕ) (p : Player R) (piece after : List ℕ) → is_piece piece ≡ true →
-    carries piece false → Gives carries c p (piece ++ after) p []
-gives_lost carries c p piece after size lost = record {
-  pieces = [];
-  left = piece ++ after;
-  cut = refl;
-  sizes = refl;
-  come = (
-    inr (record { piece = piece; after = after; cut = refl; size = size; lost = lost }),
-    refl,
-    refl,
-  );
-}
+  -- no bytes came
+  pub gives_nothing : (carries : Carries) (c : ℕ) (p : Player W) → Gives contents carries c p [] p []
+  gives_nothing carries c p =
+      record { pieces = []; left = []; cut = refl; sizes = refl; come = (inl refl, refl, refl) }
 
--- a piece came, and then others
-pub gives_more : {R : Type 0} (carries : Carries) (c : ℕ) (p mid p' : Player R) (piece bytes : List ℕ) (first rest : List Happened) →
-    is_piece piece ≡ true → carries piece true → Happens p (event.Bytes c p.moment piece) mid first →
-    goes_on c p (event.Bytes c p.moment piece) mid ≡ true → Gives carries c mid bytes p' rest →
-    Gives carries c p (piece ++ bytes) p' (first ++ rest)
-gives_more carries c p mid p' piece bytes first rest size came happens goes given = record {
-  pieces = piece ∷ given.pieces;
-  left = given.left;
-  cut = ap (λ s. piece ++ s) given.cut ∙ sym (append_assoc piece _ given.left);
-  sizes = rw size given.sizes;
-  come = (mid, first, rest, came, happens, refl, rw goes given.come);
-}
+  -- the next piece was lost
+  pub gives_lost : (carries : Carries) (c : ℕ) (p : Player W) (piece after : List ℕ) → is_piece piece ≡ true →
+      carries piece false → Gives contents carries c p (piece ++ after) p []
+  gives_lost carries c p piece after size lost = record {
+    pieces = [];
+    left = piece ++ after;
+    cut = refl;
+    sizes = refl;
+    come = (
+      inr (record { piece = piece; after = after; cut = refl; size = size; lost = lost }),
+      refl,
+      refl,
+    );
+  }
 
--- a piece came and ended the line
-pub gives_last : {R : Type 0} (carries : Carries) (c : ℕ) (p mid : Player R) (piece left : List ℕ) (first : List Happened) →
-    is_piece piece ≡ true → carries piece true → Happens p (event.Bytes c p.moment piece) mid first →
-    goes_on c p (event.Bytes c p.moment piece) mid ≡ false → Gives carries c p (piece ++ left) mid first
-gives_last carries c p mid piece left first size came happens ends = record {
-  pieces = piece ∷ [];
-  left = left;
-  cut = ap (λ s. s ++ left) (sym (append-nil piece));
-  sizes = rw size refl;
-  come = (mid, first, [], came, happens, sym (append-nil first), rw ends (refl, refl, refl));
-}
+  -- a piece came, and then others
+  pub gives_more : (carries : Carries) (c : ℕ) (p mid p' : Player W) (piece bytes : List ℕ)
+      (first rest : List Happened) → is_piece piece ≡ true → carries piece true →
+      Happens contents p (event.Bytes c p.moment piece) mid first →
+      goes_on contents c p (event.Bytes c p.moment piece) mid ≡ true → Gives contents carries c mid bytes p' rest →
+      Gives contents carries c p (piece ++ bytes) p' (first ++ rest)
+  gives_more carries c p mid p' piece bytes first rest size came happens goes given = record {
+    pieces = piece ∷ given.pieces;
+    left = given.left;
+    cut = ap (λ s. piece ++ s) given.cut ∙ sym (append_assoc piece _ given.left);
+    sizes = rw size given.sizes;
+    come = (mid, first, rest, came, happens, refl, rw goes given.come);
+  }
 
--- one of the tries got its outcome, and then the others
-pub settles_more : {R : Type 0} (answers : Answers) (p mid p' : Player R) (tries : List Try) (i : ℕ) (awaited : Try)
-    (status : Option ℕ) (first rest : List Happened) →
-    i < length tries → awaited ≡ get_or tries i awaited → answers awaited.request p.hook status →
-    Happens p (event.Outcome awaited.attempt awaited.tries p.moment status) mid first →
-    Settles answers mid (drop (i + 1) tries) p' rest → Settles answers p (drop i tries) p' (first ++ rest)
-settles_more answers p mid p' tries i awaited status first rest below is answered happens later =
-    let cut : drop i tries ≡ awaited ∷ drop (i + 1) tries =
-    rw add-one (drop-cons tries i awaited below ∙ ap (λ t. t ∷ drop (suc i) tries) (sym is)) in
-    rw cut (status, mid, first, rest, answered, happens, refl, later)
+  -- a piece came and ended the line
+  pub gives_last : (carries : Carries) (c : ℕ) (p mid : Player W) (piece left : List ℕ) (first : List Happened) →
+      is_piece piece ≡ true → carries piece true → Happens contents p (event.Bytes c p.moment piece) mid first →
+      goes_on contents c p (event.Bytes c p.moment piece) mid ≡ false →
+      Gives contents carries c p (piece ++ left) mid first
+  gives_last carries c p mid piece left first size came happens ends = record {
+    pieces = piece ∷ [];
+    left = left;
+    cut = ap (λ s. s ++ left) (sym (append-nil piece));
+    sizes = rw size refl;
+    come = (mid, first, [], came, happens, sym (append-nil first), rw ends (refl, refl, refl));
+  }
+
+  -- one of the tries got its outcome, and then the others
+  pub settles_more : (answers : Answers) (p mid p' : Player W) (tries : List Try) (i : ℕ) (awaited : Try)
+      (status : Option ℕ) (first rest : List Happened) →
+      i < length tries → awaited ≡ get_or tries i awaited → answers awaited.request p.hook status →
+      Happens contents p (event.Outcome awaited.attempt awaited.tries p.moment status) mid first →
+      Settles contents answers mid (drop (i + 1) tries) p' rest →
+      Settles contents answers p (drop i tries) p' (first ++ rest)
+  settles_more answers p mid p' tries i awaited status first rest below is answered happens later =
+      let cut : drop i tries ≡ awaited ∷ drop (i + 1) tries =
+      rw add-one (drop-cons tries i awaited below ∙ ap (λ t. t ∷ drop (suc i) tries) (sym is)) in
+      rw cut (status, mid, first, rest, answered, happens, refl, later)

@@ -20,22 +20,23 @@ use Rattle.am_stream.specs.Writing.{AppendsPart}
 abbrev pub Known : Type 0
 Known = Option (List ℕ)
 
--- lines were played over a link, and this happened; they are the source's, where those are known
-pub record Course {R : Type 0} (carries : Carries) (answers : Answers) (start : Player R) (known : KnownLines)
-    (played : Played) (trace : List Happened) (end : Player R) : Type 0 where
-  pub lines : List (List ℕ)
-  pub are_read : IfSome known (λ known. lines ≡ known)
-  pub plays : Plays carries answers 1 start lines played trace end
+module _ {W : Type 0} (contents : W → Contents) where
+  -- lines were played over a link, and this happened; they are the source's, where those are known
+  pub record Course (carries : Carries) (answers : Answers) (start : Player W) (known : KnownLines)
+      (played : Played) (trace : List Happened) (end : Player W) : Type 0 where
+    pub lines : List (List ℕ)
+    pub are_read : IfSome known (λ known. lines ≡ known)
+    pub plays : Plays contents carries answers 1 start lines played trace end
 
--- .. from a world on, in which so many faults came, and this is seen of its stores afterwards
-pub record Scenario (R : Type 0) (carries : Carries) (answers : Answers) (c : Contents) (known : KnownLines)
-    (played : Played) (trace : List Happened) (faults : ℕ) (shelves : List Shelf) : Type 0 where
-  pub start : Player R
-  pub is_start : IsStart c start
-  pub end : Player R
-  pub course : Course carries answers start known played trace end
-  pub counted : faults ≡ fault_count end.world.state
-  pub stores : shelves ≡ end.world.shelves
+  -- .. from a world on, in which so many faults came, and this is seen of its stores afterwards
+  pub record Scenario (carries : Carries) (answers : Answers) (c : Contents) (known : KnownLines)
+      (played : Played) (trace : List Happened) (faults : ℕ) (shelves : List Shelf) : Type 0 where
+    pub start : Player W
+    pub is_start : IsStart contents c start
+    pub end : Player W
+    pub course : Course carries answers start known played trace end
+    pub counted : faults ≡ fault_count (contents end.world).state
+    pub stores : shelves ≡ (contents end.world).shelves
 
 -- wherever a trace from a world on is cut: where no fault came before the cut, and each store that was opened before it
 -- is in memory or its disk has returned what was written by then, each tenant is as if alone until there
@@ -57,25 +58,27 @@ pub record IsolatesTenants (c : Contents) (trace : List Happened) (faults : ℕ)
   pub clean : (first rest : List Happened) → trace ≡ first ++ rest →
       NeverCleaner (shelves_after c.shelves first) shelves
 
--- a stream or the memory failed: lines were played, the source's first where those are known, this happened, and a
--- first part of what is written of it was written. The ending is written behind the source's last line alone
-pub record CourseBreaks {R : Type 0} (carries : Carries) (answers : Answers) (start : Player R) (known : KnownLines)
-    (old new : Known) : Type 0 where
-  pub lines : List (List ℕ)
-  pub others : List (List ℕ)
-  pub are_read : IfSome known (λ known. lines ++ others ≡ known)
-  pub played : Played
-  pub trace : List Happened
-  pub end : Player R
-  pub plays : Plays carries answers 1 start lines played trace end
-  pub written : AppendsPart old new (printed trace)
-      ⊎ ((others ≡ []) × AppendsPart old new (printed trace ++ ending played (fault_count end.world.state)))
+module _ {W : Type 0} (contents : W → Contents) where
+  -- a stream or the memory failed: lines were played, the source's first where those are known, this happened, and a
+  -- first part of what is written of it was written. The ending is written behind the source's last line alone
+  pub record CourseBreaks (carries : Carries) (answers : Answers) (start : Player W) (known : KnownLines)
+      (old new : Known) : Type 0 where
+    pub lines : List (List ℕ)
+    pub others : List (List ℕ)
+    pub are_read : IfSome known (λ known. lines ++ others ≡ known)
+    pub played : Played
+    pub trace : List Happened
+    pub end : Player W
+    pub plays : Plays contents carries answers 1 start lines played trace end
+    pub written : AppendsPart old new (printed trace)
+        ⊎ ((others ≡ []) × AppendsPart old new (printed trace ++ ending played
+        (fault_count (contents end.world).state)))
 
--- .. from a world on; each tenant is as if alone until a fault
-pub record ScenarioBreaks (R : Type 0) (carries : Carries) (answers : Answers) (c : Contents) (known : KnownLines)
-    (old new : Known) : Type 0 where
-  pub start : Player R
-  pub is_start : IsStart c start
-  pub course : CourseBreaks carries answers start known old new
-  pub until_fault : (origin : Origin) (rows : List ℕ → ℕ → List Item) → Opens origin rows c →
-      AloneUntilFault origin rows c course.trace
+  -- .. from a world on; each tenant is as if alone until a fault
+  pub record ScenarioBreaks (carries : Carries) (answers : Answers) (c : Contents) (known : KnownLines)
+      (old new : Known) : Type 0 where
+    pub start : Player W
+    pub is_start : IsStart contents c start
+    pub course : CourseBreaks carries answers start known old new
+    pub until_fault : (origin : Origin) (rows : List ℕ → ℕ → List Item) → Opens origin rows c →
+        AloneUntilFault origin rows c course.trace

@@ -8,16 +8,16 @@ ghost use Rattle.am_play.specs.Trace.{Reports};
 use crate::play::Player;
 use am_event::Event;
 use am_report::Report;
-use am_rows::Rows;
+use am_world::AnyWorld;
 use std::alloc::{AllocError, Global};
 
 /// The numbers of all instances.
 const NUMBERS: [u8; 8] = [1, 2, 3, 4, 5, 6, 7, 8];
 
-impl<R: Rows + Drop> Player<R> {
+impl<W: AnyWorld> Player<W> {
     /// Each instance that is behind learns the next ring, in order of number, and again, until none is behind.
     pub(crate) fn learn_all(&mut self, alloc: Global, report: &mut Report) -> Result<(), AllocError>
-        ensures { OnOk result (Reports report.old report.new (LearnsAll self.old self.new)) }
+        ensures { OnOk result (Reports report.old report.new (LearnsAll W.contents self.old self.new)) }
     {
         // No instance can lack more rings.
         for _ in 0..u64::MAX {
@@ -31,7 +31,7 @@ impl<R: Rows + Drop> Player<R> {
 
     /// Whether an instance is behind.
     fn is_any_behind(&self) -> bool
-        ensures { result ≡ list_any (is_behind self.now) all_instances }
+        ensures { result ≡ list_any (is_behind W.contents self.now) all_instances }
     {
         NUMBERS.iter().any(|number| self.world.is_behind(*number))
     }
@@ -43,7 +43,7 @@ impl<R: Rows + Drop> Player<R> {
         numbers: &[u8],
         report: &mut Report,
     ) -> Result<(), AllocError>
-        ensures { OnOk result (Reports report.old report.new (LearnsEach numbers.now self.old self.new)) }
+        ensures { OnOk result (Reports report.old report.new (LearnsEach W.contents numbers.now self.old self.new)) }
     {
         for number in numbers {
             self.learn_if_behind(alloc, *number, report)?;
@@ -58,7 +58,7 @@ impl<R: Rows + Drop> Player<R> {
         instance: u8,
         report: &mut Report,
     ) -> Result<(), AllocError>
-        ensures { OnOk result (Reports report.old report.new (LearnsIfBehind instance self.old self.new)) }
+        ensures { OnOk result (Reports report.old report.new (LearnsIfBehind W.contents instance self.old self.new)) }
     {
         if !self.world.is_behind(instance) {
             return Ok(());

@@ -7,18 +7,17 @@ use crate::play::{PIECE, Player};
 use am_event::Event;
 use am_messages::MessageName;
 use am_report::{Mail, Report};
-use am_rows::Rows;
 use am_scenario::Way;
 use am_stream::Link;
 use am_text::Failure;
 use am_wire::encode;
-use am_world::World;
+use am_world::AnyWorld;
 use std::alloc::{AllocError, Global};
 
 /// How many messages one line hands over, at most.
 const PUMPED: u32 = 1_000_000;
 
-impl<R: Rows + Drop> Player<R> {
+impl<W: AnyWorld> Player<W> {
     /// Hands over the messages that wait, from the oldest on, those too that this sends, until none waits. One whose
     /// delivery is refused waits on, before those that weren't handed over.
     pub(crate) fn pump<L: Link>(
@@ -27,7 +26,7 @@ impl<R: Rows + Drop> Player<R> {
         link: &mut L,
         report: &mut Report,
     ) -> Result<(), AllocError>
-        ensures { OnOk result (Reports report.old report.new (Pumps L.carries self.old self.new)) }
+        ensures { OnOk result (Reports report.old report.new (Pumps W.contents L.carries self.old self.new)) }
     {
         let mut kept = Mail::new(alloc);
         for _ in 0..PUMPED {
@@ -51,7 +50,7 @@ impl<R: Rows + Drop> Player<R> {
         report: &mut Report,
     ) -> Result<bool, AllocError>
         ensures { IfOk result (λ is_done. Reports report.old report.new
-            (HandsOver L.carries name.now self.old is_done self.new)) }
+            (HandsOver W.contents L.carries name.now self.old is_done self.new)) }
     {
         let Some(message) = self.world.message(name) else {
             return Ok(true);
@@ -78,7 +77,7 @@ impl<R: Rows + Drop> Player<R> {
         name: MessageName,
         report: &mut Report,
     ) -> Result<(), AllocError>
-        ensures { OnOk result (Reports report.old report.new (Delivers name self.old self.new)) }
+        ensures { OnOk result (Reports report.old report.new (Delivers W.contents name self.old self.new)) }
     {
         let event = Event::Deliver {
             message: name,
@@ -92,7 +91,7 @@ impl<R: Rows + Drop> Player<R> {
 
     /// The oldest message that is there and goes this way waits no more.
     pub(crate) fn drop_oldest(&mut self, way: &Way)
-        ensures { self.new ≡ dropping way.now self.old }
+        ensures { self.new ≡ dropping W.contents way.now self.old }
     {
         drop_lost(&mut self.mail, &self.world);
         self.mail.drop_first(way);
@@ -100,8 +99,8 @@ impl<R: Rows + Drop> Player<R> {
 }
 
 /// Messages that a world has no more wait no more.
-fn drop_lost<R: Rows>(mail: &mut Mail, world: &World<R>)
-    ensures { mail.new ≡ filter (is_there world.now.state) mail.old }
+fn drop_lost<W: AnyWorld>(mail: &mut Mail, world: &W)
+    ensures { mail.new ≡ filter (is_there (W.contents world.now).state) mail.old }
 {
     mail.letters
         .retain(|letter| world.message(&letter.name).is_some());

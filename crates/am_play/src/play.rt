@@ -1,8 +1,8 @@
-ghost use Rattle.std.specs.Prelude.{◌≡◌, ◌⊎◌, ◌++◌, ◌&&◌, not, is_none, ℕ, List, [], length, IfErr, IfOk, OnErr, OnOk, string_bytes};
+ghost use Rattle.std.specs.Prelude.{◌≡◌, ◌⊎◌, ◌++◌, ◌&&◌, not, is_none, ℕ, List, string_bytes};
+ghost use Rattle.std.specs.Prelude.{IfErr, IfOk, OnErr, OnOk};
 ghost use Rattle.std.specs.List.{flat_map};
 ghost use Rattle.std.specs.Io.KnownBytes.{Appends, Keeps};
 ghost use Rattle.am_world.specs.Refusal.{refusal};
-ghost use Rattle.am_world.specs.Shelves.{shelves_of};
 ghost use Rattle.am_world.specs.Simulation.{fault_count, put_out};
 ghost use Rattle.am_play.specs.Playing.{Happens, Gives, Calls, Obeys, Settles, Does};
 ghost use Rattle.am_play.specs.Scenario.{Course, CourseBreaks, IsolatesTenants, Scenario, ScenarioBreaks};
@@ -20,11 +20,10 @@ use am_http::ConnectionId;
 use am_log::Log;
 use am_report::ending::{Played, faults_line};
 use am_report::{Connections, Mail, Report, Try, event_of, instance_of, is_answered, name_said};
-use am_rows::Rows;
 use am_scenario::{Command, LineFault, Request, read_command};
 use am_stream::{Link, Sink, Source, StreamFailure};
 use am_text::{Octets, Text};
-use am_world::World;
+use am_world::AnyWorld;
 use std::alloc::{AllocError, Global};
 use std::mem;
 
@@ -36,8 +35,7 @@ const TAKEN: u16 = 200;
 
 /// Plays the scenario that `source` gives against a world, and writes its output lines to `writer`. What a line gives
 /// to a connection goes over the link in pieces, and ends where one is lost. Each notice goes over it too, and the
-/// outcome of its try has the status that was read of the answer. The world's stores are handed back, each at its last
-/// commit.
+/// outcome of its try has the status that was read of the answer. The world is handed back, as the last line left it.
 ///
 /// What is written are the lines of a trace: what happened, event by event. Where the world was just opened, a tenant's
 /// outputs in it are, whatever the other tenants do, byte for byte and in order, those of a private cluster that has
@@ -47,23 +45,23 @@ const TAKEN: u16 = 200;
 ///
 /// # Errors
 /// Out of memory, or an error that one of the streams gave. What was written stays, and is a first part of what is
-/// written of the lines that were played.
-pub fn play<R: Rows + Drop, L: Link, S: Source, K: Sink, E: Sink>(
+/// written of the lines that were played; the world is dropped.
+pub fn play<W: AnyWorld + Drop, L: Link, S: Source, K: Sink, E: Sink>(
     alloc: Global,
-    world: World<R>,
+    world: W,
     link: &mut L,
     source: S,
     writer: &mut K,
     errors: &mut E,
-) -> Result<(Played, Vec<R>), StreamFailure>
+) -> Result<(Played, W), StreamFailure>
     // Where the lines of the source aren't known, there are lines of which this holds.
     ensures plays { IfOk result (λ r. (trace : List Happened) × (faults : ℕ)
-        × Scenario R L.carries L.answers world (S.lines source) r.0 trace faults (shelves_of R.Rows r.1.items)
+        × Scenario W.contents L.carries L.answers (W.contents world) (S.lines source) r.0 trace faults
+        (W.contents r.1).shelves
         × Appends (K.contents writer.old) (K.contents writer.new) (printed trace ++ ending r.0 faults)
-        × IsolatesTenants world trace faults (shelves_of R.Rows r.1.items)) }
-    ensures breaks { OnErr result (ScenarioBreaks R L.carries L.answers world (S.lines source)
+        × IsolatesTenants (W.contents world) trace faults (W.contents r.1).shelves) }
+    ensures breaks { OnErr result (ScenarioBreaks W.contents L.carries L.answers (W.contents world) (S.lines source)
         (K.contents writer.old) (K.contents writer.new)) }
-    ensures stores { IfOk result (λ r. length r.1.items ≡ 8) }
     ensures causes { IfErr result (IsFailureOf
         (λ error. S.fails_with error ⊎ K.fails_with error ⊎ E.fails_with error)) }
 {
@@ -77,13 +75,13 @@ pub fn play<R: Rows + Drop, L: Link, S: Source, K: Sink, E: Sink>(
     let played = player.play_lines(alloc, link, source, writer, errors)?;
     writer.flush()?;
     let Player { world, .. } = player;
-    Ok((played, world.into_stores()))
+    Ok((played, world))
 }
 
 /// A scenario at one of its lines.
 #[derive(Drop)]
-pub(crate) struct Player<R: Rows> {
-    pub(crate) world: World<R>,
+pub(crate) struct Player<W: AnyWorld> {
+    pub(crate) world: W,
     connections: Connections,
     pub(crate) moment: u64,
     /// The status that the program's own receiver answers; `None` where it doesn't answer.
@@ -91,7 +89,7 @@ pub(crate) struct Player<R: Rows> {
     pub(crate) mail: Mail,
 }
 
-impl<R: Rows + Drop> Player<R> {
+impl<W: AnyWorld> Player<W> {
     /// Plays the lines that are left, up to one that is no command. The text of each line is written before the next
     /// line is read.
     fn play_lines<L: Link, S: Source, K: Sink, E: Sink>(
@@ -103,10 +101,10 @@ impl<R: Rows + Drop> Player<R> {
         errors: &mut E,
     ) -> Result<Played, StreamFailure>
         ensures plays { IfOk result (λ played. (trace : List Happened)
-            × Course L.carries L.answers self.old (S.lines source) played trace self.new
+            × Course W.contents L.carries L.answers self.old (S.lines source) played trace self.new
             × Appends (K.contents writer.old) (K.contents writer.new)
-            (printed trace ++ ending played (fault_count self.new.world.state))) }
-        ensures breaks { OnErr result (CourseBreaks L.carries L.answers self.old (S.lines source)
+            (printed trace ++ ending played (fault_count (W.contents self.new.world).state))) }
+        ensures breaks { OnErr result (CourseBreaks W.contents L.carries L.answers self.old (S.lines source)
             (K.contents writer.old) (K.contents writer.new)) }
         ensures causes { IfErr result (IsFailureOf
             (λ error. S.fails_with error ⊎ K.fails_with error ⊎ E.fails_with error)) }
@@ -136,10 +134,11 @@ impl<R: Rows + Drop> Player<R> {
         writer: &mut K,
         errors: &mut E,
     ) -> Result<(), StreamFailure>
-        ensures plays { OnOk result ((trace : List Happened) × Does L.carries L.answers self.old command self.new trace
+        ensures plays { OnOk result ((trace : List Happened)
+            × Does W.contents L.carries L.answers self.old command self.new trace
             × Appends (K.contents writer.old) (K.contents writer.new) (printed trace)) }
         ensures breaks { OnErr result (Keeps (K.contents writer.old) (K.contents writer.new)
-            ⊎ ((trace : List Happened) × Does L.carries L.answers self.old command self.new trace
+            ⊎ ((trace : List Happened) × Does W.contents L.carries L.answers self.old command self.new trace
             × AppendsPart (K.contents writer.old) (K.contents writer.new) (printed trace))) }
         ensures causes { IfErr result (IsFailureOf (λ error. K.fails_with error ⊎ E.fails_with error)) }
     {
@@ -158,7 +157,7 @@ impl<R: Rows + Drop> Player<R> {
         command: Command,
     ) -> Result<String, AllocError>
         ensures { IfOk result (λ lines. (trace : List Happened) × (string_bytes lines ≡ printed trace)
-            × Does L.carries L.answers self.old command self.new trace) }
+            × Does W.contents L.carries L.answers self.old command self.new trace) }
     {
         let mut report = Report::new(alloc);
         self.obey(alloc, link, command, &mut report)?;
@@ -176,7 +175,8 @@ impl<R: Rows + Drop> Player<R> {
         tries: &[Try],
         report: &mut Report,
     ) -> Result<(), AllocError>
-        ensures { OnOk result (Reports report.old report.new (Settles L.answers self.old tries.now self.new)) }
+        ensures { OnOk result (Reports report.old report.new
+            (Settles W.contents L.answers self.old tries.now self.new)) }
     {
         for awaited in tries {
             let status = link.tell(awaited.request.as_slice(), self.hook);
@@ -194,7 +194,8 @@ impl<R: Rows + Drop> Player<R> {
         command: Command,
         report: &mut Report,
     ) -> Result<(), AllocError>
-        ensures { OnOk result (Reports report.old report.new (Obeys L.carries self.old command self.new)) }
+        ensures { OnOk result (Reports report.old report.new
+            (Obeys W.contents L.carries self.old command self.new)) }
     {
         match command {
             Command::Skip => {}
@@ -235,7 +236,8 @@ impl<R: Rows + Drop> Player<R> {
 
     /// Hands the world a tick at the present moment.
     fn tick(&mut self, alloc: Global, report: &mut Report) -> Result<(), AllocError>
-        ensures { OnOk result (Reports report.old report.new (Happens self.old (Event.Tick self.old.moment) self.new)) }
+        ensures { OnOk result (Reports report.old report.new
+            (Happens W.contents self.old (Event.Tick self.old.moment) self.new)) }
     {
         let moment = self.moment;
         self.bring(alloc, &Event::Tick { moment }, report)
@@ -252,7 +254,7 @@ impl<R: Rows + Drop> Player<R> {
         report: &mut Report,
     ) -> Result<(), AllocError>
         ensures { OnOk result (Reports report.old report.new
-            (Calls L.carries connection self.old (instance_of instance) request.now self.new)) }
+            (Calls W.contents L.carries connection self.old (instance_of instance) request.now self.new)) }
     {
         if self.open(alloc, connection, instance, report)? {
             self.give(alloc, link, connection, request, report)?;
@@ -269,9 +271,10 @@ impl<R: Rows + Drop> Player<R> {
         report: &mut Report,
     ) -> Result<bool, AllocError>
         ensures taken { IfOk result (λ taken.
-            taken ≡ is_none (refusal self.old.world.state (Event.Open connection (instance_of instance)))) }
+            taken ≡ is_none (refusal (W.contents self.old.world).state
+            (Event.Open connection (instance_of instance)))) }
         ensures happens { OnOk result (Reports report.old report.new
-            (Happens self.old (Event.Open connection (instance_of instance)) self.new)) }
+            (Happens W.contents self.old (Event.Open connection (instance_of instance)) self.new)) }
     {
         let event = Event::Open {
             connection,
@@ -291,7 +294,7 @@ impl<R: Rows + Drop> Player<R> {
         report: &mut Report,
     ) -> Result<(), AllocError>
         ensures { OnOk result (Reports report.old report.new
-            (Gives L.carries connection self.old bytes.now self.new)) }
+            (Gives W.contents L.carries connection self.old bytes.now self.new)) }
     {
         for piece in bytes.chunks(PIECE) {
             if !link.carry(piece) {
@@ -312,7 +315,8 @@ impl<R: Rows + Drop> Player<R> {
 
     /// Whether the bytes of a line go on after an event: it was taken, and didn't answer the line's connection.
     fn goes_on(&self, is_taken: bool, connection: ConnectionId) -> bool
-        ensures { result ≡ (is_taken && not (is_answered connection (put_out self.now.world.state))) }
+        ensures { result ≡ (is_taken
+            && not (is_answered connection (put_out (W.contents self.now.world).state))) }
     {
         is_taken && !is_answered(self.world.outputs(), connection)
     }
@@ -324,7 +328,7 @@ impl<R: Rows + Drop> Player<R> {
         event: &Event,
         report: &mut Report,
     ) -> Result<(), AllocError>
-        ensures { OnOk result (Reports report.old report.new (Happens self.old event.now self.new)) }
+        ensures { OnOk result (Reports report.old report.new (Happens W.contents self.old event.now self.new)) }
     {
         self.happen(alloc, event, report)?;
         Ok(())
@@ -338,8 +342,9 @@ impl<R: Rows + Drop> Player<R> {
         event: &Event,
         report: &mut Report,
     ) -> Result<bool, AllocError>
-        ensures taken { IfOk result (λ taken. taken ≡ is_none (refusal self.old.world.state event.now)) }
-        ensures happens { OnOk result (Reports report.old report.new (Happens self.old event.now self.new)) }
+        ensures taken { IfOk result (λ taken.
+            taken ≡ is_none (refusal (W.contents self.old.world).state event.now)) }
+        ensures happens { OnOk result (Reports report.old report.new (Happens W.contents self.old event.now self.new)) }
     {
         self.world.clear_outputs();
         let taken = self.world.step(alloc, event);
@@ -357,9 +362,9 @@ impl<R: Rows + Drop> Player<R> {
     /// Reports what the world put out at the last event.
     fn push_outputs(&self, alloc: Global, report: &mut Report) -> Result<(), AllocError>
         ensures text { OnOk result (string_bytes report.new.text ≡ string_bytes report.old.text ++
-            flat_map (output_line self.now.connections) (put_out self.now.world.state)) }
+            flat_map (output_line self.now.connections) (put_out (W.contents self.now.world).state)) }
         ensures tries { OnOk result (report.new.tries.items ≡ report.old.tries.items ++
-            tries_in (put_out self.now.world.state)) }
+            tries_in (put_out (W.contents self.now.world).state)) }
     {
         for output in self.world.outputs() {
             self.push_output(alloc, output, report)?;

@@ -4,10 +4,9 @@ ghost use Rattle.am_stream.specs.Streams.{IsFailureOf};
 
 use crate::telling::tell;
 use am_log::{Entry, Log};
-use am_rows::Rows;
 use am_stream::{Sink, StreamFailure};
 use am_text::Text;
-use am_world::World;
+use am_world::AnyWorld;
 use std::alloc::Global;
 
 /// Of which instances it was told that they stopped, and not yet that they are up again, by number from 1 on.
@@ -26,10 +25,10 @@ impl Stops {
     ///
     /// # Errors
     /// Out of memory, or one of the sink's: what wasn't told whole counts as untold.
-    pub fn tell<R: Rows, E: Sink>(
+    pub fn tell<W: AnyWorld, E: Sink>(
         &mut self,
         alloc: Global,
-        world: &World<R>,
+        world: &W,
         log: Log,
         errors: &mut E,
     ) -> Result<(), StreamFailure>
@@ -42,10 +41,10 @@ impl Stops {
     }
 
     /// Tells of the instance at a place.
-    fn tell_of<R: Rows, E: Sink>(
+    fn tell_of<W: AnyWorld, E: Sink>(
         &mut self,
         alloc: Global,
-        world: &World<R>,
+        world: &W,
         place: u8,
         log: Log,
         errors: &mut E,

@@ -6,7 +6,7 @@ use am_gateway::Gateway;
 use am_serve::{Host, Verdict};
 use am_server::Service;
 use am_test_store::TestStore;
-use am_world::{Event, Refused};
+use am_world::{AnyWorld, Event, Refused};
 use std::alloc::Global;
 use std::test::Fail;
 

@@ -32,10 +32,8 @@ pub fn opened(
     }
 }
 
-/// How a scenario ended and the stores that it left, or the error with which it broke off.
-fn ended(
-    played: Result<(Played, Vec<TestStore>), StreamFailure>,
-) -> io::Result<(Played, Vec<TestStore>)> {
+/// What a scenario came to, or the error with which it broke off.
+fn ended<T>(played: Result<T, StreamFailure>) -> io::Result<T> {
     match played {
         Ok(end) => Ok(end),
         Err(failure) => Err(failure.into()),
@@ -50,7 +48,7 @@ pub fn played_over<L: Link>(
     scenario: &str,
 ) -> Result<(Vec<u8>, Vec<TestStore>), Fail> {
     let mut written = Vec::new(alloc);
-    let (played, stores) = ended(play(
+    let (played, world) = ended(play(
         alloc,
         world,
         link,
@@ -59,5 +57,5 @@ pub fn played_over<L: Link>(
         &mut WholeWriter(Vec::new(alloc)),
     ))?;
     holds(played == Played::All, scenario)?;
-    Ok((written, stores))
+    Ok((written, world.into_stores()))
 }

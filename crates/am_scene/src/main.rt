@@ -62,7 +62,7 @@ fn run<R: Input + Print + AllocGlobal + Net, E: Sink>(
     let mut link = Loopback::open(rt)?;
     let source = LineReader::new(rt.alloc(), BufReader::new(rt.alloc(), rt.reader())?);
     let mut writer = WholeWriter(BufWriter::new(rt.alloc(), io::writer(rt))?);
-    let (played, _stores) = play::play(rt.alloc(), world, &mut link, source, &mut writer, errors)?;
+    let (played, _world) = play::play(rt.alloc(), world, &mut link, source, &mut writer, errors)?;
     ending::tell(errors, played)
 }
 

@@ -7,9 +7,10 @@ ghost use Rattle.am_transfer.specs.Timers.{AreTimed};
 ghost use Rattle.am_site.specs.Locals.{local_of};
 
 use am_current::Elsewhere;
-use am_item::Counts;
+use am_item::{Counts, Held};
 use am_node::Node;
 use am_quorum::Ops;
+use am_tenant::TenantName;
 use am_transfer::Settling;
 use std::alloc::{AllocError, Global};
 
@@ -60,6 +61,21 @@ impl Site {
             settling: Settling::new(alloc),
             elsewhere: Elsewhere::new(alloc)?,
         })
+    }
+
+    /// What is held of a tenant, in the order of keys.
+    #[tactic(auto, unfolding(crate::specs::Locals::local_of))]
+    pub fn held(&self, tenant: &TenantName) -> &Held
+        ensures { result.now ≡ (local_of tenant.now self.now).held }
+    {
+        self.node.held(tenant)
+    }
+
+    /// How often an allowance held a notice back since there is the site, at most 2^64 - 1.
+    pub fn held_back(&self) -> u64
+        ensures { result ≡ self.now.node.notifier.held_back }
+    {
+        self.node.held_back()
     }
 
     /// Forgets all that it has of all tenants, as a crash does; from now on it is in this incarnation. It takes no

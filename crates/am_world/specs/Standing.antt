@@ -1,4 +1,4 @@
--- The ring, and for which tenants each instance is settled.
+-- The ring, for which tenants each instance is settled, and what it shows.
 use Rattle.std.specs.Prelude.{ℕ, ◌≡◌, ◌-◌, [], Option, None, Some, length}
 use Rattle.am_instance.specs.Here.{Circumstances}
 use Rattle.am_instance.specs.Standing.{IsStanding}
@@ -16,6 +16,7 @@ newest_epoch common = length common.rings.items - 1
 -- an instance stands so; where there is none of the number, it has nothing of any tenant
 abbrev pub StandsWhere : Circumstances → Option Instance → Standing → Type 0
 StandsWhere around None standing = (standing.tenants ≡ 0) × (standing.unsettled.items ≡ [])
+    × (standing.alerts ≡ 0) × (standing.held_back ≡ 0)
 StandsWhere around (Some x) standing = IsStanding around x standing
 
 abbrev pub StandsAt : ℕ → State → Standing → Type 0

@@ -76,6 +76,8 @@ impl Instances {
             None => Ok(Standing {
                 tenants: 0,
                 unsettled: Vec::new(alloc),
+                alerts: 0,
+                held_back: 0,
             }),
         }
     }

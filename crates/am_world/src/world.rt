@@ -1,9 +1,8 @@
-//! The world: one way in, one way out.
+//! The world over stores of one kind.
 
-ghost use Rattle.std.specs.Prelude.{◌≡◌, IfErr, IfOk, IsOk, MatchOption, OnErr, Err, is_none, length};
-ghost use Rattle.std.specs.Option.{option_copied};
-ghost use Rattle.am_event.specs.declared.event.Event.{Event};
+ghost use Rattle.std.specs.Prelude.{◌≡◌, IfErr, IfOk, length};
 
+use crate::any_world::AnyWorld;
 use crate::opening::OpenRefusal;
 use crate::state::State;
 use am_event::{Event, Output, Refused};
@@ -71,15 +70,8 @@ impl<R: Rows + Drop> World<R> {
 }
 
 impl<R: Rows> World<R> {
-    ghost use Rattle.am_world.specs.Consistent.{newest_in};
-    ghost use Rattle.am_world.specs.Leaving.{LeavesShelves};
-    ghost use Rattle.am_world.specs.Places.{cause_at, incarnation_at, known_at, up_at};
-    ghost use Rattle.am_world.specs.Refusal.{refusal};
-    ghost use Rattle.am_world.specs.Runs.{Forgets, Headline, Prefixes, Run};
+    ghost use Rattle.am_world.specs.Runs.{Headline, Prefixes, Run};
     ghost use Rattle.am_world.specs.Shelves.{NeverCleaner, shelves_of};
-    ghost use Rattle.am_world.specs.Simulation.{fault_count, message_named, put_out};
-    ghost use Rattle.am_world.specs.Standing.{StandsAt, newest_epoch};
-    ghost use Rattle.am_world.specs.Stopping.{Step};
 
     /// The stores, in order of the instances' numbers, each at its last commit.
     pub fn into_stores(self) -> Vec<R>
@@ -91,127 +83,6 @@ impl<R: Rows> World<R> {
         stores
     }
 
-    /// What was put out so far, in order.
-    pub fn outputs(&self) -> &[Output]
-        ensures { result.now ≡ put_out self.now.state }
-    {
-        self.state.outputs()
-    }
-
-    /// Forgets what was put out so far.
-    pub fn clear_outputs(&mut self)
-        ensures forgets { Forgets self.old.state self.new.state }
-        ensures shelves { self.new.shelves ≡ self.old.shelves }
-    {
-        self.state.clear_outputs();
-    }
-
-    /// Hands over what was put out so far, in order, and forgets it.
-    pub fn take_outputs(&mut self, alloc: Global) -> Vec<Output>
-        ensures taken { result.items ≡ put_out self.old.state }
-        ensures forgets { Forgets self.old.state self.new.state }
-        ensures shelves { self.new.shelves ≡ self.old.shelves }
-    {
-        self.state.take_outputs(alloc)
-    }
-
-    /// How many faults came so far, at most 2^64 - 1.
-    pub fn faults(&self) -> u64
-        ensures { result ≡ fault_count self.now.state }
-    {
-        self.state.faults()
-    }
-
-    /// Whether an instance is up.
-    pub fn is_up(&self, instance: u8) -> bool
-        ensures { result ≡ up_at instance self.now.state.instances }
-    {
-        self.state.is_up(instance)
-    }
-
-    /// The fault that stopped an instance, where one did.
-    pub fn cause(&self, instance: u8) -> Option<Fault>
-        ensures { result ≡ cause_at instance self.now.state.instances }
-    {
-        self.state.cause(instance)
-    }
-
-    /// The message of a name, where it was sent and isn't lost.
-    pub fn message(&self, name: &MessageName) -> Option<&Message>
-        ensures { option_copied result ≡ message_named name.now self.now.state }
-    {
-        self.state.message(name)
-    }
-
-    /// Whether an instance is up, and knows a ring that isn't the newest.
-    pub fn is_behind(&self, instance: u8) -> bool
-        ensures { result ≡ is_none (refusal self.now.state (Event.Learn instance)) }
-    {
-        // From here on it is known what holds of each world.
-        let _ = &self.stores;
-        self.state.is_behind(instance)
-    }
-
-    /// The newest ring.
-    pub fn ring(&self) -> Ring
-        ensures { result.instances ≡ newest_in self.now.state.common }
-    {
-        // From here on it is known what holds of each world.
-        let _ = &self.stores;
-        self.state.ring()
-    }
-
-    /// The epoch of the newest ring: 0, and one more for each change.
-    pub fn epoch(&self) -> u64
-        ensures { result ≡ newest_epoch self.now.state.common }
-    {
-        // From here on it is known what holds of each world.
-        let _ = &self.stores;
-        self.state.epoch()
-    }
-
-    /// The epoch of the ring that an instance knows; 0 where there is none of that number.
-    pub fn known(&self, instance: u8) -> u64
-        ensures { result ≡ known_at instance self.now.state.instances }
-    {
-        self.state.known(instance)
-    }
-
-    /// In which incarnation an instance is; 0 where there is none of that number.
-    pub fn incarnation(&self, instance: u8) -> u32
-        ensures { result ≡ incarnation_at instance self.now.state.instances }
-    {
-        self.state.incarnation(instance)
-    }
-
-    /// Of how many tenants an instance may have something as one of their replicas, and for which of these it isn't
-    /// settled. It looks at each of them.
-    ///
-    /// # Errors
-    /// Out of memory.
-    pub fn standing(&self, alloc: Global, instance: u8) -> Result<Standing, AllocError>
-        ensures { IfOk result (StandsAt instance self.now.state) }
-    {
-        // From here on it is known what holds of each world.
-        let _ = &self.stores;
-        self.state.standing(alloc, instance)
-    }
-
-    /// Handles one event. A refused one changes nothing. Where the system refuses memory, a store refuses a call, a
-    /// count passes its greatest number, a message its greatest length, or a pattern that is in use gives no answer,
-    /// each instance that met this stops, puts nothing out, and is counted as a fault, while the others that handle the
-    /// event go on; its store stays at its last commit, which may have been the event's own. Where there is no memory
-    /// for a tenant's limits or for a ring, nothing changes but the count.
-    pub fn step(&mut self, alloc: Global, event: &Event) -> Result<(), Refused>
-        ensures step { Step self.old event.now self.new }
-        ensures refused { MatchOption (refusal self.old.state event.now) (IsOk result) (λ r. result ≡ Err r) }
-        ensures err { OnErr result (self.new ≡ self.old) }
-        ensures left { LeavesShelves R.rejects self.old.state event.now self.new.state
-            self.old.shelves self.new.shelves }
-    {
-        self.state.step(alloc, event, &mut self.stores)
-    }
-
     /// Handles events one after the other, and goes on after a refused one. Each tenant's outputs are those of its
     /// private cluster, also on a further run, and what was put out before a first fault is so too.
     pub fn run(&mut self, alloc: Global, events: &[Event])
@@ -221,5 +92,75 @@ impl<R: Rows> World<R> {
         ensures clean { NeverCleaner self.old.shelves self.new.shelves }
     {
         self.state.run(alloc, events, &mut self.stores);
+    }
+}
+
+impl<R: Rows> AnyWorld for World<R> {
+    ghost contents = { λ world. world };
+
+    ghost rejects = { R.rejects };
+
+    fn outputs(&self) -> &[Output] {
+        self.state.outputs()
+    }
+
+    fn clear_outputs(&mut self) {
+        self.state.clear_outputs();
+    }
+
+    fn take_outputs(&mut self, alloc: Global) -> Vec<Output> {
+        self.state.take_outputs(alloc)
+    }
+
+    fn faults(&self) -> u64 {
+        self.state.faults()
+    }
+
+    fn is_up(&self, instance: u8) -> bool {
+        self.state.is_up(instance)
+    }
+
+    fn cause(&self, instance: u8) -> Option<Fault> {
+        self.state.cause(instance)
+    }
+
+    fn message(&self, name: &MessageName) -> Option<&Message> {
+        self.state.message(name)
+    }
+
+    fn is_behind(&self, instance: u8) -> bool {
+        // From here on it is known what holds of each world.
+        let _ = &self.stores;
+        self.state.is_behind(instance)
+    }
+
+    fn ring(&self) -> Ring {
+        // From here on it is known what holds of each world.
+        let _ = &self.stores;
+        self.state.ring()
+    }
+
+    fn epoch(&self) -> u64 {
+        // From here on it is known what holds of each world.
+        let _ = &self.stores;
+        self.state.epoch()
+    }
+
+    fn known(&self, instance: u8) -> u64 {
+        self.state.known(instance)
+    }
+
+    fn incarnation(&self, instance: u8) -> u32 {
+        self.state.incarnation(instance)
+    }
+
+    fn standing(&self, alloc: Global, instance: u8) -> Result<Standing, AllocError> {
+        // From here on it is known what holds of each world.
+        let _ = &self.stores;
+        self.state.standing(alloc, instance)
+    }
+
+    fn step(&mut self, alloc: Global, event: &Event) -> Result<(), Refused> {
+        self.state.step(alloc, event, &mut self.stores)
     }
 }

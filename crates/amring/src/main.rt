@@ -10,7 +10,6 @@
 #![tactic(auto)]
 
 mod check;
-mod limits;
 mod serve;
 mod stores;
 
@@ -22,7 +21,7 @@ use am_report::ending;
 use am_rows::Rows;
 use am_setup::Setup;
 use am_stream::{LineReader, Link, Loopback, Sink, WholeWriter};
-use am_world::World;
+use am_world::{AnyWorld, World};
 use std::io::{BufReader, BufWriter, Write};
 use std::net::Net;
 use std::process::ExitCode;
@@ -110,14 +109,14 @@ fn run_over<S: Rows + Drop, R: Input + Print + AllocGlobal + Net, E: Sink>(
 ///
 /// # Errors
 /// Those of what is read and printed; out of memory.
-fn play_world<S: Rows + Drop, R: Input + Print + AllocGlobal, L: Link, E: Sink>(
+fn play_world<W: AnyWorld + Drop, R: Input + Print + AllocGlobal, L: Link, E: Sink>(
     rt: &R,
-    world: World<S>,
+    world: W,
     link: &mut L,
     errors: &mut E,
 ) -> io::Result<ExitCode> {
     let source = LineReader::new(rt.alloc(), BufReader::new(rt.alloc(), rt.reader())?);
     let mut writer = WholeWriter(BufWriter::new(rt.alloc(), io::writer(rt))?);
-    let (played, _stores) = play::play(rt.alloc(), world, link, source, &mut writer, errors)?;
+    let (played, _world) = play::play(rt.alloc(), world, link, source, &mut writer, errors)?;
     ending::tell(errors, played)
 }

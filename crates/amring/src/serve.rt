@@ -2,11 +2,11 @@
 
 ghost use Rattle.std.specs.Prelude.{◌≡◌, length};
 
-use crate::limits::{LimitsWatch, Renewal};
 use crate::stores;
 use am_admin::{AdminPort, Counted};
 use am_gateway::{Gateway, has_quorum};
 use am_limit::Limits;
+use am_limits_file::{LimitsWatch, Renewal};
 use am_log::{Entry, Form, Log};
 use am_options::Serving;
 use am_play::stops::Stops;
@@ -18,7 +18,7 @@ use am_setup::Setup;
 use am_stream::Sink;
 use am_tenant::TenantName;
 use am_text::Text;
-use am_world::World;
+use am_world::{AnyWorld, World};
 use mio::net::TcpListener;
 use std::alloc::Global;
 use std::collections::BTreeMap;
@@ -60,8 +60,8 @@ struct Manner {
     by_tenant: bool,
 }
 
-/// Serves connections until as many were answered as were asked for, and prints `faults N` then; or until fewer than two
-/// instances are up, which ends the program with a failure. What becomes of it is told on standard error at once.
+/// Serves connections until as many were answered as were asked for, and prints `faults N` then; or until fewer than
+/// two instances are up, which ends the program with a failure. What becomes of it is told on standard error at once.
 ///
 /// # Errors
 /// Those of the system's poll and clocks, and of printing; out of memory.
@@ -220,8 +220,8 @@ fn serve_over<S: Rows + Drop, R: Net + Clock + Files + Print + AllocGlobal, E: S
     match World::open(rt.alloc(), setup, stores) {
         Ok(mut world) => {
             let served = serve_world(rt, &mut world, site, errors);
-            // The process ends: what the world holds need not be given back piece by piece, and each store is at its last
-            // commit.
+            // The process ends: what the world holds need not be given back piece by piece, and each store is at its
+            // last commit.
             mem::forget(world);
             served
         }
@@ -230,9 +230,9 @@ fn serve_over<S: Rows + Drop, R: Net + Clock + Files + Print + AllocGlobal, E: S
 }
 
 /// Serves a world, says where, and says at the end what became of it.
-fn serve_world<S: Rows + Drop, R: Net + Clock + Files + Print + AllocGlobal, E: Sink>(
+fn serve_world<W: AnyWorld, R: Net + Clock + Files + Print + AllocGlobal, E: Sink>(
     rt: &R,
-    world: &mut World<S>,
+    world: &mut W,
     site: Site,
     errors: &mut E,
 ) -> io::Result<ExitCode> {
@@ -262,10 +262,10 @@ fn announce<E: Sink>(alloc: Global, log: Log, site: &Site, errors: &mut E) -> io
 }
 
 /// Serves the clients of a site until all is done, or too few instances are up.
-fn attend<S: Rows + Drop, R: Net + Clock + Files + AllocGlobal, E: Sink>(
+fn attend<W: AnyWorld, R: Net + Clock + Files + AllocGlobal, E: Sink>(
     rt: &R,
     site: Site,
-    world: &mut World<S>,
+    world: &mut W,
     errors: &mut E,
 ) -> io::Result<()> {
     let Site {
@@ -296,9 +296,9 @@ fn attend<S: Rows + Drop, R: Net + Clock + Files + AllocGlobal, E: Sink>(
 }
 
 /// Has a server work, turn by turn, until all is done, or too few instances are up. Tells what becomes of it.
-fn take_turns<S: Rows + Drop, R: Net + Clock + Files + AllocGlobal, E: Sink>(
+fn take_turns<W: AnyWorld, R: Net + Clock + Files + AllocGlobal, E: Sink>(
     rt: &R,
-    server: &mut Server<'_, Counted<'_, S>>,
+    server: &mut Server<'_, Counted<'_, W>>,
     admin: &mut Option<AdminPort>,
     manner: &mut Manner,
     errors: &mut E,
@@ -312,43 +312,54 @@ fn take_turns<S: Rows + Drop, R: Net + Clock + Files + AllocGlobal, E: Sink>(
         if let Some(admin) = admin {
             admin.turn(rt, rt.alloc(), server.service_mut())?;
         }
+        let log = Log::new(manner.form, server.service().moment());
+        tell_all(rt.alloc(), server.service_mut(), log, errors)?;
         if server.service_mut().take_tick() {
             renew_limits(rt, server.service_mut(), manner, errors)?;
         }
-        let log = Log::new(manner.form, server.service().moment());
         stops.tell(rt.alloc(), server.service().gateway().world(), log, errors)?;
     }
     Ok(())
 }
 
-/// Has a server work for a turn, and tells where the clock is off and what failed.
-fn take_turn<S: Rows + Drop, R: Net + Clock + AllocGlobal, E: Sink>(
+/// Has a server work for a turn, and tells where the clock is off.
+fn take_turn<W: AnyWorld, R: Net + Clock + AllocGlobal, E: Sink>(
     rt: &R,
-    server: &mut Server<'_, Counted<'_, S>>,
+    server: &mut Server<'_, Counted<'_, W>>,
     form: Form,
     errors: &mut E,
 ) -> io::Result<()> {
     let news = server.turn(rt)?;
     let load = server.load();
     server.service_mut().note_load(load);
-    let log = Log::new(form, server.service().moment());
     if let Some(news) = news {
         let text = Text::from_string(format!(in rt.alloc(); "{news}")?);
+        let log = Log::new(form, server.service().moment());
         tell(rt.alloc(), log, &Entry::Clock(text), errors)?;
     }
+    Ok(())
+}
+
+/// Tells all that happened and wasn't told.
+fn tell_all<W: AnyWorld, E: Sink>(
+    alloc: Global,
+    counted: &mut Counted<'_, W>,
+    log: Log,
+    errors: &mut E,
+) -> io::Result<()> {
     for _ in 0..u64::MAX {
-        let Some(entry) = server.service_mut().next_entry() else {
+        let Some(entry) = counted.next_entry() else {
             break;
         };
-        tell(rt.alloc(), log, &entry, errors)?;
+        tell(alloc, log, &entry, errors)?;
     }
     Ok(())
 }
 
 /// Reads the file of limits again, where one is given, and tells what comes of it.
-fn renew_limits<S: Rows + Drop, R: Files + AllocGlobal, E: Sink>(
+fn renew_limits<W: AnyWorld, R: Files + AllocGlobal, E: Sink>(
     rt: &R,
-    counted: &mut Counted<'_, S>,
+    counted: &mut Counted<'_, W>,
     manner: &mut Manner,
     errors: &mut E,
 ) -> io::Result<()> {
@@ -368,9 +379,9 @@ fn renew_limits<S: Rows + Drop, R: Files + AllocGlobal, E: Sink>(
 }
 
 /// Gives tenants these limits, and tells how many they are.
-fn set_limits<S: Rows + Drop, E: Sink>(
+fn set_limits<W: AnyWorld, E: Sink>(
     alloc: Global,
-    counted: &mut Counted<'_, S>,
+    counted: &mut Counted<'_, W>,
     limits: BTreeMap<TenantName, Limits>,
     log: Log,
     errors: &mut E,

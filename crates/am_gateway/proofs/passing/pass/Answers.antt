@@ -6,8 +6,10 @@ use Rattle.am_gateway.proofs.passing.pass.Goals as goal
 
 pub returns-in-Some-clause-passed : goal.returns-in-Some-clause-passed
 returns-in-Some-clause-passed g c =
-    subst (λ message. Run c.args.world.now (passes_at c.args.place c.args.moment message) c.lose.new.world)
+    let contents = g.W.AnyWorld.contents in
+    subst (λ message. Run (contents c.args.world.now) (passes_at c.args.place c.args.moment message)
+    (contents c.lose.new.world))
     (sym c.in-Some.is ∙ c.message_at.ensures ∙ ap (message_at c.args.place) c.outputs.ensures)
-    (run_both c.args.world.now c.deliver.new.world c.lose.new.world
+    (run_both (contents c.args.world.now) (contents c.deliver.new.world) (contents c.lose.new.world)
     (deliveries_at c.args.place c.args.moment (Some c.in-Some.name)) (losses (Some c.in-Some.name))
     c.deliver.ensures.delivered c.lose.ensures.lost)

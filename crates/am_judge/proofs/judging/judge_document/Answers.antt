@@ -6,11 +6,11 @@ returns-in-Ok c =
     let within : length c.args.document.now ≤ c.args.limits.configuration = omega (arith, c.if-limits-document.false) in
     record { built = c.read_document.new.cache; is = (within, c.in-Ok.ensures.accepted) }
 
-pub returns-in_ok-place-in-Err-Refused : goal.returns-in_ok-place-in-Err-Refused
-returns-in_ok-place-in-Err-Refused c =
+pub returns-in_ok-finding-in-Err-Refused : goal.returns-in_ok-finding-in-Err-Refused
+returns-in_ok-finding-in-Err-Refused c =
     let within : length c.args.document.now ≤ c.args.limits.configuration = omega (arith, c.if-limits-document.false) in
     let failed = rw c.in-Err-Refused.field-0-is at c.in-Err-Refused.ensures.failure in
     record {
       built = c.read_document.new.cache;
-      is = (within, (failed, c.in_ok-place-in-Err-Refused.ensures));
+      is = (within, (failed, c.in_ok-finding-in-Err-Refused.ensures));
     }

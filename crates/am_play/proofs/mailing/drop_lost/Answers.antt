@@ -5,5 +5,6 @@ use Rattle.am_play.proofs.mailing.drop_lost.Goals as goal
 
 pub returns : goal.returns
 returns g c =
-    filter_same _ (is_there c.args.world.now.state) _ (λ x b f' k. search rules) _ _ c.retain.ensures.filtered
-    ∙ ap (filter (is_there c.args.world.now.state)) c.mail.view_is
+    let is_left = is_there (g.W.AnyWorld.contents c.args.world.now).state in
+    filter_same _ is_left _ (λ x b f' k. search rules) _ _ c.retain.ensures.filtered
+    ∙ ap (filter is_left) c.mail.view_is

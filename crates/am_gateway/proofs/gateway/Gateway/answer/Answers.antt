@@ -16,8 +16,8 @@ returns-in-Err-clause-err g c = record {
 
 pub returns-in-Ok-None-clause-verdict : goal.returns-in-Ok-None-clause-verdict
 returns-in-Ok-None-clause-verdict g c =
-    unreplied_on _ _ _ c.args.self.now c.sort.new.self c.unreplied.new.self _ c.asked_tenant-asked.result
-    (sym (c.asked_tenant-asked.ensures ∙ ap asked_in c.outputs.ensures)) (record {
+    unreplied_on g.W.AnyWorld.contents _ _ _ c.args.self.now c.sort.new.self c.unreplied.new.self _
+    c.asked_tenant-asked.result (sym (c.asked_tenant-asked.ensures ∙ ap asked_in c.outputs.ensures)) (record {
       handles = handles _ _ _ _ _ _ c.step.ensures.step c.pass_all.ensures c.sort.ensures.forgets;
       reply_is = sym (sym c.in-Ok-None.field-0-is ∙ c.in-Ok-None.ensures.reply);
       sorts = record { queues = c.in-Ok-None.ensures.sorted.queues; keeps = c.in-Ok-None.ensures.sorted.keeps };
@@ -29,7 +29,7 @@ returns-in-Ok-None-clause-verdict g c =
 pub returns-in-Ok-Some-clause-verdict : goal.returns-in-Ok-Some-clause-verdict
 returns-in-Ok-Some-clause-verdict g c = rw c.into_vec.ensures (
   _,
-  replies_still _ _ _ _ c.args.self.now c.sort.new.self c.note.new.self c.note.ensures.rest (record {
+  replies_still g.W.AnyWorld.contents _ _ _ _ c.args.self.now c.sort.new.self c.note.new.self c.note.ensures.rest (record {
     handles = handles _ _ _ _ _ _ c.step.ensures.step c.pass_all.ensures c.sort.ensures.forgets;
     reply_is = sym (sym c.in-Ok-Some.field-0-is ∙ c.in-Ok-Some.ensures.reply);
     sorts = record { queues = c.in-Ok-Some.ensures.sorted.queues; keeps = c.in-Ok-Some.ensures.sorted.keeps };

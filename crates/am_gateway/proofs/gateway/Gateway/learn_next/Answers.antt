@@ -5,9 +5,10 @@ use Rattle.am_gateway.proofs.gateway.Gateway.learn_next.Goals as goal
 
 pub returns-in_default-clause-learns : goal.returns-in_default-clause-learns
 returns-in_default-clause-learns g c =
-    learns_none {X = Unit {0}} {E = AllocError} (Ok tt) c.args.self.now _ c.behind.result c.behind.ensures c.in_default.is refl refl
+    learns_none {X = Unit {0}} {E = AllocError} g.W.AnyWorld.contents (Ok tt) c.args.self.now _ c.behind.result
+    c.behind.ensures c.in_default.is refl refl
 
 pub returns-clause-learns : goal.returns-clause-learns
 returns-clause-learns g c =
-    learns_one {X = Unit {0}} {E = AllocError} c.tell.result c.in-Some.instance c.args.self.now _ c.behind.result c.behind.ensures
-    c.in-Some.is c.tell.ensures.told
+    learns_one {X = Unit {0}} {E = AllocError} g.W.AnyWorld.contents c.tell.result c.in-Some.instance c.args.self.now _
+    c.behind.result c.behind.ensures c.in-Some.is c.tell.ensures.told

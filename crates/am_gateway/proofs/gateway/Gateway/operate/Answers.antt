@@ -5,7 +5,7 @@ use Rattle.am_gateway.proofs.gateway.Gateway.operate.Goals.{in-Ok, in-Err-sort}
 
 pub returns-clause-operates : goal.returns-clause-operates
 returns-clause-operates g c =
-    operates c.match-sort.result c.args.event.now c.args.self.now c.sort.new.self
+    operates g.W.AnyWorld.contents c.match-sort.result c.args.event.now c.args.self.now c.sort.new.self
     (unrefused _ c.step.result c.step.ensures.refused (rw c.in_default.is refl))
     (elim c.match-sort.branch [ in-Ok w ↦ rw w.result-is refl | in-Err-sort w ↦ rw w.result-is tt ])
     (record {

@@ -7,22 +7,33 @@ use Rattle.am_gateway.proofs.gateway.Gateway.restart_next.Goals as goal
 
 pub returns-in_default-clause-restarts : goal.returns-in_default-clause-restarts
 returns-in_default-clause-restarts g c =
-    restarts_none {X = Unit {0}} {E = AllocError} (Ok tt) c.args.self.now _ c.fallen.result
-    (c.fallen.ensures ∙ ap (λ v. fallen v c.args.self.now.world.now.state) c.deref.ensures.value) c.in_default.is refl refl
+    let contents = g.W.AnyWorld.contents in
+    restarts_none {X = Unit {0}} {E = AllocError} contents (Ok tt) c.args.self.now _ c.fallen.result
+    (c.fallen.ensures ∙ ap (λ v. fallen v (contents c.args.self.now.world.now).state) c.deref.ensures.value)
+    c.in_default.is refl refl
 
 pub returns-in_err-tell-clause-restarts : goal.returns-in_err-tell-clause-restarts
 returns-in_err-tell-clause-restarts g c =
-    restarts_one {X = Unit {0}} {E = AllocError} c.from_residual.result c.in-Some.instance c.args.self.now c.tell.new.self c.fallen.result
-    (c.fallen.ensures ∙ ap (λ v. fallen v c.args.self.now.world.now.state) c.deref.ensures.value) c.in-Some.is (record {
+    let contents = g.W.AnyWorld.contents in
+    restarts_one {X = Unit {0}} {E = AllocError} contents c.from_residual.result c.in-Some.instance c.args.self.now
+    c.tell.new.self c.fallen.result
+    (c.fallen.ensures ∙ ap (λ v. fallen v (contents c.args.self.now.world.now).state) c.deref.ensures.value)
+    c.in-Some.is (record {
       told = (c.tell.result, c.tell.ensures.told, λ ok. absurd (not_both c.from_residual.result c.from_residual.ensures.0 ok));
       counted = only_err c.from_residual.result _ c.from_residual.ensures.0;
     })
 
 pub returns-clause-restarts : goal.returns-clause-restarts
 returns-clause-restarts g c =
-    restarts_one {X = Unit {0}} {E = AllocError} c.note.result c.in-Some.instance c.args.self.now _ c.fallen.result
-    (c.fallen.ensures ∙ ap (λ v. fallen v c.args.self.now.world.now.state) c.deref.ensures.value) c.in-Some.is (record {
-      told = (c.tell.result, tells_still c.tell.result _ c.args.self.now c.tell.new.self _ refl c.tell.ensures.told, λ ok. rw c.in_ok-tell.was refl);
+    let contents = g.W.AnyWorld.contents in
+    restarts_one {X = Unit {0}} {E = AllocError} contents c.note.result c.in-Some.instance c.args.self.now _ c.fallen.result
+    (c.fallen.ensures ∙ ap (λ v. fallen v (contents c.args.self.now.world.now).state) c.deref.ensures.value)
+    c.in-Some.is (record {
+      told = (
+        c.tell.result,
+        tells_still contents c.tell.result _ c.args.self.now c.tell.new.self _ refl c.tell.ensures.told,
+        λ ok. rw c.in_ok-tell.was refl,
+      );
       counted = counted_then c.note.result c.in-Some.instance _ _ _ _ _ (ap (λ v. v.items) c.tell.ensures.vain)
           (c.is_some-is_vain.ensures ∙ ap is_some c.cause.ensures) c.note.ensures.counted;
     })

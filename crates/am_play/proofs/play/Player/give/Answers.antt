@@ -17,8 +17,8 @@ returns-then-not-carry g c =
       known.done,
       known.grows,
       rw append-nil at (known.gives c.loop-piece.self []
-          (rw steps.1.0 (gives_lost g.L.Link.carries c.args.connection c.loop-piece.self piece _ fits
-          c.if-not-carry.ensures))),
+          (rw steps.1.0 (gives_lost g.W.AnyWorld.contents g.L.Link.carries c.args.connection c.loop-piece.self piece _
+          fits c.if-not-carry.ensures))),
     )
 
 pub returns-then-not-goes_on : goal.returns-then-not-goes_on
@@ -29,16 +29,18 @@ returns-then-not-goes_on g c =
     let piece = c.in-Some.piece.now in
     let p = c.loop-piece.self in
     let fits : is_piece piece ≡ true = piece_fits _ piece _ known.size steps.1.1 steps.1.2 in
-    let happens : Happens p (event.Bytes c.args.connection p.moment piece) c.happen.new.self prints.0 =
+    let happens : Happens g.W.AnyWorld.contents p (event.Bytes c.args.connection p.moment piece)
+    c.happen.new.self prints.0 =
     rw (← c.in_ok-read.ensures) prints.2 in
-    let ends : goes_on c.args.connection p (event.Bytes c.args.connection p.moment piece) c.happen.new.self ≡ false =
-    ap (λ b. b && not (is_answered c.args.connection (put_out c.happen.new.self.world.state)))
+    let ends : goes_on g.W.AnyWorld.contents c.args.connection p (event.Bytes c.args.connection p.moment piece)
+    c.happen.new.self ≡ false =
+    ap (λ b. b && not (is_answered c.args.connection (put_out (g.W.AnyWorld.contents c.happen.new.self.world).state)))
     (sym c.in_ok-is_taken.ensures.taken) ∙ sym c.if-not-goes_on.ensures in (
       known.done ++ prints.0,
       grows_more _ _ _ known.done prints.0 known.grows prints.1,
       known.gives c.happen.new.self prints.0
-          (rw steps.1.0 (gives_last g.L.Link.carries c.args.connection p c.happen.new.self piece _ prints.0 fits
-          c.if-not-carry.ensures happens ends)),
+          (rw steps.1.0 (gives_last g.W.AnyWorld.contents g.L.Link.carries c.args.connection p c.happen.new.self piece _
+          prints.0 fits c.if-not-carry.ensures happens ends)),
     )
 
 pub loop-piece-preserved-else-not-goes_on : goal.loop-piece-preserved-else-not-goes_on
@@ -50,10 +52,12 @@ loop-piece-preserved-else-not-goes_on g c =
     let p = c.loop-piece.self in
     let size : chunks_size c.next.new.self ≡ 4096 = steps.0 ∙ known.size in
     let fits : is_piece piece ≡ true = piece_fits _ piece _ known.size steps.1.1 steps.1.2 in
-    let happens : Happens p (event.Bytes c.args.connection p.moment piece) c.happen.new.self prints.0 =
+    let happens : Happens g.W.AnyWorld.contents p (event.Bytes c.args.connection p.moment piece)
+    c.happen.new.self prints.0 =
     rw (← c.in_ok-read.ensures) prints.2 in
-    let goes : goes_on c.args.connection p (event.Bytes c.args.connection p.moment piece) c.happen.new.self ≡ true =
-    ap (λ b. b && not (is_answered c.args.connection (put_out c.happen.new.self.world.state)))
+    let goes : goes_on g.W.AnyWorld.contents c.args.connection p (event.Bytes c.args.connection p.moment piece)
+    c.happen.new.self ≡ true =
+    ap (λ b. b && not (is_answered c.args.connection (put_out (g.W.AnyWorld.contents c.happen.new.self.world).state)))
     (sym c.in_ok-is_taken.ensures.taken) ∙ sym c.if-not-goes_on.ensures in
     record {
       can_next = omega (arith, size);
@@ -63,8 +67,8 @@ loop-piece-preserved-else-not-goes_on g c =
       grows = grows_more _ _ _ known.done prints.0 known.grows prints.1;
       gives = λ q rest given. rw (append_assoc known.done prints.0 rest)
           (known.gives q (prints.0 ++ rest)
-          (rw steps.1.0 (gives_more g.L.Link.carries c.args.connection p c.happen.new.self q piece _ prints.0 rest fits
-          c.if-not-carry.ensures happens goes given)));
+          (rw steps.1.0 (gives_more g.W.AnyWorld.contents g.L.Link.carries c.args.connection p c.happen.new.self q
+          piece _ prints.0 rest fits c.if-not-carry.ensures happens goes given)));
     }
 
 pub returns : goal.returns
@@ -74,5 +78,5 @@ returns g c =
       known.done,
       known.grows,
       rw append-nil at (known.gives c.loop-piece.self []
-          (rw none (gives_nothing g.L.Link.carries c.args.connection c.loop-piece.self))),
+          (rw none (gives_nothing g.W.AnyWorld.contents g.L.Link.carries c.args.connection c.loop-piece.self))),
     )

@@ -13,7 +13,7 @@ invariant-loop-piece g l = record {
   size : chunks_size l.piece-iterator ≡ 4096;
   done : List Happened;
   grows : Grows l.fn.report l.report done;
-  gives : (p : Player g.row.R.Denot) (rest : List Happened) →
-      Gives g.L.Link.carries l.fn.connection l.self (chunks_rest l.piece-iterator) p rest →
-      Gives g.L.Link.carries l.fn.connection l.fn.self l.fn.bytes p (done ++ rest);
+  gives : (p : Player g.row.W.Denot) (rest : List Happened) →
+      Gives g.W.AnyWorld.contents g.L.Link.carries l.fn.connection l.self (chunks_rest l.piece-iterator) p rest →
+      Gives g.W.AnyWorld.contents g.L.Link.carries l.fn.connection l.fn.self l.fn.bytes p (done ++ rest);
 }

@@ -6,7 +6,8 @@ use Rattle.am_play.proofs.play.Player.hand_over.Goals as goal
 
 pub returns-in-Err-Refused : goal.returns-in-Err-Refused
 returns-in-Err-Refused g c =
-    let found : message_named c.args.name.now c.args.self.now.world.state ≡ Some c.in-Some.message.now =
+    let found : message_named c.args.name.now (g.W.AnyWorld.contents c.args.self.now.world).state
+    ≡ Some c.in-Some.message.now =
     sym c.in-Some.ensures in (
       [],
       grows_nothing _,
@@ -19,7 +20,8 @@ returns-in-Err-Refused g c =
 
 pub returns-then-not-carry : goal.returns-then-not-carry
 returns-then-not-carry g c =
-    let found : message_named c.args.name.now c.args.self.now.world.state ≡ Some c.in-Some.message.now =
+    let found : message_named c.args.name.now (g.W.AnyWorld.contents c.args.self.now.world).state
+    ≡ Some c.in-Some.message.now =
     sym c.in-Some.ensures in (
       [],
       grows_nothing _,
@@ -34,8 +36,9 @@ returns-then-not-carry g c =
 
 pub returns : goal.returns
 returns g c =
-    let found : message_named c.args.name.now c.args.self.now.world.state ≡ Some c.in-Some.message.now =
+    let found : message_named c.args.name.now (g.W.AnyWorld.contents c.args.self.now.world).state
+    ≡ Some c.in-Some.message.now =
     sym c.in-Some.ensures in
-    reached g.L.Link.carries c.in-Some.message.now c.args.name.now c.args.self.now c.happen.new.self
-    c.args.report.now c.happen.new.report c.happen.result c.in-Ok.bytes found c.in-Ok.ensures.spells
+    reached g.W.AnyWorld.contents g.L.Link.carries c.in-Some.message.now c.args.name.now c.args.self.now
+    c.happen.new.self c.args.report.now c.happen.new.report c.happen.result c.in-Ok.bytes found c.in-Ok.ensures.spells
     (rw c.as_slice.ensures at c.if-not-carry.ensures) c.happen.ensures.taken c.happen.ensures.happens

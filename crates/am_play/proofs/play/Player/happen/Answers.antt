@@ -10,26 +10,27 @@ use Rattle.am_play.proofs.play.Player.happen.Goals as goal
 
 pub returns-in-Ok-clause-taken : goal.returns-in-Ok-clause-taken
 returns-in-Ok-clause-taken g c =
-    let taken : refusal c.args.self.now.world.state c.args.event.now ≡ None =
+    let taken : refusal (g.W.AnyWorld.contents c.args.self.now.world).state c.args.event.now ≡ None =
     sym (refusal_same _ _ c.args.event.now c.clear_outputs.ensures.forgets)
     ∙ taken_none _ _ _ c.in-Ok.is c.step-taken.ensures.refused in
     rw taken refl
 
 pub returns-in-Ok-clause-happens : goal.returns-in-Ok-clause-happens
 returns-in-Ok-clause-happens g c =
-    let forgets : ForgetsOver c.args.self.now.world c.clear_outputs.new.self =
+    let forgets : ForgetsOver (g.W.AnyWorld.contents c.args.self.now.world)
+    (g.W.AnyWorld.contents c.clear_outputs.new.self) =
     record { forgets = c.clear_outputs.ensures.forgets; shelves = c.clear_outputs.ensures.shelves } in
-    let taken : refusal c.clear_outputs.new.self.state c.args.event.now ≡ None =
+    let taken : refusal (g.W.AnyWorld.contents c.clear_outputs.new.self).state c.args.event.now ≡ None =
     taken_none _ _ _ c.in-Ok.is c.step-taken.ensures.refused in
-    reports_event c.args.self.now c.args.event.now _ c.clear_outputs.new.self None c.args.report.now
-    c.push_outputs.new.report forgets c.step-taken.ensures.step taken (λ h. absurd (cc)) refl refl refl
-    (c.in_ok-post.ensures ∙ ap (λ os. c.args.self.now.mail ++ letters_in os) c.outputs.ensures)
+    reports_event g.W.AnyWorld.contents c.args.self.now c.args.event.now _ c.clear_outputs.new.self None
+    c.args.report.now c.push_outputs.new.report forgets c.step-taken.ensures.step taken (λ h. absurd (cc))
+    refl refl refl (c.in_ok-post.ensures ∙ ap (λ os. c.args.self.now.mail ++ letters_in os) c.outputs.ensures)
     (c.in_ok-push_outputs.ensures.text ∙ sym (append-nil _)) c.in_ok-push_outputs.ensures.tries
 
 pub returns-in_ok-push_refusal-in-Err-clause-taken :
     goal.returns-in_ok-push_refusal-in-Err-clause-taken
 returns-in_ok-push_refusal-in-Err-clause-taken g c =
-    let refused : refusal c.args.self.now.world.state c.args.event.now ≡ Some c.in-Err.refused =
+    let refused : refusal (g.W.AnyWorld.contents c.args.self.now.world).state c.args.event.now ≡ Some c.in-Err.refused =
     sym (refusal_same _ _ c.args.event.now c.clear_outputs.ensures.forgets)
     ∙ refused_some _ _ _ c.in-Err.is c.step-taken.ensures.refused in
     rw refused refl
@@ -37,12 +38,14 @@ returns-in_ok-push_refusal-in-Err-clause-taken g c =
 pub returns-in_ok-push_refusal-in-Err-clause-happens :
     goal.returns-in_ok-push_refusal-in-Err-clause-happens
 returns-in_ok-push_refusal-in-Err-clause-happens g c =
-    let forgets : ForgetsOver c.args.self.now.world c.clear_outputs.new.self =
+    let forgets : ForgetsOver (g.W.AnyWorld.contents c.args.self.now.world)
+    (g.W.AnyWorld.contents c.clear_outputs.new.self) =
     record { forgets = c.clear_outputs.ensures.forgets; shelves = c.clear_outputs.ensures.shelves } in
-    let refused : refusal c.clear_outputs.new.self.state c.args.event.now ≡ Some c.in-Err.refused =
+    let refused : refusal (g.W.AnyWorld.contents c.clear_outputs.new.self).state c.args.event.now
+    ≡ Some c.in-Err.refused =
     refused_some _ _ _ c.in-Err.is c.step-taken.ensures.refused in
-    reports_event c.args.self.now c.args.event.now _ c.clear_outputs.new.self (Some c.in-Err.refused)
-    c.args.report.now c.push_refusal.new.self forgets c.step-taken.ensures.step refused
+    reports_event g.W.AnyWorld.contents c.args.self.now c.args.event.now _ c.clear_outputs.new.self
+    (Some c.in-Err.refused) c.args.report.now c.push_refusal.new.self forgets c.step-taken.ensures.step refused
     (λ h. c.in-Err.ensures.err) refl refl refl
     (c.in_ok-post.ensures ∙ ap (λ os. c.args.self.now.mail ++ letters_in os) c.outputs.ensures)
     (c.in_ok-push_refusal-in-Err.ensures.text

@@ -15,8 +15,8 @@ loop-preserved g c =
       rounds = known.rounds ++ learned.0 ∷ [];
       grows = rw (all_rounds-push known.rounds learned.0)
           (grows_more _ _ _ (in_all_rounds known.rounds) learned.0 known.grows learned.1);
-      learns = rounds_more known.rounds c.args.self.now c.loop.self c.learn_each.new.self learned.0 known.learns
-          learned.2;
+      learns = rounds_more g.W.AnyWorld.contents known.rounds c.args.self.now c.loop.self c.learn_each.new.self
+          learned.0 known.learns learned.2;
       count = length-append known.rounds (learned.0 ∷ []) ∙ ap (λ n. n + 1) known.count;
     }
 

@@ -8,6 +8,6 @@ abbrev pub invariant-loop : goal.invariant-loop
 invariant-loop g l = record {
   rounds : List (List Happened);
   grows : Grows l.fn.report l.report (in_all_rounds rounds);
-  learns : LearnsInRounds rounds l.fn.self l.self;
+  learns : LearnsInRounds g.W.AnyWorld.contents rounds l.fn.self l.self;
   count : length rounds ≡ l.counter;
 }

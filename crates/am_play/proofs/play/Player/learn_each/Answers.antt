@@ -16,8 +16,8 @@ loop-number-preserved g c =
       grows = grows_more _ _ _ known.done learned.0 known.grows learned.1;
       learns = λ p rest later. rw (append_assoc known.done learned.0 rest)
           (known.learns p (learned.0 ++ rest)
-          (each_more c.loop-number.self c.learn_if_behind.new.self p c.args.numbers.now c.loop-number.number-index
-          learned.0 rest c.loop-number-test.true learned.2 later));
+          (each_more g.W.AnyWorld.contents c.loop-number.self c.learn_if_behind.new.self p c.args.numbers.now
+          c.loop-number.number-index learned.0 rest c.loop-number-test.true learned.2 later));
     }
 
 pub returns : goal.returns

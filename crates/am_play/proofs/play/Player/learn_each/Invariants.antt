@@ -9,7 +9,7 @@ abbrev pub invariant-loop-number : goal.invariant-loop-number
 invariant-loop-number g l = record {
   done : List Happened;
   grows : Grows l.fn.report l.report done;
-  learns : (p : Player g.row.R.Denot) (rest : List Happened) →
-      LearnsEach (drop l.number-index l.numbers) l.self p rest →
-      LearnsEach l.fn.numbers l.fn.self p (done ++ rest);
+  learns : (p : Player g.row.W.Denot) (rest : List Happened) →
+      LearnsEach g.W.AnyWorld.contents (drop l.number-index l.numbers) l.self p rest →
+      LearnsEach g.W.AnyWorld.contents l.fn.numbers l.fn.self p (done ++ rest);
 }

@@ -15,7 +15,8 @@ loop-source-init g c = record {
   count = search rules;
   trace = [];
   appends = none_written _ _ (Keeps-refl _);
-  upto = upto_first g.L.Link.carries g.L.Link.answers c.args.self.now (g.S.Source.lines c.args.source);
+  upto = upto_first g.W.AnyWorld.contents g.L.Link.carries g.L.Link.answers c.args.self.now
+      (g.S.Source.lines c.args.source);
 }
 
 pub returns-in-Err-NotACommand-clause-plays : goal.returns-in-Err-NotACommand-clause-plays
@@ -25,9 +26,9 @@ returns-in-Err-NotACommand-clause-plays g c =
     let bad : command_of c.in-Some.line.items ≡ None =
     rw (c.in-Err-NotACommand.field-0-is, c.as_slice.ensures.value) at c.in-Err-NotACommand.ensures in
     let course =
-    upto_bad g.L.Link.carries g.L.Link.answers c.args.self.now c.loop-source.self (g.S.Source.lines c.args.source)
-    (g.S.Source.lines c.loop-source.source) (g.S.Source.lines c.next_line.new.self) c.loop-source.number
-    c.in-Some.line.items known.trace known.upto gives bad in (
+    upto_bad g.W.AnyWorld.contents g.L.Link.carries g.L.Link.answers c.args.self.now c.loop-source.self
+    (g.S.Source.lines c.args.source) (g.S.Source.lines c.loop-source.source) (g.S.Source.lines c.next_line.new.self)
+    c.loop-source.number c.in-Some.line.items known.trace known.upto gives bad in (
       known.trace,
       course,
       rw (append-nil (printed known.trace)) known.appends,
@@ -48,8 +49,8 @@ loop-source-preserved g c =
       trace = known.trace ++ played.0;
       appends = rw (flat_map-append text_of known.trace played.0)
           (Appends-trans _ _ _ (printed known.trace) (printed played.0) known.appends played.2);
-      upto = upto_more g.L.Link.carries g.L.Link.answers c.args.self.now c.loop-source.self c.write_line.new.self
-          (g.S.Source.lines c.args.source) (g.S.Source.lines c.loop-source.source)
+      upto = upto_more g.W.AnyWorld.contents g.L.Link.carries g.L.Link.answers c.args.self.now c.loop-source.self
+          c.write_line.new.self (g.S.Source.lines c.args.source) (g.S.Source.lines c.loop-source.source)
           (g.S.Source.lines c.next_line.new.self) c.loop-source.number c.in-Some.line.items
           c.in-Ok.command known.trace played.0 known.upto gives is played.1;
     }
@@ -58,9 +59,9 @@ pub returns-clause-plays : goal.returns-clause-plays
 returns-clause-plays g c =
     let known = c.loop-source.invariant in
     let course =
-    upto_end g.L.Link.carries g.L.Link.answers c.args.self.now c.loop-source.self (g.S.Source.lines c.args.source)
-    (g.S.Source.lines c.loop-source.source) (g.S.Source.lines c.next_line.new.self) c.loop-source.number known.trace
-    known.upto (rw c.in_default.is at c.in_ok-line.ensures.line) in (
+    upto_end g.W.AnyWorld.contents g.L.Link.carries g.L.Link.answers c.args.self.now c.loop-source.self
+    (g.S.Source.lines c.args.source) (g.S.Source.lines c.loop-source.source) (g.S.Source.lines c.next_line.new.self)
+    c.loop-source.number known.trace known.upto (rw c.in_default.is at c.in_ok-line.ensures.line) in (
       known.trace,
       course,
       Appends-trans _ _ _ _ _ known.appends
@@ -74,8 +75,8 @@ returns-clause-plays g c =
 pub returns-in_err-line-clause-breaks : goal.returns-in_err-line-clause-breaks
 returns-in_err-line-clause-breaks g c =
     let known = c.loop-source.invariant in
-    on_err _ (upto_breaks g.L.Link.carries g.L.Link.answers c.args.self.now (g.S.Source.lines c.args.source)
-    _ _ _ _ _ known.trace known.upto (whole _ _ _ known.appends))
+    on_err _ (upto_breaks g.W.AnyWorld.contents g.L.Link.carries g.L.Link.answers c.args.self.now
+    (g.S.Source.lines c.args.source) _ _ _ _ _ known.trace known.upto (whole _ _ _ known.appends))
 
 pub returns-in_err-write_line-in-Ok-clause-breaks : goal.returns-in_err-write_line-in-Ok-clause-breaks
 returns-in_err-write_line-in-Ok-clause-breaks g c =
@@ -84,12 +85,13 @@ returns-in_err-write_line-in-Ok-clause-breaks g c =
     let is : command_of c.in-Some.line.items ≡ Some c.in-Ok.command =
     rw c.as_slice.ensures.value at c.in-Ok.ensures in
     on_err _ (elim c.in_err-write_line-in-Ok.ensures.breaks [
-      | inl kept ↦ upto_breaks g.L.Link.carries g.L.Link.answers c.args.self.now (g.S.Source.lines c.args.source)
-          _ _ _ _ _ known.trace known.upto (whole _ _ _ (Appends-kept _ _ _ _ known.appends kept))
-      | inr played ↦ upto_breaks g.L.Link.carries g.L.Link.answers c.args.self.now (g.S.Source.lines c.args.source)
-          _ _ _ _ _ (known.trace ++ played.0)
-          (upto_more g.L.Link.carries g.L.Link.answers c.args.self.now c.loop-source.self c.write_line.new.self
-          (g.S.Source.lines c.args.source) (g.S.Source.lines c.loop-source.source)
+      | inl kept ↦ upto_breaks g.W.AnyWorld.contents g.L.Link.carries g.L.Link.answers c.args.self.now
+          (g.S.Source.lines c.args.source) _ _ _ _ _ known.trace known.upto
+          (whole _ _ _ (Appends-kept _ _ _ _ known.appends kept))
+      | inr played ↦ upto_breaks g.W.AnyWorld.contents g.L.Link.carries g.L.Link.answers c.args.self.now
+          (g.S.Source.lines c.args.source) _ _ _ _ _ (known.trace ++ played.0)
+          (upto_more g.W.AnyWorld.contents g.L.Link.carries g.L.Link.answers c.args.self.now c.loop-source.self
+          c.write_line.new.self (g.S.Source.lines c.args.source) (g.S.Source.lines c.loop-source.source)
           (g.S.Source.lines c.next_line.new.self) c.loop-source.number c.in-Some.line.items
           c.in-Ok.command known.trace played.0 known.upto gives is played.1)
           (trace_later _ _ _ known.trace played.0 known.appends played.2)
@@ -98,23 +100,23 @@ returns-in_err-write_line-in-Ok-clause-breaks g c =
 pub returns-in-Err-OutOfMemory-clause-breaks : goal.returns-in-Err-OutOfMemory-clause-breaks
 returns-in-Err-OutOfMemory-clause-breaks g c =
     let known = c.loop-source.invariant in
-    upto_breaks g.L.Link.carries g.L.Link.answers c.args.self.now (g.S.Source.lines c.args.source)
-    _ _ _ _ _ known.trace known.upto (whole _ _ _ known.appends)
+    upto_breaks g.W.AnyWorld.contents g.L.Link.carries g.L.Link.answers c.args.self.now
+    (g.S.Source.lines c.args.source) _ _ _ _ _ known.trace known.upto (whole _ _ _ known.appends)
 
 pub returns-in_err-last-clause-breaks : goal.returns-in_err-last-clause-breaks
 returns-in_err-last-clause-breaks g c =
     let known = c.loop-source.invariant in
-    on_err _ (upto_breaks g.L.Link.carries g.L.Link.answers c.args.self.now (g.S.Source.lines c.args.source)
-    _ _ _ _ _ known.trace known.upto (whole _ _ _ known.appends))
+    on_err _ (upto_breaks g.W.AnyWorld.contents g.L.Link.carries g.L.Link.answers c.args.self.now
+    (g.S.Source.lines c.args.source) _ _ _ _ _ known.trace known.upto (whole _ _ _ known.appends))
 
 pub returns-in_err-write_whole-clause-breaks : goal.returns-in_err-write_whole-clause-breaks
 returns-in_err-write_whole-clause-breaks g c =
     let known = c.loop-source.invariant in
     let course =
-    upto_end g.L.Link.carries g.L.Link.answers c.args.self.now c.loop-source.self (g.S.Source.lines c.args.source)
-    (g.S.Source.lines c.loop-source.source) (g.S.Source.lines c.next_line.new.self) c.loop-source.number known.trace
-    known.upto (rw c.in_default.is at c.in_ok-line.ensures.line) in
-    on_err _ (course_breaks g.L.Link.carries g.L.Link.answers c.args.self.now (g.S.Source.lines c.args.source)
-    _ _ All known.trace c.loop-source.self course
+    upto_end g.W.AnyWorld.contents g.L.Link.carries g.L.Link.answers c.args.self.now c.loop-source.self
+    (g.S.Source.lines c.args.source) (g.S.Source.lines c.loop-source.source) (g.S.Source.lines c.next_line.new.self)
+    c.loop-source.number known.trace known.upto (rw c.in_default.is at c.in_ok-line.ensures.line) in
+    on_err _ (course_breaks g.W.AnyWorld.contents g.L.Link.carries g.L.Link.answers c.args.self.now
+    (g.S.Source.lines c.args.source) _ _ All known.trace c.loop-source.self course
     (part_later _ _ _ (printed known.trace) _ known.appends
     (rw (c.as_bytes.ensures.value, c.in_ok-last.ensures, c.faults.ensures) at c.in_err-write_whole.ensures.err)))

@@ -13,6 +13,6 @@ invariant-loop-source g l = record {
   count : l.number + u64_saturate (g.S.Source.to_come l.source) ≤ 2 ^ 64 - 1;
   trace : List Happened;
   appends : Appends (g.K.Sink.contents l.fn.writer) (g.K.Sink.contents l.writer) (printed trace);
-  upto : Upto g.L.Link.carries g.L.Link.answers l.fn.self (g.S.Source.lines l.fn.source) l.self
+  upto : Upto g.W.AnyWorld.contents g.L.Link.carries g.L.Link.answers l.fn.self (g.S.Source.lines l.fn.source) l.self
       (g.S.Source.lines l.source) l.number trace;
 }

@@ -28,12 +28,12 @@ loop-preserved g c =
       done = known.done ++ over.0;
       grows = grows_more _ _ _ known.done over.0 known.grows over.1;
       handed = known.handed ++ (letter, is_done) ∷ [];
-      hands = hands_more g.L.Link.carries known.handed c.args.self.now c.loop.self c.hand_over.new.self known.done
-          over.0 letter is_done c.take_first.new.self known.hands waits over.2;
+      hands = hands_more g.W.AnyWorld.contents g.L.Link.carries known.handed c.args.self.now c.loop.self
+          c.hand_over.new.self known.done over.0 letter is_done c.take_first.new.self known.hands waits over.2;
       count = length-append known.handed ((letter, is_done) ∷ []) ∙ ap (λ n. n + 1) known.count;
       kept = elim c.if-not-branch.branch [
-        | then-not-branch+in_ok-push w ↦ w.kept-is ∙ w.in_ok-push.ensures ∙ ap (λ letters. letters ++ letter ∷ []) known.kept
-            ∙ sym (kept_more known.handed letter)
+        | then-not-branch+in_ok-push w ↦ w.kept-is ∙ w.in_ok-push.ensures
+            ∙ ap (λ letters. letters ++ letter ∷ []) known.kept ∙ sym (kept_more known.handed letter)
             ∙ ap (λ b. kept_of (known.handed ++ (letter, b) ∷ [])) (sym w.if-not-branch.true)
         | else-not-branch w ↦ w.kept-is ∙ known.kept ∙ sym (kept_done known.handed letter)
             ∙ ap (λ b. kept_of (known.handed ++ (letter, b) ∷ [])) (sym w.if-not-branch.false)
@@ -50,17 +50,17 @@ returns g c =
       | else-loop-test w ↦ (
         known.done,
         known.grows,
-        pumped g.L.Link.carries known.handed c.args.self.now c.loop.self c.loop-test.self known.done c.loop.kept
-            c.put_first.new.self known.hands bound (inr (omega (arith, known.count, w.loop-test.false, at_most)))
-            known.kept w.self-is kept,
+        pumped g.W.AnyWorld.contents g.L.Link.carries known.handed c.args.self.now c.loop.self c.loop-test.self
+            known.done c.loop.kept c.put_first.new.self known.hands bound
+            (inr (omega (arith, known.count, w.loop-test.false, at_most))) known.kept w.self-is kept,
       )
       | then-loop-test+in_default w ↦
           let waits : c.loop.self.mail ≡ w.take_first.new.self = rw w.in_default.is at w.take_first.ensures.first in
           let none : c.loop.self.mail ≡ [] = rw w.in_default.is at w.take_first.ensures.none in (
             known.done,
             known.grows,
-            pumped g.L.Link.carries known.handed c.args.self.now c.loop.self c.loop-test.self known.done c.loop.kept
-                c.put_first.new.self known.hands bound (inl none) known.kept
+            pumped g.W.AnyWorld.contents g.L.Link.carries known.handed c.args.self.now c.loop.self c.loop-test.self
+                known.done c.loop.kept c.put_first.new.self known.hands bound (inl none) known.kept
                 (w.self-is ∙ ap (λ letters. record c.loop.self { mail = letters }) (sym waits)) kept,
           )
     ])

@@ -11,7 +11,7 @@ invariant-loop g l = record {
   done : List Happened;
   grows : Grows l.fn.report l.report done;
   handed : List (Letter × Bool);
-  hands : Hands g.L.Link.carries handed l.fn.self l.self done;
+  hands : Hands g.W.AnyWorld.contents g.L.Link.carries handed l.fn.self l.self done;
   count : length handed ≡ l.counter;
   kept : l.kept ≡ kept_of handed;
 }

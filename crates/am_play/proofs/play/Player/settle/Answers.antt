@@ -15,9 +15,9 @@ loop-awaited-preserved g c =
       grows = grows_more _ _ _ known.done brought.0 known.grows brought.1;
       settles = λ p rest later. rw (append_assoc known.done brought.0 rest)
           (known.settles p (brought.0 ++ rest)
-          (settles_more g.L.Link.answers c.loop-awaited.self c.bring.new.self p c.args.tries.now
-          c.loop-awaited.awaited-index
-          c.awaited-item.result c.tell-status.result brought.0 rest c.loop-awaited-test.true c.awaited-item.is
+          (settles_more g.W.AnyWorld.contents g.L.Link.answers c.loop-awaited.self c.bring.new.self p
+          c.args.tries.now c.loop-awaited.awaited-index c.awaited-item.result c.tell-status.result brought.0 rest
+          c.loop-awaited-test.true c.awaited-item.is
           (rw c.as_slice.ensures at c.tell-status.ensures)
           (rw c.outcome-event.ensures at brought.2) later));
     }

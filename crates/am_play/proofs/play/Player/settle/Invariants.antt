@@ -9,7 +9,7 @@ abbrev pub invariant-loop-awaited : goal.invariant-loop-awaited
 invariant-loop-awaited g l = record {
   done : List Happened;
   grows : Grows l.fn.report l.report done;
-  settles : (p : Player g.row.R.Denot) (rest : List Happened) →
-      Settles g.L.Link.answers l.self (drop l.awaited-index l.tries) p rest →
-      Settles g.L.Link.answers l.fn.self l.fn.tries p (done ++ rest);
+  settles : (p : Player g.row.W.Denot) (rest : List Happened) →
+      Settles g.W.AnyWorld.contents g.L.Link.answers l.self (drop l.awaited-index l.tries) p rest →
+      Settles g.W.AnyWorld.contents g.L.Link.answers l.fn.self l.fn.tries p (done ++ rest);
 }

@@ -1,7 +1,14 @@
-//! The file of tenants' limits, which is read again while the program serves.
+//! The file itself, which is read again while the program serves.
 
+ghost use Rattle.std.specs.Prelude.{◌≡◌, IfErr, IfOk, OnErr, Ok};
+ghost use Rattle.am_text.specs.Outcome.{ForRefused};
+ghost use Rattle.am_limits_file.specs.Changes.{AreChanges};
+ghost use Rattle.am_limits_file.specs.LimitsFiles.{file_in};
+ghost use Rattle.am_limits_file.specs.Watching.{Renews, names_none};
+
+use crate::reading::{LimitsFile, read_limits};
+use crate::refusal::LimitsRefusal;
 use am_limit::Limits;
-use am_limits_file::{LimitsFile, LimitsRefusal, read_limits};
 use am_tenant::TenantName;
 use am_text::{Failure, Text};
 use std::alloc::{AllocError, Global};
@@ -33,9 +40,9 @@ pub enum Renewal {
 #[derive(Drop)]
 pub struct LimitsWatch {
     path: Text,
-    /// What holds for a tenant where the file's default says nothing.
+    // What holds for a tenant where the file's default says nothing.
     usual: Limits,
-    /// The last text that wasn't refused says this.
+    // The last text that wasn't refused says this.
     file: LimitsFile,
     seen: Seen,
 }
@@ -50,7 +57,9 @@ impl LimitsWatch {
         rt: &R,
         path: Text,
         usual: Limits,
-    ) -> io::Result<Result<LimitsWatch, String>> {
+    ) -> io::Result<Result<LimitsWatch, String>>
+        ensures { IfOk result (λ opened. IfOk opened (λ watch. watch.usual ≡ usual)) }
+    {
         let text = match fs::read(rt, path.as_str()) {
             Ok(text) => text,
             Err(error) => return Ok(Err(unreadable(rt.alloc(), &path, error)?)),
@@ -67,7 +76,9 @@ impl LimitsWatch {
     }
 
     /// The limits of a tenant that the file doesn't name.
-    pub fn default(&self) -> Limits {
+    pub fn default(&self) -> Limits
+        ensures { result ≡ self.now.file.default }
+    {
         self.file.default
     }
 
@@ -75,7 +86,10 @@ impl LimitsWatch {
     ///
     /// # Errors
     /// Out of memory.
-    pub fn first(&self, alloc: Global) -> io::Result<BTreeMap<TenantName, Limits>> {
+    pub fn first(&self, alloc: Global) -> io::Result<BTreeMap<TenantName, Limits>>
+        ensures { IfOk result (λ limits.
+            AreChanges (names_none self.now.file.default) self.now.file limits.entries) }
+    {
         match LimitsFile::unset(alloc, self.file.default).changes(alloc, &self.file) {
             Ok(changes) => Ok(changes),
             Err(_) => Err(io::Error::from(AllocError)),
@@ -87,15 +101,21 @@ impl LimitsWatch {
     ///
     /// # Errors
     /// Out of memory; the file is then read again the next time.
-    pub fn renew<R: Files + AllocGlobal>(&mut self, rt: &R) -> io::Result<Renewal> {
+    pub fn renew<R: Files + AllocGlobal>(&mut self, rt: &R) -> io::Result<Renewal>
+        ensures renews { IfOk result (λ renewal. Renews self.old.file renewal self.new.file) }
+        ensures usual { self.new.usual ≡ self.old.usual }
+    {
         match fs::read(rt, self.path.as_str()) {
             Ok(text) => self.take(rt.alloc(), text),
             Err(error) => self.miss(rt.alloc(), error),
         }
     }
 
-    /// Takes what the file says.
-    fn take(&mut self, alloc: Global, text: Vec<u8>) -> io::Result<Renewal> {
+    // Takes what the file says.
+    fn take(&mut self, alloc: Global, text: Vec<u8>) -> io::Result<Renewal>
+        ensures renews { IfOk result (λ renewal. Renews self.old.file renewal self.new.file) }
+        ensures usual { self.new.usual ≡ self.old.usual }
+    {
         if let Seen::Text(last) = &self.seen {
             if last.as_slice() == text.as_slice() {
                 return Ok(Renewal::Same);
@@ -109,20 +129,28 @@ impl LimitsWatch {
         Ok(renewal)
     }
 
-    /// Has a text replace what the file says, and tells what is to be set then. One that is refused replaces nothing.
+    // Has a text replace what the file says, and tells what is to be set then. One that is refused replaces nothing.
     fn replace(
         &mut self,
         alloc: Global,
         text: &[u8],
-    ) -> Result<BTreeMap<TenantName, Limits>, Failure<LimitsRefusal>> {
+    ) -> Result<BTreeMap<TenantName, Limits>, Failure<LimitsRefusal>>
+        ensures reads { IfOk result (λ _. file_in self.old.usual text.now ≡ Ok self.new.file) }
+        ensures changes { IfOk result (λ changes. AreChanges self.old.file self.new.file changes.entries) }
+        ensures err { OnErr result (self.new.file ≡ self.old.file) }
+        ensures rest { self.new ≡ record self.old { file = self.new.file } }
+    {
         let next = read_limits(alloc, text, self.usual)?;
         let changes = self.file.changes(alloc, &next)?;
         self.file = next;
         Ok(changes)
     }
 
-    /// Takes that the file can't be read.
-    fn miss(&mut self, alloc: Global, error: io::Error) -> io::Result<Renewal> {
+    // Takes that the file can't be read.
+    fn miss(&mut self, alloc: Global, error: io::Error) -> io::Result<Renewal>
+        ensures renews { IfOk result (λ renewal. Renews self.old.file renewal self.new.file) }
+        ensures rest { self.new ≡ record self.old { seen = self.new.seen } }
+    {
         let kind = error.kind();
         if let Seen::Unreadable(last) = self.seen {
             if last == kind {
@@ -135,10 +163,7 @@ impl LimitsWatch {
     }
 }
 
-/// What is told where the file can't be read.
-///
-/// # Errors
-/// Out of memory, where it was that too.
+// What is told where the file can't be read. Out of memory: where it was that too.
 fn unreadable(alloc: Global, path: &Text, error: io::Error) -> io::Result<String> {
     if error.kind() == io::ErrorKind::OutOfMemory {
         return Err(error);
@@ -147,10 +172,7 @@ fn unreadable(alloc: Global, path: &Text, error: io::Error) -> io::Result<String
     Ok(format!(in alloc; "{path}: {error}")?)
 }
 
-/// What is told where the file is refused.
-///
-/// # Errors
-/// Out of memory, where it was that too.
+// What is told where the file is refused. Out of memory: where it was that too.
 fn refused(alloc: Global, path: &Text, failure: Failure<LimitsRefusal>) -> io::Result<String> {
     match failure {
         Failure::Refused(refusal) => {

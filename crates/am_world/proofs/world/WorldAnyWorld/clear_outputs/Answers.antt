@@ -1,6 +1,6 @@
 use Rattle.am_world.specs.Shelves.{shelves_of}
 use Rattle.am_world.proofs.Forgotten.{backed_forgotten, consistent_forgotten}
-use Rattle.am_world.proofs.world.World.clear_outputs.Goals as goal
+use Rattle.am_world.proofs.world.WorldAnyWorld.clear_outputs.Goals as goal
 
 pub invariant_of-self : goal.invariant_of-self
 invariant_of-self g c =
