@@ -17,7 +17,7 @@ use Rattle.am_pattern.proofs.AskingLemmas.{stays-trans}
 use Rattle.am_match.specs.Asking.{IsFailureAmong}
 use Rattle.am_match.specs.Matchers.{MatcherText, is_on_pattern, patterns_of}
 use Rattle.am_match.specs.Meaning.{all_take}
-use Rattle.am_match.specs.Tables.{all_matchers}
+use Rattle.am_table.specs.Tables.{all_matchers}
 use Rattle.am_config.specs.Configured.{HasPattern}
 use Rattle.am_config.specs.declared.parts.Rule.{Rule}
 use Rattle.am_inhibit.specs.Alike.{are_alike}

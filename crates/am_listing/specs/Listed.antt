@@ -20,7 +20,13 @@ use Rattle.am_listing.specs.Shown.{lets_muted_through}
 
 -- an alert and what mutes it
 abbrev pub muted : MutedAlert → Stamped Alert × Muting
-muted m = (held_alert m.alert, record { silenced_by = m.silenced_by; inhibited_by = map (λ set'. set'.now) m.inhibited_by })
+muted m = (
+  held_alert m.alert,
+  record {
+    silenced_by = m.silenced_by;
+    inhibited_by = map (λ set'. set'.now) m.inhibited_by;
+  },
+)
 
 -- an alert with what mutes it at the moment
 abbrev pub with_muting : Configuration → ℕ → List Item → Stamped Alert → Stamped Alert × Muting

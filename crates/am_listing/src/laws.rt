@@ -7,6 +7,7 @@ ghost use Rattle.am_muting.specs.Failing.{HasUnanswered};
 
 /// Of texts that are all patterns one gives no answer just where one was refused a build.
 pub fn unanswered_patterns_are_refused()
-    ensures refused { (refused texts : List (List ℕ)) → All IsPattern texts → HasUnanswered refused texts → HasRefused refused texts }
+    ensures refused { (refused texts : List (List ℕ)) → All IsPattern texts → HasUnanswered refused texts
+        → HasRefused refused texts }
     ensures unanswered { (refused texts : List (List ℕ)) → HasRefused refused texts → HasUnanswered refused texts }
 {}

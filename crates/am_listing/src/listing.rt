@@ -24,11 +24,12 @@ use am_alert::AlertBook;
 use am_config::Config;
 use am_item::Held;
 use am_labels::LabelSet;
-use am_match::{Matcher, taken_by_all};
+use am_match::Matcher;
 use am_muting::label_sets;
 use am_pattern::PatternCache;
 use am_payload::alerts_json;
 use am_query::Query;
+use am_table::taken_by_all;
 use am_text::{Failure, Listed, Moment, Octets, Text};
 use std::alloc::{AllocError, Global};
 
@@ -55,7 +56,8 @@ pub fn list_alerts(
     requires receiver { ForSome query.now.receiver IsPattern }
     ensures text { IfOk result (λ o. o ≡ alerts_text config.now query.now moment held.now) }
     ensures asked { Asked result cache.old cache.new }
-    ensures adds { OnErr result (AddsAmong (patterns_asked query.now ++ patterns_in_use config.now moment held.now) cache.old.refused cache.new.refused) }
+    ensures adds { OnErr result (AddsAmong (patterns_asked query.now ++ patterns_in_use config.now moment held.now)
+        cache.old.refused cache.new.refused) }
     ensures failure { IfErr result (λ failure. ForRefused failure
         (IsUnanswered cache.new.refused (patterns_asked query.now) (patterns_in_use config.now moment held.now))) }
 {
@@ -79,7 +81,8 @@ fn shown_alerts<'a>(
     ensures shown { IfOk result (λ v. map routed v.items
         ≡ map (with_all config.now moment held.now) (shown config.now query.now moment held.now)) }
     ensures asked { Asked result cache.old cache.new }
-    ensures adds { OnErr result (AddsAmong (patterns_asked query.now ++ patterns_in_use config.now moment held.now) cache.old.refused cache.new.refused) }
+    ensures adds { OnErr result (AddsAmong (patterns_asked query.now ++ patterns_in_use config.now moment held.now)
+        cache.old.refused cache.new.refused) }
     ensures failure { IfErr result (λ failure. ForRefused failure
         (IsUnanswered cache.new.refused (patterns_asked query.now) (patterns_in_use config.now moment held.now))) }
 {
@@ -103,9 +106,11 @@ pub fn passed_alerts<'a>(
     requires matchers { All IsPattern (patterns_of query.now.matchers) }
     ensures passed { IfOk result (λ v. map routed v.items
         ≡ map (with_all config.now moment held.now) (passed config.now query.now moment held.now)) }
-    ensures routes { IfOk result (λ v. All (λ (r : RoutedAlert). All (λ id. id < length config.now.routes) r.routes) v.items) }
+    ensures routes { IfOk result (λ v. All (λ (r : RoutedAlert). All (λ id. id < length config.now.routes) r.routes)
+        v.items) }
     ensures asked { Asked result cache.old cache.new }
-    ensures adds { OnErr result (AddsAmong (patterns_of query.now.matchers ++ patterns_in_use config.now moment held.now) cache.old.refused cache.new.refused) }
+    ensures adds { OnErr result (AddsAmong (patterns_of query.now.matchers
+        ++ patterns_in_use config.now moment held.now) cache.old.refused cache.new.refused) }
     ensures failure { IfErr result (λ failure. ForRefused failure
         (IsUnanswered cache.new.refused (patterns_of query.now.matchers) (patterns_in_use config.now moment held.now))) }
 {
@@ -126,7 +131,8 @@ fn muted_alerts<'a>(
     ensures passed { IfOk result (λ v. map muted v.items
         ≡ map (with_muting config.now moment held.now) (passed config.now query.now moment held.now)) }
     ensures asked { Asked result cache.old cache.new }
-    ensures adds { OnErr result (AddsAmong (patterns_of query.now.matchers ++ patterns_muting config.now moment held.now) cache.old.refused cache.new.refused) }
+    ensures adds { OnErr result (AddsAmong (patterns_of query.now.matchers
+        ++ patterns_muting config.now moment held.now) cache.old.refused cache.new.refused) }
     ensures failure { IfErr result (λ failure. ForRefused failure
         (IsUnanswered cache.new.refused (patterns_of query.now.matchers) (patterns_muting config.now moment held.now))) }
 {
@@ -161,7 +167,8 @@ fn flags_of(
 
 // The things whose flag is set, in their order.
 fn chosen<T: Drop>(alloc: Global, things: Vec<T>, choice: Vec<bool>) -> Result<Vec<T>, AllocError>
-    ensures { IfOk result (λ v. v.items ≡ map (λ pair. pair.0) (filter (λ pair. pair.1) (zip things.items choice.items))) }
+    ensures { IfOk result (λ v. v.items ≡ map (λ pair. pair.0)
+        (filter (λ pair. pair.1) (zip things.items choice.items))) }
 {
     things
         .into_iter()

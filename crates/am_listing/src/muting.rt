@@ -42,9 +42,11 @@ pub(crate) fn mutes_of<'a>(
     cache: &mut PatternCache,
 ) -> Result<Mutes<'a>, Failure<Unanswered>>
     requires { map (λ set. set.now) firing.items ≡ firing_sets moment held.now }
-    ensures muting { IfOk result (λ m. m ≡ map (λ set. muting_of config.now moment held.now set.now) firing.entry.items) }
+    ensures muting { IfOk result (λ m. m ≡ map
+        (λ set. muting_of config.now moment held.now set.now) firing.entry.items) }
     ensures asked { Asked result cache.old cache.new }
-    ensures adds { OnErr result (AddsAmong (patterns_muting config.now moment held.now) cache.old.refused cache.new.refused) }
+    ensures adds { OnErr result (AddsAmong (patterns_muting config.now moment held.now) cache.old.refused
+        cache.new.refused) }
     ensures failure { (own : List (List ℕ)) → IfErr result (λ failure. ForRefused failure
         (IsUnanswered cache.new.refused own (patterns_muting config.now moment held.now))) }
 {
@@ -65,7 +67,8 @@ pub(crate) fn chosen_alerts<'a>(
 ) -> Result<Vec<MutedAlert<'a>>, AllocError>
     requires mutes { length mutes.now ≡ length alerts.now }
     requires taken { length taken.now ≡ length alerts.now }
-    ensures { IfOk result (λ v. map muted v.items ≡ chosen_among query.now taken.now mutes.now (enumerate_from 0 alerts.now)) }
+    ensures { IfOk result (λ v. map muted v.items
+        ≡ chosen_among query.now taken.now mutes.now (enumerate_from 0 alerts.now)) }
 {
     let mut chosen = Vec::new(alloc);
     for (place, alert) in alerts.iter().enumerate() {

@@ -43,10 +43,13 @@ pub(crate) fn routed_alerts<'a>(
     alerts: Vec<MutedAlert<'a>>,
     cache: &mut PatternCache,
 ) -> Result<Vec<RoutedAlert<'a>>, Failure<Unanswered>>
-    ensures routed { IfOk result (λ v. map routed v.items ≡ map (with_routes config.now) (map muted alerts.entry.items)) }
-    ensures routes { IfOk result (λ v. All (λ (r : RoutedAlert). All (λ id. id < length config.now.routes) r.routes) v.items) }
+    ensures routed { IfOk result (λ v. map routed v.items
+        ≡ map (with_routes config.now) (map muted alerts.entry.items)) }
+    ensures routes { IfOk result (λ v. All (λ (r : RoutedAlert). All (λ id. id < length config.now.routes) r.routes)
+        v.items) }
     ensures asked { Asked result cache.old cache.new }
-    ensures adds { OnErr result (AddsAmong (patterns_of (route_matchers config.now.routes)) cache.old.refused cache.new.refused) }
+    ensures adds { OnErr result (AddsAmong (patterns_of (route_matchers config.now.routes)) cache.old.refused
+        cache.new.refused) }
     ensures failure { (own : List (List ℕ)) → IfErr result (λ failure. ForRefused failure
         (IsUnanswered cache.new.refused own (patterns_of (route_matchers config.now.routes)))) }
 {
@@ -59,7 +62,8 @@ pub(crate) fn routed_alerts<'a>(
 
 // The label sets of the alerts, in their order.
 fn label_sets<'a>(alloc: Global, alerts: &[MutedAlert<'a>]) -> Result<Vec<&'a LabelSet>, AllocError>
-    ensures { IfOk result (λ v. map (λ set. set.now) v.items ≡ map (λ (m : MutedAlert). m.alert.labels.now) alerts.now) }
+    ensures { IfOk result (λ v. map (λ set. set.now) v.items
+        ≡ map (λ (m : MutedAlert). m.alert.labels.now) alerts.now) }
 {
     let mut sets = Vec::with_capacity(alloc, alerts.len())?;
     for muted in alerts {
@@ -78,7 +82,8 @@ fn routes_of_sets(
     ensures routes { IfOk result (λ v. v.items ≡ map (λ set. routes_at set.now config.now.routes) sets.now) }
     ensures places { IfOk result (λ v. All (λ found. All (λ id. id < length config.now.routes) found) v.items) }
     ensures asked { Asked result cache.old cache.new }
-    ensures adds { OnErr result (AddsAmong (patterns_of (route_matchers config.now.routes)) cache.old.refused cache.new.refused) }
+    ensures adds { OnErr result (AddsAmong (patterns_of (route_matchers config.now.routes)) cache.old.refused
+        cache.new.refused) }
     ensures failure { (own : List (List ℕ)) → IfErr result (λ failure. ForRefused failure
         (IsUnanswered cache.new.refused own (patterns_of (route_matchers config.now.routes)))) }
 {

@@ -1,6 +1,5 @@
 pub mod ReadingLemmas
 pub mod CheckingLemmas
-pub mod NarrowLemmas
 pub mod NameLemmas
 pub mod PrintingLemmas
 pub mod SpellingLemmas
@@ -9,7 +8,3 @@ pub mod RoundTrip
 pub mod FormsRead
 pub mod FormsFound
 pub mod FailureLemmas
-pub mod HolderLemmas
-pub mod ColumnLemmas
-pub mod QuestionLemmas
-pub mod TableLemmas

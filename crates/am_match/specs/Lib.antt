@@ -20,9 +20,3 @@ pub mod Printing
 pub mod Spelling
 -- and as they are taken
 pub mod Taking
--- lists of matchers and what they take
-pub mod Tables
--- the label sets that have a label
-pub mod Holders
--- the values of a label, by their places
-pub mod Columns

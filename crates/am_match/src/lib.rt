@@ -5,25 +5,18 @@
 //! `\\` and `\n`, or is a run of characters without `,`, `"`, `{`, `}`, its end spaces removed; it may be empty.
 #![tactic(auto)]
 
-mod asking;
 mod checking;
-mod column;
-mod holders;
 pub mod laws;
 mod matcher;
 mod printing;
-mod questions;
 mod reading;
 mod refusal;
 mod spelling;
-mod table;
 mod taking;
 
-pub use asking::{narrow, taken_by_all, values_of};
 pub use checking::{check_pattern, check_patterns, read_matchers, reread_matchers};
 pub use matcher::{Matcher, Operator};
 pub use printing::print_matchers;
 pub use refusal::{MatcherRefusal, SpellRefusal, TakeRefusal};
 pub use spelling::spell_matchers;
-pub use table::taken_by_each;
 pub use taking::take_matchers;

@@ -144,7 +144,7 @@ impl Matcher {
 
     /// For each of the values whether it meets the condition, as a value of the label. Where there are none the pattern
     /// isn't asked for, else once.
-    pub(crate) fn passes_each(
+    pub fn passes_each(
         &self,
         alloc: Global,
         values: &[&str],

@@ -6,7 +6,7 @@ use Rattle.std.proofs.lemmas.Simd.{map-map}
 use Rattle.am_labels.specs.declared.Label.{Label}
 use Rattle.am_match.specs.Matchers.{MatcherText}
 use Rattle.am_match.specs.Meaning.{all_take}
-use Rattle.am_match.specs.Tables.{all_matchers}
+use Rattle.am_table.specs.Tables.{all_matchers}
 use Rattle.am_text.specs.declared.tree.Node.{Node}
 use Rattle.am_config.specs.declared.parts.Route.{Route}
 use Rattle.am_route.specs.Answers.{AreKnown}

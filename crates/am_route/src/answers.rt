@@ -11,8 +11,9 @@ ghost use Rattle.am_route.specs.Routes.{route_takes};
 
 use am_config::Route;
 use am_labels::LabelSet;
-use am_match::{Matcher, taken_by_each};
+use am_match::Matcher;
 use am_pattern::{PatternCache, PatternRefusal};
+use am_table::taken_by_each;
 use am_text::{Failure, Node};
 use std::alloc::{AllocError, Global};
 

@@ -17,8 +17,9 @@ use crate::refusal::SilenceRefusal;
 use crate::written::{Written, WrittenMatcher};
 use am_json::read_json;
 use am_labels::LabelSet;
-use am_match::{Matcher, MatcherRefusal, check_patterns, taken_by_all};
+use am_match::{Matcher, MatcherRefusal, check_patterns};
 use am_pattern::PatternCache;
+use am_table::taken_by_all;
 use am_text::{Failure, Listed, Moment, Text, refuse_as};
 use std::alloc::Global;
 

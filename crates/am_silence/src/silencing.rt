@@ -11,8 +11,9 @@ use crate::held::HeldSilence;
 use crate::silenced::Silenced;
 use am_item::SilenceId;
 use am_labels::LabelSet;
-use am_match::{Matcher, taken_by_each};
+use am_match::Matcher;
 use am_pattern::{PatternCache, PatternRefusal};
+use am_table::taken_by_each;
 use am_text::Failure;
 use std::alloc::{AllocError, Global};
 

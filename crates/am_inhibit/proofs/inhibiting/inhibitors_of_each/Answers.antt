@@ -4,7 +4,7 @@ use Rattle.std.specs.declared.rc.RcSlice.{RcSlice}
 use Rattle.std.proofs.lemmas.List.{length-map}
 use Rattle.std.proofs.lemmas.Result.{err_from_is_err_and}
 use Rattle.am_labels.specs.declared.label_set.LabelSet.{LabelSet}
-use Rattle.am_match.proofs.NarrowLemmas.{memory_alone}
+use Rattle.am_table.proofs.NarrowLemmas.{memory_alone}
 use Rattle.am_inhibit.specs.Inhibits.{rule_matchers}
 use Rattle.am_inhibit.specs.Links.{lists_of}
 use Rattle.am_inhibit.proofs.InhibitorLemmas.{each_below, each_is, fires_below}

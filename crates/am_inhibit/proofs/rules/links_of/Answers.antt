@@ -1,8 +1,8 @@
 use Rattle.std.proofs.Common.{◌≡◌, ◌∙◌, ◌&&◌, Bor, List, ap, false, get_or, length, map, sym, [], arith}
 use Rattle.am_labels.specs.declared.label_set.LabelSet.{LabelSet}
 use Rattle.am_match.specs.Matchers.{MatcherText}
-use Rattle.am_match.specs.Tables.{all_matchers}
 use Rattle.am_match.proofs.FailureLemmas.{failure_of_part, handed_on}
+use Rattle.am_table.specs.Tables.{all_matchers}
 use Rattle.am_pattern.proofs.AskingLemmas.{stays-refl}
 use Rattle.am_config.specs.declared.parts.Rule.{Rule}
 use Rattle.am_inhibit.specs.Inhibits.{rule_matchers}

@@ -1,6 +1,6 @@
 use Rattle.std.proofs.Common.{◌≡◌, ◌∙◌, ap, map}
-use Rattle.am_match.specs.Tables.{all_matchers}
 use Rattle.am_match.proofs.FailureLemmas.{handed_on}
+use Rattle.am_table.specs.Tables.{all_matchers}
 use Rattle.am_route.specs.Asked.{route_matchers}
 use Rattle.am_route.proofs.TableLemmas.{all_of_routes, rows_of_routes}
 use Rattle.am_route.proofs.answers.answers_of.Goals as goal

@@ -1,8 +1,8 @@
 use Rattle.std.proofs.Common.{◌∙◌, sym}
 use Rattle.am_route.proofs.AskedLemmas.{asked_of_tree, patterns_asked_at}
 use Rattle.am_match.specs.Asking.{IsFailureAmong}
-use Rattle.am_match.proofs.NarrowLemmas.{memory_alone}
 use Rattle.am_match.proofs.FailureLemmas.{handed_on}
+use Rattle.am_table.proofs.NarrowLemmas.{memory_alone}
 use Rattle.am_route.proofs.FailureLemmas.{patterns_had}
 use Rattle.am_route.proofs.KnownLemmas.{rest_known}
 use Rattle.am_route.proofs.PlacesLemmas.{places_at, some_at}

@@ -4,11 +4,11 @@ use Rattle.am_labels.specs.declared.label_set.LabelSet.{LabelSet}
 use Rattle.am_pattern.specs.Cache.{Cache}
 use Rattle.am_pattern.proofs.AskingLemmas.{grows-stays, grows-trans, stays-trans}
 use Rattle.am_match.specs.Asking.{IsFailureAmong}
-use Rattle.am_match.proofs.NarrowLemmas.{memory_alone}
 use Rattle.am_route.specs.Asked.{asked_at, route_matchers}
 use Rattle.am_route.specs.Routes.{routes_at}
 use Rattle.am_route.proofs.AskedLemmas.{asked_in_routes}
 use Rattle.am_match.proofs.FailureLemmas.{asked_on, failure_of_part, handed_on}
+use Rattle.am_table.proofs.NarrowLemmas.{memory_alone}
 use Rattle.am_route.proofs.FailureLemmas.{patterns_had, route_patterns}
 use Rattle.am_route.proofs.PlacesLemmas.{places_at, some_at}
 use Rattle.am_route.proofs.TableLemmas.{all_of_each, all_told, column_known, rows_reach}

@@ -1,9 +1,9 @@
 use Rattle.std.proofs.Common.{◌∙◌, sym}
 use Rattle.am_pattern.proofs.AskingLemmas.{grows-stays, grows-trans, stays-trans}
-use Rattle.am_match.proofs.NarrowLemmas.{failure_of_one}
 use Rattle.am_route.specs.Asked.{asked_of}
 use Rattle.am_route.proofs.AskedLemmas.{asked_behind, asked_there, taken_behind}
 use Rattle.am_match.proofs.FailureLemmas.{asked_on, handed_on}
+use Rattle.am_table.proofs.NarrowLemmas.{failure_of_one}
 use Rattle.am_route.proofs.routing.takes_all.Goals as goal
 
 pub returns-in_err-matches-clause-failure : goal.returns-in_err-matches-clause-failure

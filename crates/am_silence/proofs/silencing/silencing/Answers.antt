@@ -3,8 +3,8 @@ use Rattle.am_labels.specs.declared.Label.{Label}
 use Rattle.am_match.specs.Matchers.{MatcherText}
 use Rattle.am_match.specs.Meaning.{all_take}
 use Rattle.am_silence.specs.Held.{held_silence, matchers_in}
-use Rattle.am_match.specs.Tables.{all_matchers}
 use Rattle.am_match.proofs.FailureLemmas.{handed_on}
+use Rattle.am_table.specs.Tables.{all_matchers}
 use Rattle.am_silence.proofs.RowLemmas.{fused, same_matchers}
 use Rattle.am_silence.proofs.silencing.silencing.Goals as goal
 

@@ -3,7 +3,7 @@ use Rattle.std.proofs.lemmas.Result.{IfOk-weaker, IfErr-weaker}
 use Rattle.am_item.specs.Kinds.{silences_of}
 use Rattle.am_match.specs.Asking.{IsFailureAmong}
 use Rattle.am_match.specs.Matchers.{patterns_of}
-use Rattle.am_match.proofs.NarrowLemmas.{memory_alone}
+use Rattle.am_table.proofs.NarrowLemmas.{memory_alone}
 use Rattle.am_silence.specs.Held.{SilenceValue, active_among, held_silence, matchers_in, taking}
 use Rattle.am_silence.proofs.HeldLemmas.{active_held, each_silencing}
 use Rattle.am_silence.proofs.book.SilenceBook.silencing.Goals as goal

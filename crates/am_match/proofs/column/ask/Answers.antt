@@ -1,4 +1,0 @@
-use Rattle.am_match.proofs.column.ask.Goals as goal
-
-pub ask_index-requires-clause-index : goal.ask_index-requires-clause-index
-ask_index-requires-clause-index c = c.requires.indexed c.in-Some.index c.in-Some.is
