@@ -1,9 +1,11 @@
 -- What is so of an instance once its store was opened.
-use Rattle.std.proofs.Common.{◌≡◌, ℕ, ◌<◌, List, [], length, None, is_some, arith, ap, sym, subst, ◌∙◌}
+use Rattle.std.proofs.Common.{◌≡◌, ℕ, ◌<◌, Bool, List, [], length, Option, None, Some, inr, is_some, arith, ap, sym, subst, ◌∙◌}
 use Rattle.std.proofs.lemmas.Bool.{false≢true}
 use Rattle.am_cluster.specs.Here.{Here}
 use Rattle.am_cluster.specs.Local.{Local, blank}
 use Rattle.am_item.specs.Counts.{count_of}
+use Rattle.am_item.specs.declared.fault.Fault.{Fault}
+use Rattle.am_item.specs.declared.item.Item.{Item}
 use Rattle.am_labels.specs.declared.Label.{Label}
 use Rattle.am_node.specs.Held.{local_of as local_in_node}
 use Rattle.am_node.specs.Local.{Local as NodeLocal}
@@ -16,6 +18,7 @@ use Rattle.am_site.specs.Learning.{IsIdle}
 use Rattle.am_site.specs.Locals.{from_rooms, local_of}
 use Rattle.am_site.specs.Opening.{BeginsWith, KeepsRest}
 use Rattle.am_site.specs.declared.site.Site.{Site}
+use Rattle.am_instance.specs.Leaving.{IsLeft}
 use Rattle.am_site.proofs.Sound.{blank_sound}
 
 -- what is sound stands beside the node
@@ -72,3 +75,9 @@ module _ (here : Here) (old new : Site) (rest : KeepsRest old new) (nothing : lo
     asked = λ some. absurd (false≢true (sym (ap is_some asks_nobody) ∙ some));
     sound = still_sound;
   }
+
+-- rows are those that are kept, whatever stopped the call then
+pub left_kept : (fault : Option Fault) (is_shut : Bool) (before kept rows : List Item) → rows ≡ kept
+    → IsLeft fault is_shut before kept rows
+left_kept None is_shut before kept rows is = is
+left_kept (Some fault) is_shut before kept rows is = λ still. inr is

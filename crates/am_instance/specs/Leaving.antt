@@ -8,6 +8,7 @@ use Rattle.am_node.specs.Local.{Local as NodeLocal}
 use Rattle.am_node.specs.Storing.{LeavesStore}
 use Rattle.am_rows.specs.Refusing.{MayRefuse}
 use Rattle.am_rows.specs.Rows.{rows_of}
+use Rattle.am_site.specs.Opening.{own_rows}
 use Rattle.am_tenant.specs.Names.{same}
 use Rattle.am_instance.specs.Shelves.{Shelf}
 
@@ -53,3 +54,12 @@ abbrev pub LeavesNoneOf : (names : List (List ℕ)) → Option Fault → (old ne
 LeavesNoneOf names fault old new =
     LeavesEach (λ t. rows_of t old.pairs) (λ t. if list_any (same t) names then [] else rows_of t old.pairs)
     fault old new
+
+-- ---- calls that open a store
+
+-- the rows of tenants of which the instance is a replica in this ring stay; those of every other go, or where a fault
+-- stopped that perhaps not of all
+abbrev pub LeavesOwn : (ring : List ℕ) → (instance : ℕ) → Option Fault → (old new : Shelf) → Type 0
+LeavesOwn ring instance fault old new = new.is_clean ≡ true → (t : List ℕ)
+    → IsLeft fault new.medium.is_shut (rows_of t old.pairs) (own_rows ring instance t (rows_of t old.pairs))
+    (rows_of t new.pairs)

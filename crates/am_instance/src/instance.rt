@@ -1,10 +1,12 @@
 //! One instance: whether it is up, and what it has.
 
-ghost use Rattle.std.specs.Prelude.{◌≡◌, ◌<◌, ℕ, List, [], true, None, IfOk, IfErr, OnOk, length};
+ghost use Rattle.std.specs.Prelude.{◌≡◌, ◌<◌, ℕ, List, [], false, true, None, IfOk, IfErr, OnOk, length};
 ghost use Rattle.am_cluster.specs.RingChanges.{opened};
+ghost use Rattle.am_cluster.specs.Rings.{ring_at};
 ghost use Rattle.am_rows.specs.Refusing.{IsJudged, MayRefuse};
 ghost use Rattle.am_rows.specs.Rows.{rows_of};
-ghost use Rattle.am_instance.specs.Here.{Circumstances, circumstances, here_on};
+ghost use Rattle.am_site.specs.Opening.{KeepsOwn, MayKeepOwn};
+ghost use Rattle.am_instance.specs.Here.{Circumstances, circumstances, here_on, rings_on};
 ghost use Rattle.am_instance.specs.Instance.{IsDown, IsSameNode, ReadsAlike, Starts, local_in, refused_in};
 ghost use Rattle.am_instance.specs.Shelves.{IsBacked, shelf_of};
 ghost use Rattle.am_instance.specs.Whole.{IsWhole};
@@ -136,7 +138,8 @@ impl Instance {
     /// which it is a replica, drops what it has of others, and is up.
     ///
     /// # Errors
-    /// `F2` or `F3` of the store, or out of memory. What the store has of other tenants may be dropped then.
+    /// `F2` or `F3` of the store, or out of memory. What the store has of other tenants may be dropped then, and all
+    /// else stays, unless a failure shut it.
     pub fn start<R: Rows>(
         &mut self,
         alloc: Global,
@@ -153,6 +156,12 @@ impl Instance {
         ensures whole { OnOk result (IsWhole (circumstances occasion.now) self.new) }
         ensures clean { R.is_clean store.new ≡ true → R.is_clean store.old ≡ true }
         ensures backed { OnOk result (IsBacked self.new (shelf_of R.Rows store.new)) }
+        ensures kept { R.is_clean store.new ≡ true → OnOk result (KeepsOwn
+            (ring_at self.old.known (rings_on (circumstances occasion.now))) self.old.number
+            (R.pairs store.old) (R.pairs store.new)) }
+        ensures left { R.is_clean store.new ≡ true → (R.medium store.new).is_shut ≡ false → MayKeepOwn
+            (ring_at self.old.known (rings_on (circumstances occasion.now))) self.old.number
+            (R.pairs store.old) (R.pairs store.new) }
         ensures fails { R.is_clean store.new ≡ true
             → IfErr result (IsJudged (R.is_foreign store.old) (MayRefuse (R.medium store.old) (R.medium store.new))) }
     {

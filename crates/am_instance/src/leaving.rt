@@ -22,7 +22,8 @@ impl Instance {
     /// where it was down, they stay.
     ///
     /// # Errors
-    /// Where it was up, `StoreRefused` or out of memory. The rows of each tenant are as before, or gone.
+    /// Where it was up, `StoreRefused` or out of memory. The rows of each tenant are as before, or gone, unless a
+    /// failure shut the store.
     pub fn leave<R: Rows>(&mut self, alloc: Global, store: &mut R) -> Result<(), Fault>
         requires noted { AreNoted self.old }
         requires backed { IsBacked self.old (shelf_of R.Rows store.old) }

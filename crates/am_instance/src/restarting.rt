@@ -2,7 +2,9 @@
 
 ghost use Rattle.std.specs.Prelude.{◌≡◌, ◌⊎◌, ◌<◌, ℕ, List, [], true, IfErr, IfOk, OnErr, OnOk};
 ghost use Rattle.am_cluster.specs.RingChanges.{other_restarted};
+ghost use Rattle.am_cluster.specs.Rings.{newest_ring, ring_at};
 ghost use Rattle.am_cluster.specs.Roster.{last_incarnation};
+ghost use Rattle.am_replica.specs.Storing.{fault_in};
 ghost use Rattle.am_rows.specs.Refusing.{MayRefuse};
 ghost use Rattle.am_rows.specs.Rows.{stored_in};
 ghost use Rattle.am_site.specs.Here.{here_of};
@@ -10,8 +12,9 @@ ghost use Rattle.am_site.specs.InOrder.{IsInOrder};
 ghost use Rattle.am_site.specs.Reacting.{Moves, StopsReacting};
 ghost use Rattle.am_instance.specs.Changing.{OpensAnew, ReactsAll, ReactsInOrder, Restarts, StopsOpening};
 ghost use Rattle.am_instance.specs.Changing.{StopsReactingAll, renewed, started};
-ghost use Rattle.am_instance.specs.Here.{circumstances, here_on};
+ghost use Rattle.am_instance.specs.Here.{circumstances, here_on, rings_on};
 ghost use Rattle.am_instance.specs.Instance.{IsDown, IsSameNode, ReadsOn, local_in};
+ghost use Rattle.am_instance.specs.Leaving.{LeavesOwn};
 ghost use Rattle.am_instance.specs.Shelves.{IsBacked, shelf_of};
 ghost use Rattle.am_instance.specs.Tenants.{AreAllNoted};
 ghost use Rattle.am_instance.specs.Whole.{IsWhole};
@@ -45,7 +48,8 @@ impl Instance {
     ///
     /// # Errors
     /// `StoreRefused` where the store is none, or a call of its database was refused; `CountsExhausted` where a message
-    /// is too long; or out of memory. What the store has of other tenants may be dropped then.
+    /// is too long; or out of memory. What the store has of other tenants may be dropped then, and all else stays,
+    /// unless a failure shut it.
     pub fn restart<R: Rows>(
         &mut self,
         alloc: Global,
@@ -66,6 +70,8 @@ impl Instance {
         ensures whole { OnOk result (IsWhole (circumstances occasion.now) self.new) }
         ensures clean { R.is_clean store.new ≡ true → R.is_clean store.old ≡ true }
         ensures backed { OnOk result (IsBacked self.new (shelf_of R.Rows store.new)) }
+        ensures left { LeavesOwn (newest_ring (rings_on (circumstances occasion.now))) self.old.number
+            (fault_in result) (shelf_of R.Rows store.old) (shelf_of R.Rows store.new) }
     {
         self.incarnation += 1;
         self.known = occasion.rings.len() as u64 - 1;
@@ -93,6 +99,8 @@ impl Instance {
         ensures whole { OnOk result (IsWhole (circumstances occasion.now) self.new) }
         ensures clean { R.is_clean store.new ≡ true → R.is_clean store.old ≡ true }
         ensures backed { OnOk result (IsBacked self.new (shelf_of R.Rows store.new)) }
+        ensures left { LeavesOwn (ring_at self.old.known (rings_on (circumstances occasion.now))) self.old.number
+            (fault_in result) (shelf_of R.Rows store.old) (shelf_of R.Rows store.new) }
     {
         match self.start(alloc, occasion, store) {
             Ok(()) => self.follow_start(alloc, occasion, Start::Own, outputs),

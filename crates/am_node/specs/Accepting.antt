@@ -70,7 +70,8 @@ abbrev pub StopsAccepting : (refused : List (List ℕ)) → List Item → Local 
 StopsAccepting refused items local OutOfMemory = Unit {0}
 StopsAccepting refused items local CountsExhausted = ⊥
 StopsAccepting refused items local PatternNotBuilt =
-    ((brings_alert items local ≡ true) ⊎ ((brings_configuration items local ≡ true) × (0 < length local.plan.grouped.alerts)))
+    ((brings_alert items local ≡ true) ⊎ ((brings_configuration items local ≡ true)
+    × (0 < length local.plan.grouped.alerts)))
     × HasUnanswered refused (patterns_of (route_matchers (configuration_in (all_joined local.held items)).routes))
 StopsAccepting refused items local StoreRefused = ⊥
 

@@ -31,7 +31,8 @@ at_desk desk local = record local { plan = with_desk desk local.plan }
 -- it is stamped now, or one past what is recorded of the key already, with the next count
 abbrev pub entry_of : Context → EntryKey → (firing resolved : List (List Label)) → (span : ℕ) → Local → Item
 entry_of context key firing resolved span local =
-    entry_stamped context key firing resolved span (stamp_moment context.moment (seen key local.held)) (local.ledger.stamps + 1)
+    entry_stamped context key firing resolved span (stamp_moment context.moment (seen key local.held))
+    (local.ledger.stamps + 1)
 
 -- and accepted
 unfoldable pub recorded : Context → EntryKey → (firing resolved : List (List Label)) → (span : ℕ) → Local → Reaction

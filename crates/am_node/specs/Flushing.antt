@@ -29,5 +29,6 @@ begun context group local = record local {
 unfoldable pub flushed : Context → (muted : List (List Label)) → Name → Local → Reaction
 flushed context muted group local =
     each (told context)
-    (tellings (configuration_in local.held) group (sent_among local.held) (members_but muted group local) context.moment)
+    (tellings (configuration_in local.held) group (sent_among local.held)
+    (members_but muted group local) context.moment)
     (begun context group local)

@@ -30,7 +30,8 @@ flushed_if false context muted group local = stays local
 unfoldable pub handled : Context → (muted : List (List Label)) → Key → Local → Reaction
 handled context muted (Operation number) local = stays local
 handled context muted (Group key) local =
-    flushed_if (is_due context.moment (flush_due local.plan.paces local.plan.grouped key)) context muted (group_in key) local
+    flushed_if (is_due context.moment (flush_due local.plan.paces local.plan.grouped key)) context muted
+    (group_in key) local
 handled context muted (Retry number) local = retried context number local
 handled context muted (Push instance) local = stays local
 

@@ -57,7 +57,8 @@ has_flush t moment plan = list_any is_flush (due_keys t moment plan)
 -- a pattern that may mute alerts of a tenant, one of those that have a group to flush, gave no answer
 abbrev pub HasUnmuted : (refused : List (List ℕ)) → ℕ → (flushes : List ℕ → Bool) → (held : List ℕ → List Item) → Type 0
 HasUnmuted refused moment flushes held =
-    (t : List ℕ) × (flushes t ≡ true) × HasUnanswered refused (patterns_muting (configuration_in (held t)) moment (held t))
+    (t : List ℕ) × (flushes t ≡ true) × HasUnanswered refused
+    (patterns_muting (configuration_in (held t)) moment (held t))
 
 -- why it stops at a tick: a count of a tenant would have passed the greatest, a pattern that may mute alerts of one
 -- that has a
@@ -102,14 +103,17 @@ unfoldable pub muted_for : List ℕ → List (List ℕ × List (List Label)) →
 muted_for t muted = unwrap_or (lookup (λ s. same t s) muted) []
 
 -- what is done for a tenant where these timers are due
-unfoldable pub done_for : (List ℕ → Context) → List (List ℕ × List (List Label)) → List ℕ → List Timer → Local → Reaction
+unfoldable pub done_for : (List ℕ → Context) → List (List ℕ × List (List Label)) → List ℕ → List Timer → Local
+    → Reaction
 done_for context muted t due local = each (handled (context t) (muted_for t muted)) (keys_for t due) local
 
-abbrev pub AreHandled : (List ℕ → Context) → List (List ℕ × List (List Label)) → List Timer → (before after : List ℕ → Local) → List Dispatch → Type 0
+abbrev pub AreHandled : (List ℕ → Context) → List (List ℕ × List (List Label)) → List Timer
+    → (before after : List ℕ → Local) → List Dispatch → Type 0
 AreHandled context muted due before after all =
     (t : List ℕ) → IsDone (done_for context muted t due (before t)) (after t) (said_of t all)
 
-abbrev pub StopsHandling : (List ℕ → Context) → List (List ℕ × List (List Label)) → List Timer → (before : List ℕ → Local) → Fault → Type 0
+abbrev pub StopsHandling : (List ℕ → Context) → List (List ℕ × List (List Label)) → List Timer
+    → (before : List ℕ → Local) → Fault → Type 0
 StopsHandling context muted due before OutOfMemory = Unit {0}
 StopsHandling context muted due before CountsExhausted =
     (t : List ℕ) × ((done_for context muted t due (before t)).fits ≡ false)
@@ -139,7 +143,8 @@ abbrev pub AreMuted : ℕ → (List ℕ → List Item) → List (List ℕ × Lis
 AreMuted moment held muted =
     (t : List ℕ) → IfSome (lookup (λ s. same t s) muted) (λ sets. sets ≡ muted_at moment (held t))
 
-abbrev pub StopsMuting : (refused : List (List ℕ)) → ℕ → (flushes : List ℕ → Bool) → (held : List ℕ → List Item) → Fault → Type 0
+abbrev pub StopsMuting : (refused : List (List ℕ)) → ℕ → (flushes : List ℕ → Bool) → (held : List ℕ → List Item) → Fault
+    → Type 0
 StopsMuting refused moment flushes held OutOfMemory = Unit {0}
 StopsMuting refused moment flushes held CountsExhausted = ⊥
 StopsMuting refused moment flushes held PatternNotBuilt = HasUnmuted refused moment flushes held

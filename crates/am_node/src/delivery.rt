@@ -37,9 +37,11 @@ impl Parts {
         ensures does { OnOk result (Does tenant.now
             (handled context.now (muted_for tenant.now muted.now) (GroupTimer key.now)) self.old self.new) }
         ensures said { IfOk result (λ v. map said_in v.items
-            ≡ (handled context.now (muted_for tenant.now muted.now) (GroupTimer key.now) (local_of tenant.now self.old)).said) }
+            ≡ (handled context.now (muted_for tenant.now muted.now) (GroupTimer key.now)
+            (local_of tenant.now self.old)).said) }
         ensures fits { IfOk result (λ _.
-            (handled context.now (muted_for tenant.now muted.now) (GroupTimer key.now) (local_of tenant.now self.old)).fits ≡ true) }
+            (handled context.now (muted_for tenant.now muted.now) (GroupTimer key.now)
+            (local_of tenant.now self.old)).fits ≡ true) }
         ensures fault { IfErr result (StopsFor
             (handled context.now (muted_for tenant.now muted.now) (GroupTimer key.now) (local_of tenant.now self.old))) }
     {
@@ -85,7 +87,8 @@ impl Parts {
         next: Next,
     ) -> Result<Report, Fault>
         ensures does { OnOk result (Does tenant.now (obeyed context.now next) self.old self.new) }
-        ensures said { IfOk result (λ report. said_in report ∷ [] ≡ (obeyed context.now next (local_of tenant.now self.old)).said) }
+        ensures said { IfOk result (λ report. said_in report ∷ []
+            ≡ (obeyed context.now next (local_of tenant.now self.old)).said) }
         ensures fits { OnOk result ((obeyed context.now next (local_of tenant.now self.old)).fits ≡ true) }
         ensures fault { IfErr result (StopsFor (obeyed context.now next (local_of tenant.now self.old))) }
     {
@@ -107,7 +110,8 @@ impl Parts {
         receipt: Receipt,
     ) -> Result<SharedItem, Fault>
         ensures does { OnOk result (Does tenant.now (received context.now receipt) self.old self.new) }
-        ensures said { IfOk result (λ entry. Records entry ∷ [] ≡ (received context.now receipt (local_of tenant.now self.old)).said) }
+        ensures said { IfOk result (λ entry. Records entry ∷ []
+            ≡ (received context.now receipt (local_of tenant.now self.old)).said) }
         ensures fits { IfOk result (λ _. (received context.now receipt (local_of tenant.now self.old)).fits ≡ true) }
         ensures fault { IfErr result (StopsFor (received context.now receipt (local_of tenant.now self.old))) }
     {
@@ -132,8 +136,10 @@ impl Parts {
         ensures does { OnOk result (Does tenant.now (outcome context.now number tries status) self.old self.new) }
         ensures said { IfOk result (λ entry. records entry
             ≡ (outcome context.now number tries status (local_of tenant.now self.old)).said) }
-        ensures fits { IfOk result (λ _. (outcome context.now number tries status (local_of tenant.now self.old)).fits ≡ true) }
-        ensures fault { IfErr result (StopsFor (outcome context.now number tries status (local_of tenant.now self.old))) }
+        ensures fits { IfOk result (λ _. (outcome context.now number tries status (local_of tenant.now self.old)).fits
+            ≡ true) }
+        ensures fault { IfErr result (StopsFor
+            (outcome context.now number tries status (local_of tenant.now self.old))) }
     {
         let outcome = self
             .notifier
@@ -161,7 +167,8 @@ impl Parts {
         number: u64,
     ) -> Result<Option<Sending>, AllocError>
         ensures does { OnOk result (Does tenant.now (retried context.now number) self.old self.new) }
-        ensures said { IfOk result (λ sending. tells sending ≡ (retried context.now number (local_of tenant.now self.old)).said) }
+        ensures said { IfOk result (λ sending. tells sending
+            ≡ (retried context.now number (local_of tenant.now self.old)).said) }
     {
         self.notifier.retry(alloc, tenant, context.moment, number)
     }
@@ -169,7 +176,12 @@ impl Parts {
 
 // That the webhook of a notice was told.
 fn receipt_of(notice: Notice) -> Receipt
-    ensures { result ≡ record { key = notice.key; firing = notice.firing; resolved = notice.resolved; span = notice.span } }
+    ensures { result ≡ record {
+      key = notice.key;
+      firing = notice.firing;
+      resolved = notice.resolved;
+      span = notice.span;
+    } }
 {
     let Notice {
         key,

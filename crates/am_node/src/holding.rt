@@ -1,6 +1,6 @@
 //! What an instance begins with: the rows that its store kept.
 
-ghost use Rattle.std.specs.Prelude.{◌≡◌, ℕ, List, IfErr, IfOk, OnOk, true, if◌then◌else◌};
+ghost use Rattle.std.specs.Prelude.{◌≡◌, ℕ, List, IfErr, IfOk, OnOk, false, true, if◌then◌else◌};
 ghost use Rattle.std.specs.Cmp.Lexicographic.{slice_cmp};
 ghost use Rattle.std.specs.List.{list_any};
 ghost use Rattle.std.specs.List.Sorted.{IsStrictlySortedBy};
@@ -42,6 +42,8 @@ impl Parts {
         ensures planned { IfOk result (λ names. BeginsWith names.items self.new) }
         ensures asked { Asked result cache.old cache.new }
         ensures keeps { R.is_clean store.new ≡ true → OnOk result (Keeps (R.pairs store.old) (R.pairs store.new)) }
+        ensures left { R.is_clean store.new ≡ true → (R.medium store.new).is_shut ≡ false
+            → Keeps (R.pairs store.old) (R.pairs store.new) }
         ensures held { R.is_clean store.new ≡ true → OnOk result ((t : List ℕ) →
             local_of t self.new ≡ accepted moment (rows_of t (R.pairs store.old)) blank) }
         ensures fails { R.is_clean store.new ≡ true
@@ -70,6 +72,8 @@ impl Parts {
         ensures planned { OnOk result (BeginsWith names.now self.new) }
         ensures asked { Asked result cache.old cache.new }
         ensures keeps { R.is_clean store.new ≡ true → OnOk result (Keeps (R.pairs store.old) (R.pairs store.new)) }
+        ensures left { R.is_clean store.new ≡ true → (R.medium store.new).is_shut ≡ false
+            → Keeps (R.pairs store.old) (R.pairs store.new) }
         ensures held { R.is_clean store.new ≡ true → OnOk result ((t : List ℕ) → local_of t self.new ≡
             (if list_any (same t) names.now then accepted moment (rows_of t (R.pairs store.old)) blank else blank)) }
         ensures fails { R.is_clean store.new ≡ true

@@ -50,10 +50,12 @@ impl Muted {
         moment: Moment,
         cache: &mut PatternCache,
     ) -> Result<Muted, Fault>
-        ensures right { IfOk result (λ m. (t : List ℕ) → some_flush t due.now ≡ true → muted_for t m ≡ muted_at moment ((holds_of t replica.old).held)) }
+        ensures right { IfOk result (λ m. (t : List ℕ) → some_flush t due.now ≡ true → muted_for t m
+            ≡ muted_at moment ((holds_of t replica.old).held)) }
         ensures stays { replica.new ≡ replica.old }
         ensures asked { Asked result cache.old cache.new }
-        ensures fault { IfErr result (StopsMuting cache.new.refused moment (λ t. some_flush t due.now) (λ t. (holds_of t replica.old).held)) }
+        ensures fault { IfErr result (StopsMuting cache.new.refused moment (λ t. some_flush t due.now)
+            (λ t. (holds_of t replica.old).held)) }
     {
         let mut muted = Muted::new(alloc);
         for timer in due {
@@ -84,10 +86,12 @@ impl Muted {
         requires right { AreMuted moment (λ t. (holds_of t replica.old).held) self.old }
         ensures right { OnOk result (AreMuted moment (λ t. (holds_of t replica.old).held) self.new) }
         ensures kept { OnOk result ((t : List ℕ) → has_muted t self.old ≡ true → has_muted t self.new ≡ true) }
-        ensures found { OnOk result (is_flush timer.now.name.key ≡ true → has_muted timer.now.name.tenant self.new ≡ true) }
+        ensures found { OnOk result (is_flush timer.now.name.key ≡ true → has_muted timer.now.name.tenant self.new
+            ≡ true) }
         ensures stays { replica.new ≡ replica.old }
         ensures asked { Asked result cache.old cache.new }
-        ensures fault { IfErr result (StopsMuting cache.new.refused moment (λ t. is_flush_of t timer.now) (λ t. (holds_of t replica.old).held)) }
+        ensures fault { IfErr result (StopsMuting cache.new.refused moment (λ t. is_flush_of t timer.now)
+            (λ t. (holds_of t replica.old).held)) }
     {
         if self.is_needed(timer) {
             let tenant = &timer.name.tenant;
@@ -106,7 +110,8 @@ impl Muted {
 
     // Adds what is muted of a tenant.
     fn put(&mut self, tenant: &TenantName, sets: LabelSets) -> Result<(), AllocError>
-        ensures { OnOk result ((t : List ℕ) → lookup (λ s. same t s) self.new ≡ (if same t tenant.now then Some sets else lookup (λ s. same t s) self.old)) }
+        ensures { OnOk result ((t : List ℕ) → lookup (λ s. same t s) self.new
+            ≡ (if same t tenant.now then Some sets else lookup (λ s. same t s) self.old)) }
     {
         self.sets.insert(*tenant, sets)?;
         Ok(())
@@ -144,7 +149,8 @@ fn sets_of(
     ensures muted { IfOk result (λ sets. sets ≡ muted_at moment ((holds_of tenant.now replica.old).held)) }
     ensures stays { replica.new ≡ replica.old }
     ensures asked { Asked result cache.old cache.new }
-    ensures fault { IfErr result (StopsMuting cache.new.refused moment (λ t. same t tenant.now) (λ t. (holds_of t replica.old).held)) }
+    ensures fault { IfErr result (StopsMuting cache.new.refused moment (λ t. same t tenant.now)
+        (λ t. (holds_of t replica.old).held)) }
 {
     let (held, config) = replica.in_use(alloc, tenant)?;
     match muted_sets(alloc, held, config, moment, cache) {

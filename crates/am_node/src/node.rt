@@ -20,7 +20,8 @@ ghost use Rattle.am_replica.specs.Storing.{fault_in};
 ghost use Rattle.am_tenant.specs.Names.{same};
 ghost use Rattle.am_timer.specs.Queue.{due_at, timers_of};
 ghost use Rattle.am_timer.specs.Timer.{timer_cmp};
-ghost use Rattle.am_node.specs.Accepting.{StopsCommitting, StopsPositioning, accepted, accepted_for, counted, positioned};
+ghost use Rattle.am_node.specs.Accepting.{StopsCommitting, StopsPositioning, accepted, accepted_for, counted};
+ghost use Rattle.am_node.specs.Accepting.{positioned};
 ghost use Rattle.am_node.specs.Delivery.{is_awaited, outcome, records};
 ghost use Rattle.am_node.specs.Held.{Does, Makes, StopsFor, local_of};
 ghost use Rattle.am_node.specs.Holding.{BeginsWith};
@@ -149,7 +150,8 @@ impl Node {
         ensures* stays { sem 𝓛 (Rests the_row self.entry (λ new. (t : List ℕ) → local_of t new ≡ local_of t self.old)) }
         ensures held { IfOk result (λ used. used.0.now ≡ (local_of tenant.now self.old).held) }
         ensures rising { IfOk result (λ used. IsRising used.0.now) }
-        ensures configuration { IfOk result (λ used. used.1.now ≡ configuration_in (local_of tenant.now self.old).held) }
+        ensures configuration { IfOk result (λ used. used.1.now
+            ≡ configuration_in (local_of tenant.now self.old).held) }
     {
         self.parts.replica.in_use(alloc, tenant)
     }
@@ -205,6 +207,8 @@ impl Node {
         ensures begins { IfOk result (λ names. BeginsWith names.items self.new) }
         ensures stores { R.is_clean store.new ≡ true
             → OnOk result (AreStillStored self.new (R.pairs store.old) (R.pairs store.new)) }
+        ensures left { R.is_clean store.new ≡ true → (R.medium store.new).is_shut ≡ false
+            → Keeps (R.pairs store.old) (R.pairs store.new) }
         ensures fails { R.is_clean store.new ≡ true
             → IfErr result (IsCaused (MayRefuse (R.medium store.old) (R.medium store.new))) }
         ensures wears { R.is_clean store.new ≡ true → Wears (R.medium store.old) (R.medium store.new) }
@@ -299,7 +303,8 @@ impl Node {
         ensures fault { IfErr result (StopsCommitting cache.new.refused items.items (local_of tenant.now self.old)) }
         ensures clean { R.is_clean store.new ≡ true → R.is_clean store.old ≡ true }
         ensures open { OnOk result (R.is_open store.new ≡ true) }
-        ensures stores { R.is_clean store.new ≡ true → AreStored self.old (R.pairs store.old) → OnOk result (AreStored self.new (R.pairs store.new)) }
+        ensures stores { R.is_clean store.new ≡ true → AreStored self.old (R.pairs store.old)
+            → OnOk result (AreStored self.new (R.pairs store.new)) }
         ensures left { R.is_clean store.new ≡ true → AreStored self.old (R.pairs store.old) → LeavesStore
             (λ t. local_of t self.old) (λ t. accepted_for tenant.now moment items.items t (local_of t self.old))
             (R.rejects tenant.now items.items) (fault_in result) (R.medium store.old) (R.medium store.new) (R.pairs store.new) }
@@ -425,12 +430,15 @@ impl Node {
         store: &mut R,
     ) -> Result<Vec<Dispatch>, Fault>
         requires { R.is_open store.old ≡ true }
-        ensures ticks { IfOk result (λ all. TicksAll (context_for start.instance start.incarnation moment limits.now) (λ t. local_of t self.old) (λ t. local_of t self.new) all.items) }
+        ensures ticks { IfOk result (λ all. TicksAll (context_for start.instance start.incarnation moment limits.now)
+            (λ t. local_of t self.old) (λ t. local_of t self.new) all.items) }
         ensures asked { Asked result cache.old cache.new }
-        ensures fault { IfErr result (StopsTicking (context_for start.instance start.incarnation moment limits.now) (λ t. local_of t self.old) cache.new.refused) }
+        ensures fault { IfErr result (StopsTicking (context_for start.instance start.incarnation moment limits.now)
+            (λ t. local_of t self.old) cache.new.refused) }
         ensures clean { R.is_clean store.new ≡ true → R.is_clean store.old ≡ true }
         ensures open { OnOk result (R.is_open store.new ≡ true) }
-        ensures stores { R.is_clean store.new ≡ true → AreStored self.old (R.pairs store.old) → OnOk result (AreStored self.new (R.pairs store.new)) }
+        ensures stores { R.is_clean store.new ≡ true → AreStored self.old (R.pairs store.old)
+            → OnOk result (AreStored self.new (R.pairs store.new)) }
         ensures left { R.is_clean store.new ≡ true → AreStored self.old (R.pairs store.old) → LeavesStore
             (λ t. local_of t self.old) (λ t. retired moment (local_of t self.old))
             ⊥ (fault_in result) (R.medium store.old) (R.medium store.new) (R.pairs store.new) }
@@ -471,9 +479,12 @@ impl Node {
         ensures does { OnOk result (Does tenant.now (outcome context.now number tries status) self.old self.new) }
         ensures said { IfOk result (λ entry. records entry
             ≡ (outcome context.now number tries status (local_of tenant.now self.old)).said) }
-        ensures fits { IfOk result (λ _. (outcome context.now number tries status (local_of tenant.now self.old)).fits ≡ true) }
-        ensures stored { OnOk result ((t : List ℕ) → stored_in (local_of t self.new).held ≡ stored_in (local_of t self.old).held) }
-        ensures fault { IfErr result (StopsFor (outcome context.now number tries status (local_of tenant.now self.old))) }
+        ensures fits { IfOk result (λ _. (outcome context.now number tries status (local_of tenant.now self.old)).fits
+            ≡ true) }
+        ensures stored { OnOk result ((t : List ℕ) → stored_in (local_of t self.new).held
+            ≡ stored_in (local_of t self.old).held) }
+        ensures fault { IfErr result (StopsFor
+            (outcome context.now number tries status (local_of tenant.now self.old))) }
     {
         let parts = &mut self.parts;
         match parts.outcome(alloc, tenant, context, number, tries, status) {

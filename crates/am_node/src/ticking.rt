@@ -55,12 +55,15 @@ impl Parts {
     ) -> Result<Vec<Dispatch>, Fault>
         requires planned { (t : List ℕ) → IsPlanned (local_of t self.old) }
         requires open { R.is_open store.old ≡ true }
-        ensures ticks { IfOk result (λ all. TicksAll (context_for start.instance start.incarnation moment limits.now) (λ t. local_of t self.old) (λ t. local_of t self.new) all.items) }
+        ensures ticks { IfOk result (λ all. TicksAll (context_for start.instance start.incarnation moment limits.now)
+            (λ t. local_of t self.old) (λ t. local_of t self.new) all.items) }
         ensures asked { Asked result cache.old cache.new }
-        ensures fault { IfErr result (StopsTicking (context_for start.instance start.incarnation moment limits.now) (λ t. local_of t self.old) cache.new.refused) }
+        ensures fault { IfErr result (StopsTicking (context_for start.instance start.incarnation moment limits.now)
+            (λ t. local_of t self.old) cache.new.refused) }
         ensures clean { R.is_clean store.new ≡ true → R.is_clean store.old ≡ true }
         ensures open { OnOk result (R.is_open store.new ≡ true) }
-        ensures stores { R.is_clean store.new ≡ true → AreStored self.old (R.pairs store.old) → OnOk result (AreStored self.new (R.pairs store.new)) }
+        ensures stores { R.is_clean store.new ≡ true → AreStored self.old (R.pairs store.old)
+            → OnOk result (AreStored self.new (R.pairs store.new)) }
         ensures left { R.is_clean store.new ≡ true → AreStored self.old (R.pairs store.old) → LeavesStore
             (λ t. local_of t self.old) (λ t. retired moment (local_of t self.old))
             ⊥ (fault_in result) (R.medium store.old) (R.medium store.new) (R.pairs store.new) }
@@ -79,9 +82,11 @@ impl Parts {
         cache: &mut PatternCache,
     ) -> Result<Vec<Dispatch>, Fault>
         requires planned { (t : List ℕ) → IsPlanned (local_of t self.old) }
-        ensures done { IfOk result (λ all. DoesDue (context_for start.instance start.incarnation moment limits.now) (λ t. local_of t self.old) (λ t. local_of t self.new) all.items) }
+        ensures done { IfOk result (λ all. DoesDue (context_for start.instance start.incarnation moment limits.now)
+            (λ t. local_of t self.old) (λ t. local_of t self.new) all.items) }
         ensures asked { Asked result cache.old cache.new }
-        ensures fault { IfErr result (StopsDoing (context_for start.instance start.incarnation moment limits.now) (λ t. local_of t self.old) cache.new.refused) }
+        ensures fault { IfErr result (StopsDoing (context_for start.instance start.incarnation moment limits.now)
+            (λ t. local_of t self.old) cache.new.refused) }
     {
         let (due, muted) = self.due(alloc, moment, cache)?;
         self.handle_all(alloc, start, moment, limits, &due, &muted)
@@ -95,12 +100,15 @@ impl Parts {
         moment: Moment,
         cache: &mut PatternCache,
     ) -> Result<(Vec<Timer>, Muted), Fault>
-        ensures due { IfOk result (λ found. (t : List ℕ) → timers_of t found.0.items ≡ due_at moment (timers_in t (local_of t self.old).plan)) }
+        ensures due { IfOk result (λ found. (t : List ℕ) → timers_of t found.0.items
+            ≡ due_at moment (timers_in t (local_of t self.old).plan)) }
         ensures order { IfOk result (λ found. IsStrictlySortedBy timer_cmp found.0.items) }
-        ensures muted { IfOk result (λ found. (t : List ℕ) → some_flush t found.0.items ≡ true → muted_for t found.1 ≡ muted_at moment (local_of t self.old).held) }
+        ensures muted { IfOk result (λ found. (t : List ℕ) → some_flush t found.0.items ≡ true → muted_for t found.1
+            ≡ muted_at moment (local_of t self.old).held) }
         ensures stays { self.new ≡ self.old }
         ensures asked { Asked result cache.old cache.new }
-        ensures fault { IfErr result (StopsMuting cache.new.refused moment (λ t. has_flush t moment (local_of t self.old).plan) (λ t. (local_of t self.old).held)) }
+        ensures fault { IfErr result (StopsMuting cache.new.refused moment
+            (λ t. has_flush t moment (local_of t self.old).plan) (λ t. (local_of t self.old).held)) }
     {
         let due = self.notifier.due(alloc, moment)?;
         let muted = Muted::of(alloc, &mut self.replica, &due, moment, cache)?;
@@ -118,8 +126,12 @@ impl Parts {
         muted: &Muted,
     ) -> Result<Vec<Dispatch>, Fault>
         requires planned { (t : List ℕ) → IsPlanned (local_of t self.old) }
-        ensures handled { IfOk result (λ all. AreHandled (context_for start.instance start.incarnation moment limits.now) muted.now due.now (λ t. local_of t self.old) (λ t. local_of t self.new) all.items) }
-        ensures fault { IfErr result (StopsHandling (context_for start.instance start.incarnation moment limits.now) muted.now due.now (λ t. local_of t self.old)) }
+        ensures handled { IfOk result (λ all. AreHandled
+            (context_for start.instance start.incarnation moment limits.now) muted.now due.now
+            (λ t. local_of t self.old) (λ t. local_of t self.new) all.items) }
+        ensures fault { IfErr result (StopsHandling
+            (context_for start.instance start.incarnation moment limits.now) muted.now due.now
+            (λ t. local_of t self.old)) }
     {
         let mut all = Vec::new(alloc);
         for timer in due {
@@ -146,10 +158,14 @@ impl Parts {
         muted: &Muted,
     ) -> Result<Vec<Report>, Fault>
         requires planned { IsPlanned (local_of tenant.now self.old) }
-        ensures does { OnOk result (Does tenant.now (handled context.now (muted_for tenant.now muted.now) key.now) self.old self.new) }
-        ensures said { IfOk result (λ v. map said_in v.items ≡ (handled context.now (muted_for tenant.now muted.now) key.now (local_of tenant.now self.old)).said) }
-        ensures fits { IfOk result (λ _. (handled context.now (muted_for tenant.now muted.now) key.now (local_of tenant.now self.old)).fits ≡ true) }
-        ensures fault { IfErr result (StopsFor (handled context.now (muted_for tenant.now muted.now) key.now (local_of tenant.now self.old))) }
+        ensures does { OnOk result (Does tenant.now
+            (handled context.now (muted_for tenant.now muted.now) key.now) self.old self.new) }
+        ensures said { IfOk result (λ v. map said_in v.items
+            ≡ (handled context.now (muted_for tenant.now muted.now) key.now (local_of tenant.now self.old)).said) }
+        ensures fits { IfOk result (λ _. (handled context.now (muted_for tenant.now muted.now) key.now
+            (local_of tenant.now self.old)).fits ≡ true) }
+        ensures fault { IfErr result (StopsFor
+            (handled context.now (muted_for tenant.now muted.now) key.now (local_of tenant.now self.old))) }
     {
         match key {
             TimerKey::Group(group) => self.flush_due(alloc, tenant, context, group, muted),

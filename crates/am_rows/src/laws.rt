@@ -8,6 +8,8 @@ ghost use Rattle.am_rows.specs.Rows.{put_rows, stored_in, without_key};
 
 /// What is put where what is held is stored is what is held then.
 pub fn rows_follow()
-    ensures put { (held items : List Item) → IsRising held → put_rows items (stored_in held) ≡ stored_in (all_joined held items) }
-    ensures dropped { (key : Key) (held : List Item) → without_key key (stored_in held) ≡ stored_in (filter (λ item. not (has_key key item)) held) }
+    ensures put { (held items : List Item) → IsRising held → put_rows items (stored_in held)
+        ≡ stored_in (all_joined held items) }
+    ensures dropped { (key : Key) (held : List Item) → without_key key (stored_in held)
+        ≡ stored_in (filter (λ item. not (has_key key item)) held) }
 {}

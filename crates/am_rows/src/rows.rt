@@ -10,7 +10,8 @@ ghost use Rattle.am_item.specs.Best.{IsRising};
 ghost use Rattle.am_item.specs.Key.{SilenceKey};
 ghost use Rattle.am_tenant.specs.Names.{same};
 ghost use Rattle.am_rows.specs.Refusing.{IsCaused, IsJudged, MayRefuse, Medium, Wears};
-ghost use Rattle.am_rows.specs.Rows.{Keeps, Makes, no_rows, put_rows, rows_of, stored_in, without_key, without_silences};
+ghost use Rattle.am_rows.specs.Rows.{Keeps, Makes, no_rows, put_rows, rows_of, stored_in, without_key};
+ghost use Rattle.am_rows.specs.Rows.{without_silences};
 
 use crate::refusal::StoreRefusal;
 use am_item::{SharedItem, SilenceId};
@@ -79,7 +80,7 @@ pub trait Rows {
     /// What it has of a tenant: its configuration, then its silences in order of identifier.
     ///
     /// # Errors
-    /// `F2`, `F3` for a row that is no item of a tenant, or out of memory.
+    /// `F2`, `F3` for a row that is no item of a tenant, or out of memory. All rows stay.
     fn rows_of(
         &mut self,
         alloc: Global,
@@ -88,16 +89,20 @@ pub trait Rows {
         requires { is_open self.old ≡ true }
         ensures clean { is_clean self.new ≡ true → is_clean self.old ≡ true }
         ensures open { OnOk result (is_open self.new ≡ true) }
-        ensures rows { is_clean self.new ≡ true → IfOk result (λ items. items.items ≡ rows_of tenant.now (pairs self.old)) }
+        ensures rows { is_clean self.new ≡ true
+            → IfOk result (λ items. items.items ≡ rows_of tenant.now (pairs self.old)) }
         ensures stored { IfOk result (λ items. stored_in items.items ≡ items.items) }
         ensures stays { is_clean self.new ≡ true → OnOk result (Keeps (pairs self.old) (pairs self.new)) }
-        ensures fails { is_clean self.new ≡ true → IfErr result (IsCaused (MayRefuse (medium self.old) (medium self.new))) }
+        ensures err { is_clean self.new ≡ true → (medium self.new).is_shut ≡ false
+            → OnErr result (Keeps (pairs self.old) (pairs self.new)) }
+        ensures fails { is_clean self.new ≡ true
+            → IfErr result (IsCaused (MayRefuse (medium self.old) (medium self.new))) }
         ensures wears { is_clean self.new ≡ true → Wears (medium self.old) (medium self.new) };
 
     /// The tenants of which it has something, each once, in order of name: no other tenant has a row.
     ///
     /// # Errors
-    /// `F2`, or out of memory.
+    /// `F2`, or out of memory. All rows stay.
     fn tenants(&mut self, alloc: Global) -> Result<Vec<TenantName>, Failure<StoreRefusal>>
         requires { is_open self.old ≡ true }
         ensures clean { is_clean self.new ≡ true → is_clean self.old ≡ true }
@@ -106,7 +111,10 @@ pub trait Rows {
         ensures names { is_clean self.new ≡ true → IfOk result (λ names. (t : List ℕ)
             → list_any (same t) names.items ≡ false → rows_of t (pairs self.old) ≡ []) }
         ensures stays { is_clean self.new ≡ true → OnOk result (Keeps (pairs self.old) (pairs self.new)) }
-        ensures fails { is_clean self.new ≡ true → IfErr result (IsCaused (MayRefuse (medium self.old) (medium self.new))) }
+        ensures err { is_clean self.new ≡ true → (medium self.new).is_shut ≡ false
+            → OnErr result (Keeps (pairs self.old) (pairs self.new)) }
+        ensures fails { is_clean self.new ≡ true
+            → IfErr result (IsCaused (MayRefuse (medium self.old) (medium self.new))) }
         ensures wears { is_clean self.new ≡ true → Wears (medium self.old) (medium self.new) };
 
     /// Drops a silence of a tenant, and commits that.
@@ -125,7 +133,8 @@ pub trait Rows {
             → OnOk result (Makes tenant.now (without_key (SilenceKey id.now)) (pairs self.old) (pairs self.new)) }
         ensures err { is_clean self.new ≡ true → (medium self.new).is_shut ≡ false
             → OnErr result (Keeps (pairs self.old) (pairs self.new)) }
-        ensures fails { is_clean self.new ≡ true → IfErr result (IsCaused (MayRefuse (medium self.old) (medium self.new))) }
+        ensures fails { is_clean self.new ≡ true
+            → IfErr result (IsCaused (MayRefuse (medium self.old) (medium self.new))) }
         ensures wears { is_clean self.new ≡ true → Wears (medium self.old) (medium self.new) };
 
     /// Drops silences, each named with its tenant, and commits that, all or none. It costs one commit, and none where none
@@ -144,7 +153,8 @@ pub trait Rows {
             rows_of t (pairs self.new) ≡ without_silences silences.now t (rows_of t (pairs self.old))) }
         ensures err { is_clean self.new ≡ true → (medium self.new).is_shut ≡ false
             → OnErr result (Keeps (pairs self.old) (pairs self.new)) }
-        ensures fails { is_clean self.new ≡ true → IfErr result (IsCaused (MayRefuse (medium self.old) (medium self.new))) }
+        ensures fails { is_clean self.new ≡ true
+            → IfErr result (IsCaused (MayRefuse (medium self.old) (medium self.new))) }
         ensures wears { is_clean self.new ≡ true → Wears (medium self.old) (medium self.new) };
 
     /// Drops all rows of a tenant, and commits that.
@@ -155,9 +165,11 @@ pub trait Rows {
         requires { is_open self.old ≡ true }
         ensures clean { is_clean self.new ≡ true → is_clean self.old ≡ true }
         ensures open { OnOk result (is_open self.new ≡ true) }
-        ensures dropped { is_clean self.new ≡ true → OnOk result (Makes tenant.now no_rows (pairs self.old) (pairs self.new)) }
+        ensures dropped { is_clean self.new ≡ true
+            → OnOk result (Makes tenant.now no_rows (pairs self.old) (pairs self.new)) }
         ensures err { is_clean self.new ≡ true → (medium self.new).is_shut ≡ false
             → OnErr result (Keeps (pairs self.old) (pairs self.new)) }
-        ensures fails { is_clean self.new ≡ true → IfErr result (IsCaused (MayRefuse (medium self.old) (medium self.new))) }
+        ensures fails { is_clean self.new ≡ true
+            → IfErr result (IsCaused (MayRefuse (medium self.old) (medium self.new))) }
         ensures wears { is_clean self.new ≡ true → Wears (medium self.old) (medium self.new) };
 }

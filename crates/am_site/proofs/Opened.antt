@@ -1,5 +1,5 @@
 -- What an instance has once its store was opened, and what rows that store has.
-use Rattle.std.proofs.Common.{◌≡◌, inl, inr, ℕ, zero, suc, ◌==◌, nat_lt, Bool, true, false, ◌&&◌, ◌||◌, List, [], ◌∷◌, ◌++◌, filter, Some, None, is_some, arith, ap, ap₂, refl, sym, ◌∙◌, if◌then◌else◌}
+use Rattle.std.proofs.Common.{◌≡◌, ◌⊎◌, inl, inr, ℕ, zero, suc, ◌==◌, nat_lt, Bool, true, false, ◌&&◌, ◌||◌, List, [], ◌∷◌, ◌++◌, filter, Some, None, is_some, arith, ap, ap₂, refl, sym, ◌∙◌, if◌then◌else◌}
 use Rattle.std.specs.List.{list_any}
 use Rattle.std.proofs.lemmas.Bool.{and_right, cases_Bool, cond-false, cond-true, le-ltb, ne_eqb}
 use Rattle.std.proofs.lemmas.List.Folds.{list_any-append}
@@ -29,7 +29,7 @@ use Rattle.am_tenant.proofs.Same.{eq_from_same}
 use Rattle.am_transfer.specs.Settling.{Settling}
 use Rattle.am_transfer.specs.Tenants.{settling_of}
 use Rattle.am_site.specs.Locals.{from_rooms, local_of}
-use Rattle.am_site.specs.Opening.{AreOpened, BeginsWith, KeepsOwn, KeepsOwnAmong, own_rows}
+use Rattle.am_site.specs.Opening.{AreOpened, BeginsWith, KeepsOwn, KeepsOwnAmong, MayKeepOwn, own_rows}
 use Rattle.am_site.specs.declared.site.Site.{Site}
 use Rattle.am_site.proofs.Carrying.{with_node}
 
@@ -115,6 +115,28 @@ module _ (ring : List ℕ) (i : ℕ) where
 
   abbrev own_among : Bool → List ℕ → List Item → List Item
   own_among b t rows = if b then own_rows ring i t rows else rows
+
+  -- they are kept of some tenants, and all stay then
+  pub some_kept : (names : List (List ℕ)) (old mid new : Pairs) → KeepsOwnAmong names ring i old mid → KeepsRows mid new → MayKeepOwn ring i old new
+  some_kept names old mid new kept stays t = by (list_any (same t) names) (stays t ∙ kept t)
+    where
+      by : (b : Bool) → rows_of t new ≡ own_among b t (rows_of t old) → (rows_of t new ≡ rows_of t old) ⊎ (rows_of t new ≡ own_rows ring i t (rows_of t old))
+      by true is = inr is
+      by false is = inl is
+
+  -- all stay, and then some are kept
+  pub kept_behind : (old mid new : Pairs) → KeepsRows old mid → MayKeepOwn ring i mid new → MayKeepOwn ring i old new
+  kept_behind old mid new stays may t = elim (may t) [
+    | inl is ↦ inl (is ∙ stays t)
+    | inr is ↦ inr (is ∙ ap (own_rows ring i t) (stays t))
+  ]
+
+  -- they are kept, and all stay then
+  pub kept_ahead : (old mid new : Pairs) → KeepsOwn ring i old mid → KeepsRows mid new → KeepsOwn ring i old new
+  kept_ahead old mid new kept stays t = stays t ∙ kept t
+
+  pub all_kept : (old new : Pairs) → KeepsOwn ring i old new → MayKeepOwn ring i old new
+  all_kept old new kept t = inr (kept t)
 
   pub none_come : (pairs : Pairs) → KeepsOwnAmong [] ring i pairs pairs
   none_come pairs t = refl

@@ -1,5 +1,5 @@
 -- What the opening of a store makes of an instance of several, and of the store.
-use Rattle.std.specs.Prelude.{◌≡◌, ℕ, false, List, [], Some, if◌then◌else◌}
+use Rattle.std.specs.Prelude.{◌≡◌, ◌⊎◌, ℕ, false, List, [], Some, if◌then◌else◌}
 use Rattle.std.specs.List.{list_any}
 use Rattle.am_cluster.specs.Here.{Here}
 use Rattle.am_cluster.specs.Local.{blank}
@@ -38,6 +38,11 @@ own_rows ring instance t rows = if is_replica t ring instance then rows else []
 
 abbrev pub KeepsOwn : (ring : List ℕ) → (instance : ℕ) → (old new : List (List ℕ × Item)) → Type 0
 KeepsOwn ring instance old new = (t : List ℕ) → rows_of t new ≡ own_rows ring instance t (rows_of t old)
+
+-- the rows of each tenant are those of before, or of these what an instance keeps
+abbrev pub MayKeepOwn : (ring : List ℕ) → (instance : ℕ) → (old new : List (List ℕ × Item)) → Type 0
+MayKeepOwn ring instance old new =
+    (t : List ℕ) → (rows_of t new ≡ rows_of t old) ⊎ (rows_of t new ≡ own_rows ring instance t (rows_of t old))
 
 -- .. of these tenants, and all of any other
 abbrev pub KeepsOwnAmong : List (List ℕ) → (ring : List ℕ) → (instance : ℕ) → (old new : List (List ℕ × Item)) → Type 0

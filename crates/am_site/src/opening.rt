@@ -1,13 +1,14 @@
 //! What an instance begins with: the rows that its store kept of the tenants of which it is a replica.
 
-ghost use Rattle.std.specs.Prelude.{◌≡◌, ℕ, List, IfErr, IfOk, OnOk, true};
+ghost use Rattle.std.specs.Prelude.{◌≡◌, ℕ, List, IfErr, IfOk, OnErr, OnOk, false, true};
 ghost use Rattle.am_cluster.specs.Local.{blank};
 ghost use Rattle.am_node.specs.Storing.{AreStored};
 ghost use Rattle.am_pattern.specs.Asking.{Asked};
 ghost use Rattle.am_rows.specs.Refusing.{IsCaused, IsJudged, MayRefuse, Wears};
-ghost use Rattle.am_rows.specs.Rows.{Makes as MakesRows};
+ghost use Rattle.am_rows.specs.Rows.{Keeps as KeepsRows, Makes as MakesRows};
 ghost use Rattle.am_site.specs.Locals.{local_of};
-ghost use Rattle.am_site.specs.Opening.{AreOpened, BeginsWith, KeepsOwn, KeepsOwnAmong, KeepsRest, own_rows};
+ghost use Rattle.am_site.specs.Opening.{AreOpened, BeginsWith, KeepsOwn, KeepsOwnAmong, KeepsRest, MayKeepOwn};
+ghost use Rattle.am_site.specs.Opening.{own_rows};
 
 use crate::site::Site;
 use am_pattern::PatternCache;
@@ -24,7 +25,7 @@ impl Site {
     ///
     /// # Errors
     /// `F2` where a call of the database was refused, `F3` where it is no store, or out of memory. What it has of other
-    /// tenants may be dropped then.
+    /// tenants may be dropped then, and all else stays, unless a failure shut the store.
     pub fn open<R: Rows>(
         &mut self,
         alloc: Global,
@@ -43,6 +44,10 @@ impl Site {
         ensures clean { R.is_clean store.new ≡ true → R.is_clean store.old ≡ true }
         ensures open { OnOk result (R.is_open store.new ≡ true) }
         ensures stores { R.is_clean store.new ≡ true → OnOk result (AreStored self.new.node (R.pairs store.new)) }
+        ensures kept { R.is_clean store.new ≡ true → OnOk result
+            (KeepsOwn ring.now.instances instance (R.pairs store.old) (R.pairs store.new)) }
+        ensures left { R.is_clean store.new ≡ true → (R.medium store.new).is_shut ≡ false
+            → MayKeepOwn ring.now.instances instance (R.pairs store.old) (R.pairs store.new) }
         ensures fails { R.is_clean store.new ≡ true
             → IfErr result (IsJudged (R.is_foreign store.old) (MayRefuse (R.medium store.old) (R.medium store.new))) }
     {
@@ -66,6 +71,8 @@ fn keep_own<R: Rows>(
     ensures open { OnOk result (R.is_open store.new ≡ true) }
     ensures kept { R.is_clean store.new ≡ true → OnOk result
         (KeepsOwn ring.now.instances instance (R.pairs store.old) (R.pairs store.new)) }
+    ensures left { R.is_clean store.new ≡ true → (R.medium store.new).is_shut ≡ false
+        → MayKeepOwn ring.now.instances instance (R.pairs store.old) (R.pairs store.new) }
     ensures fails { R.is_clean store.new ≡ true
         → IfErr result (IsCaused (MayRefuse (R.medium store.old) (R.medium store.new))) }
     ensures wears { R.is_clean store.new ≡ true → Wears (R.medium store.old) (R.medium store.new) }
@@ -86,6 +93,8 @@ fn keep_own_among<R: Rows>(
     ensures open { OnOk result (R.is_open store.new ≡ true) }
     ensures kept { R.is_clean store.new ≡ true → OnOk result
         (KeepsOwnAmong names.now ring.now.instances instance (R.pairs store.old) (R.pairs store.new)) }
+    ensures left { R.is_clean store.new ≡ true → (R.medium store.new).is_shut ≡ false
+        → MayKeepOwn ring.now.instances instance (R.pairs store.old) (R.pairs store.new) }
     ensures fails { R.is_clean store.new ≡ true
         → IfErr result (IsCaused (MayRefuse (R.medium store.old) (R.medium store.new))) }
     ensures wears { R.is_clean store.new ≡ true → Wears (R.medium store.old) (R.medium store.new) }
@@ -108,6 +117,8 @@ fn keep_if_own<R: Rows>(
     ensures open { OnOk result (R.is_open store.new ≡ true) }
     ensures kept { R.is_clean store.new ≡ true → OnOk result (MakesRows tenant.now
         (own_rows ring.now.instances instance tenant.now) (R.pairs store.old) (R.pairs store.new)) }
+    ensures err { R.is_clean store.new ≡ true → (R.medium store.new).is_shut ≡ false
+        → OnErr result (KeepsRows (R.pairs store.old) (R.pairs store.new)) }
     ensures fails { R.is_clean store.new ≡ true
         → IfErr result (IsCaused (MayRefuse (R.medium store.old) (R.medium store.new))) }
     ensures wears { R.is_clean store.new ≡ true → Wears (R.medium store.old) (R.medium store.new) }

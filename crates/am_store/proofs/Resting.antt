@@ -1,5 +1,5 @@
 -- Calls that write nothing.
-use Rattle.std.proofs.Common.{◌⊎◌, inl, inr, List, ℕ, Result, Ok, Err, IfErr, IfOk, sym, ◌∙◌}
+use Rattle.std.proofs.Common.{◌≡◌, ◌⊎◌, inl, inr, List, ℕ, Result, Ok, Err, IfErr, IfOk, IsTrue, sym, ◌∙◌}
 use Rattle.std.specs.Global.{Vec}
 use Rattle.sqlite.specs.declared.error.Error.{Error}
 use Rattle.sqlite.specs.Listing.{understood}
@@ -46,3 +46,9 @@ rests_then a b c one two = record {
             (end.0 ∙ mid.0, end.1 ∙ mid.1),
       );
 }
+
+-- what was seen is still seen, where all of it was committed and no failure shut the connection
+pub rests_same : (old new : State) → Rests old new → (IsTrue old.is_open → old.now ≡ old.committed) → HasCleanDisk new → IsTrue new.is_open → IsSame old new
+rests_same old new rests settled clean still =
+    let kept = rests.same clean still in
+    kept.1 (settled kept.0)

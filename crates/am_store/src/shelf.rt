@@ -127,6 +127,8 @@ impl<S: Alter> Rows for Shelf<S> {
         tenant: &TenantName,
     ) -> Result<Vec<SharedItem>, Failure<StoreRefusal>> {
         self.is_open = false;
+        // (so it is told that nothing is uncommitted: what a refused read leaves is what was committed)
+        let _settled = self.conn.is_autocommit();
         match rows::rows_of(alloc, &mut self.conn, tenant) {
             Ok(items) => {
                 self.is_open = true;
@@ -138,6 +140,8 @@ impl<S: Alter> Rows for Shelf<S> {
 
     fn tenants(&mut self, alloc: Global) -> Result<Vec<TenantName>, Failure<StoreRefusal>> {
         self.is_open = false;
+        // (so it is told that nothing is uncommitted: what a refused read leaves is what was committed)
+        let _settled = self.conn.is_autocommit();
         match tenants::tenants(alloc, &mut self.conn) {
             Ok(names) => {
                 self.is_open = true;

@@ -25,7 +25,8 @@ pub(crate) fn names_in(
     pairs: &[(TenantName, SharedItem)],
 ) -> Result<Vec<TenantName>, AllocError>
     ensures order { IfOk result (λ names. IsStrictlySortedBy (slice_cmp nat_cmp) names.items) }
-    ensures names { IfOk result (λ names. (t : List ℕ) → list_any (same t) names.items ≡ list_any (λ pair. same t pair.0) pairs.now) }
+    ensures names { IfOk result (λ names. (t : List ℕ) → list_any (same t) names.items
+        ≡ list_any (λ pair. same t pair.0) pairs.now) }
 {
     let mut names = Vec::with_capacity(alloc, pairs.len())?;
     for (name, _) in pairs {

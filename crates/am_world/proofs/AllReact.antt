@@ -34,7 +34,7 @@ use Rattle.am_world.proofs.TickPlaces.{CountsFrom, all_counted, not_later}
 
 -- ---- lists of several, one after the other
 
-or_nothing : {X : Type 0} (o : Option X) → option_or o None ≡ o
+pub or_nothing : {X : Type 0} (o : Option X) → option_or o None ≡ o
 or_nothing None = refl
 or_nothing (Some x) = refl
 

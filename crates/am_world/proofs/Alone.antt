@@ -43,8 +43,9 @@ use Rattle.am_tenant.proofs.Same.{same-refl}
 use Rattle.am_text.specs.Moment.{greatest_moment}
 use Rattle.am_world.proofs.AloneOwn.{AreOf, IsOf, SaysOwn}
 use Rattle.am_world.proofs.AlonePlaces.{at_each, exists_then, incarnation_here, incarnations_are, known_here}
-use Rattle.am_world.proofs.AlonePlaces.{local_here, local_other, locals_then, map_alike, number_of, roster_stays}
+use Rattle.am_world.proofs.AlonePlaces.{local_here, local_other, locals_then, map_alike, roster_stays}
 use Rattle.am_world.proofs.AlonePlaces.{roster_then, up_here}
+use Rattle.am_world.proofs.InstancesLemmas.{number_of}
 use Rattle.am_world.proofs.Posted.{just_sent, posted_alike, posted_of_others}
 
 -- ---- what is asked of a reaction

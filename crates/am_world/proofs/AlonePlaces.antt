@@ -18,18 +18,6 @@ use Rattle.am_world.specs.declared.state.State.{State}
 
 -- ---- one instance by its number
 
--- an instance has the number by which it is found
-pub number_of : (i : ℕ) (xs : List Instance) (x : Instance) → instance_at i xs ≡ Some x → x.number ≡ i
-unfolding instance_at
-number_of i [] x e = cc
-number_of i (y ∷ xs) x e = elim (cases_Bool (nat_eq y.number i)) [
-  | inl h ↦
-      let same : y ≡ x = (let f = rw h at e in cc) in
-      let number : y.number ≡ i = grind (arith, nat_tests) in
-      ap (λ (z : Instance). z.number) (sym same) ∙ number
-  | inr h ↦ number_of i xs x (rw h at e)
-]
-
 -- where all have the same numbers, one is found where the other is
 found_by : (i : ℕ) (xs ys : List Instance) (x : Instance)
     → map (λ (z : Instance). z.number) xs ≡ map (λ (z : Instance). z.number) ys → instance_at i xs ≡ Some x

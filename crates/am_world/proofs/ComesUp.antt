@@ -45,10 +45,10 @@ use Rattle.am_world.specs.Simulation.{fault_count, put_out}
 use Rattle.am_world.specs.Turning.{IsStopped}
 use Rattle.am_world.specs.declared.state.State.{State}
 use Rattle.am_world.proofs.AloneOwn.{IsOf}
-use Rattle.am_world.proofs.AlonePlaces.{at_each, incarnations_are, map_alike, number_of}
+use Rattle.am_world.proofs.AlonePlaces.{at_each, incarnations_are, map_alike}
 use Rattle.am_world.proofs.Fresh.{IsNext, SaysNext, TellsNext, counted_in, said_next, word_next}
 use Rattle.am_world.proofs.FreshPast.{told_next, was_or_next}
-use Rattle.am_world.proofs.InstancesLemmas.{turns_then}
+use Rattle.am_world.proofs.InstancesLemmas.{number_of, turns_then}
 use Rattle.am_world.proofs.TickSaid.{AllOwned, Owns, each_said}
 
 -- ---- what one says that was just opened

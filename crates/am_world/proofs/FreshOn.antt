@@ -20,10 +20,10 @@ use Rattle.am_world.specs.Shelves.{IsQuiet}
 use Rattle.am_world.specs.Simulation.{IsSameBeside}
 use Rattle.am_world.specs.declared.common.Common.{Common}
 use Rattle.am_world.specs.declared.state.State.{State}
-use Rattle.am_world.proofs.AlonePlaces.{number_of}
 use Rattle.am_world.proofs.Fresh.{CountsOn, IsNext, counted_in}
 use Rattle.am_world.proofs.FreshKept.{past_but}
 use Rattle.am_world.proofs.FreshPast.{told_next, was_or_next}
+use Rattle.am_world.proofs.InstancesLemmas.{number_of}
 use Rattle.am_world.proofs.Placed.{each_but}
 use Rattle.am_world.proofs.Reached.{NotEarlier, reached_alike, reached_at}
 use Rattle.am_world.proofs.Turned.{whole_at}

@@ -30,9 +30,10 @@ use Rattle.am_world.specs.Posting.{ArePast, AreReached, HasCounted, HasReached, 
 use Rattle.am_world.specs.Posting.{is_of_name, posted_by, posted_over}
 use Rattle.am_world.specs.Shelves.{IsQuiet}
 use Rattle.am_world.proofs.AloneOwn.{SaysOwn}
-use Rattle.am_world.proofs.AlonePlaces.{exists_then, number_of}
+use Rattle.am_world.proofs.AlonePlaces.{exists_then}
 use Rattle.am_world.proofs.Fresh.{CountsOn, IsNext, TellsNext, brings_on, counted_in, reacts_on}
 use Rattle.am_world.proofs.Fresh.{receives_on, ticks_on}
+use Rattle.am_world.proofs.InstancesLemmas.{number_of}
 
 -- ---- what is there once messages are posted
 

@@ -16,10 +16,10 @@ use Rattle.am_world.specs.Places.{AreNumbered, At, Turns, cause_at, cause_where,
 use Rattle.am_world.specs.Posting.{posted_over}
 use Rattle.am_world.specs.Simulation.{IsSameBeside, fault_count, put_out}
 use Rattle.am_world.specs.declared.state.State.{State}
-use Rattle.am_world.proofs.AlonePlaces.{number_of}
 use Rattle.am_world.proofs.TickPlaces.{CountsFrom, all_counted, not_later, standing, turns_same}
 use Rattle.am_world.proofs.TickSaid.{AreFrom, unposted_from}
 use Rattle.am_world.proofs.TickTurns.{CountsUp, counts_more, filter_later, length_first, told_later}
+use Rattle.am_world.proofs.InstancesLemmas.{number_of}
 
 -- ---- what several do
 

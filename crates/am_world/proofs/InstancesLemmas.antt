@@ -91,7 +91,7 @@ same_step q p = elim (cases_Bool (nat_eq q p)) [
   | inr e ↦ let next : nat_eq (suc q) (suc p) ≡ false = grind (arith, nat_tests) in e ∙ sym next
 ]
 
-set_get : {A : Type 0} (xs : List A) (p q : ℕ) (y : A) → p < length xs →
+pub set_get : {A : Type 0} (xs : List A) (p q : ℕ) (y : A) → p < length xs →
     slice_get (slice_set xs p y) q ≡ (if nat_eq q p then Some y else slice_get xs q)
 set_get [] p q y less = absurd (omega arith)
 set_get (x ∷ xs) zero zero y less = refl
@@ -295,10 +295,6 @@ nobody_reads c xs none i x found =
 
 pub exists_here : (i : ℕ) (xs : List Instance) (x : Instance) → instance_at i xs ≡ Some x → IsSome (instance_at i xs)
 exists_here i xs x here = is_found (instance_at i xs) x here
-
-pub up_here : (i : ℕ) (xs : List Instance) (x : Instance) → instance_at i xs ≡ Some x → up_at i xs ≡ x.up
-unfolding up_at
-up_here i xs x here = rw here refl
 
 pub up_nowhere : (i : ℕ) (xs : List Instance) → instance_at i xs ≡ None → up_at i xs ≡ false
 unfolding up_at

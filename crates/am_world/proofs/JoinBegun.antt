@@ -1,12 +1,12 @@
 -- A join begins: whether it is refused, and the world that has the new ring; and what the turn of the instance is
 -- there.
 use Rattle.std.proofs.Common.{◌≡◌, ◌∙◌, inl, inr, ℕ, ◌+◌, ◌==◌, nat_eq, true, false, List, [], ◌∷◌, ◌++◌, None, Some}
-use Rattle.std.proofs.Common.{IsSome, refl, sym, ap, subst, arith}
+use Rattle.std.proofs.Common.{◌&&◌, Bool, IsSome, Option, is_none, refl, sym, ap, subst, arith}
 use Rattle.std.specs.Prelude.{IsTrue, nat_le}
 use Rattle.std.proofs.lemmas.Bool.{cases_Bool, false≢true, true≢false}
 use Rattle.std.proofs.lemmas.Bool.Decides.{nat_tests}
 use Rattle.am_cluster.specs.Events.{Join}
-use Rattle.am_cluster.specs.Refused.{NoIncarnation}
+use Rattle.am_cluster.specs.Refused.{NoIncarnation, Refused}
 use Rattle.am_cluster.specs.Rings.{newest_epoch}
 use Rattle.am_cluster.specs.Roster.{Joins, Roster, last_incarnation, refused_by_ring, ring_event_refusal, roster_after}
 use Rattle.am_item.specs.declared.item.Item.{Item}
@@ -17,13 +17,15 @@ use Rattle.am_ring.specs.Instances.{Members, in_order, is_among, is_instance}
 use Rattle.am_ring.specs.declared.refusal.RingRefusal.{RingRefusal}
 use Rattle.am_instance.specs.Changing.{StopsOpening, renewed}
 use Rattle.am_instance.specs.Here.{Circumstances, rings_on}
+use Rattle.am_instance.specs.Leaving.{LeavesOwn}
 use Rattle.am_instance.specs.Shelves.{Shelf}
+use Rattle.am_instance.specs.Ticks.{Either}
 use Rattle.am_instance.specs.declared.instance.Instance.{Instance}
 use Rattle.am_world.specs.Changes.{IsOpenedClean, roster_then}
 use Rattle.am_world.specs.Changing.{Acts, ComesUp, ComesUpAt, Ends, FailsToComeUp, MayComeUp, around_opening}
 use Rattle.am_world.specs.Changing.{incarnations_with, members_of, with_ring}
 use Rattle.am_world.specs.Consistent.{IsConsistent, IsMember, around, newest_in, over}
-use Rattle.am_world.specs.Leaving.{LeavesShelves, opens_or_drops}
+use Rattle.am_world.specs.Leaving.{LeavesOpenedOrDropped, LeavesShelves, opens_or_drops, stop_at}
 use Rattle.am_world.specs.Places.{At, ChangesAt, EachIs, incarnation_at, instance_at}
 use Rattle.am_world.specs.Posting.{posted_over}
 use Rattle.am_world.specs.Refusal.{refusal}
@@ -33,11 +35,13 @@ use Rattle.am_world.specs.Steps.{Kept}
 use Rattle.am_world.specs.Stopping.{Faulted, IsSameStart, Step}
 use Rattle.am_world.specs.declared.common.Common.{Common}
 use Rattle.am_world.specs.declared.state.State.{State}
-use Rattle.am_world.proofs.AlonePlaces.{exists_then, incarnation_here, number_of}
+use Rattle.am_world.proofs.AlonePlaces.{exists_then, incarnation_here}
 use Rattle.am_world.proofs.FaultedRing.{AsksOne, Begins, faulted_one}
+use Rattle.am_world.proofs.InstancesLemmas.{number_of}
 use Rattle.am_world.proofs.KeptJoin.{CameUp, kept_join}
 use Rattle.am_world.proofs.NotRefused.{roster_turned, taken}
 use Rattle.am_world.proofs.Placed.{there}
+use Rattle.am_world.proofs.Shelved.{shelves_unwritten}
 use Rattle.am_world.proofs.Rostered.{consistent_pushed, joined_itself, members_joined, named_by, newest_pushed}
 use Rattle.am_world.proofs.Rostered.{put_here, put_other, ring_joined, rings_pushed}
 
@@ -263,16 +267,44 @@ module _ (i : ℕ) (w begun w' : State) (ks : List ℕ) (old new : List Shelf) (
 -- ---- what is left in its store
 
 -- nothing is said of one that is opened
-pub join_untouched : (Rejects : List ℕ → List Item → Type 0) (w w' : State) (i : ℕ) (shelves : List Shelf)
-    → LeavesShelves Rejects w (Join i) w' shelves shelves
-join_untouched Rejects w w' i shelves = record {
-  each = λ j never. absurd (false≢true never);
-  turned = λ j some. tt;
-  others = λ j idle out. refl;
-}
-
 pub turns_joined : (w : State) (i : ℕ) → refusal w (Join i) ≡ None → opens_or_drops w (Join i) i ≡ true
 turns_joined w i none = let itself : nat_eq i i ≡ true = grind (arith, nat_tests) in rw (itself, none) refl
 
 pub turns_beside : (w : State) (i j : ℕ) → (j == i) ≡ false → opens_or_drops w (Join i) j ≡ false
 turns_beside w i j apart = rw apart refl
+
+-- none is opened where it is refused
+pub join_untouched : (Rejects : List ℕ → List Item → Type 0) (w : State) (i : ℕ) (shelves : List Shelf) (r : Refused)
+    → ring_event_refusal (Joins i) (roster_of w) ≡ Some r → LeavesShelves Rejects w (Join i) w shelves shelves
+join_untouched Rejects w i shelves r refused =
+    shelves_unwritten Rejects w (Join i) w shelves (λ j. refl)
+    (λ j. ap (λ (o : Option Refused). j == i && is_none o) refused ∙ none_of (j == i))
+  where
+    none_of : (b : Bool) → (b && false) ≡ false
+    none_of true = refl
+    none_of false = refl
+
+-- .. nor where no memory was found for the ring
+pub join_unbegun : (Rejects : List ℕ → List Item → Type 0) (w w' : State) (i : ℕ) (shelves : List Shelf)
+    → is_among i (newest_in w'.common) ≡ false → LeavesShelves Rejects w (Join i) w' shelves shelves
+join_unbegun Rejects w w' i shelves out = record {
+  each = λ j never. absurd (false≢true never);
+  turned = λ j some. elim (cases_Bool (nat_eq j i)) [
+    | inl h ↦
+        let is : j ≡ i = grind (arith, nat_tests) in
+        subst (λ k. LeavesOpenedOrDropped w (Join i) w' k (shelf_at k shelves) (shelf_at k shelves)) (sym is)
+        (rw out refl)
+    | inr h ↦ absurd (true≢false (sym some ∙ turns_beside w i j h))
+  ];
+  others = λ j idle out. refl;
+}
+
+-- what it leaves in the store that it opens
+pub joined_left : (i : ℕ) (begun w' : State) (old new : Shelf) → w'.common ≡ begun.common
+    → is_among i (newest_in begun.common) ≡ true
+    → LeavesOwn (newest_in begun.common) i (stop_at i w'.instances) old new
+    → Either (is_among i (newest_in w'.common))
+    (LeavesOwn (newest_in w'.common) i (stop_at i w'.instances) old new) (new ≡ old)
+joined_left i begun w' old new same member left =
+    subst (λ (c : Common). Either (is_among i (newest_in c)) (LeavesOwn (newest_in c) i (stop_at i w'.instances) old new)
+    (new ≡ old)) (sym same) (rw member left)

@@ -36,8 +36,8 @@ use Rattle.am_world.specs.Simulation.{fault_count, put_out, roster_of}
 use Rattle.am_world.specs.Stopping.{Step}
 use Rattle.am_world.specs.declared.state.State.{State}
 use Rattle.am_world.proofs.AlonePlaces.{at_each, bytes_here, exists_then, local_here, local_other, refused_here}
-use Rattle.am_world.proofs.AlonePlaces.{refused_then, up_here, up_there}
-use Rattle.am_world.proofs.KeptQuiet.{roster_then}
+use Rattle.am_world.proofs.AlonePlaces.{refused_then, roster_then, up_here, up_there}
+use Rattle.am_world.proofs.KeptQuietWhole.{none_either}
 use Rattle.am_world.proofs.NotRefused.{Becomes, IsChangedAlone, kept_changed}
 use Rattle.am_world.proofs.Placed.{also_there, there}
 use Rattle.am_world.proofs.Rostered.{down_roster, put_here, put_other, stays_so}
@@ -66,10 +66,6 @@ goes_down i xs ys numbered change leaves x' there =
     (leaves x.0 x' x.1 there).down
 
 -- a connection that it read is shut
-none_either : (b : Bool) → None ≡ (if b then None else (let o : Option (List ℕ) = None in o))
-none_either true = refl
-none_either false = refl
-
 shut_read : (i j : ℕ) (s : Option Seen)
     → bytes_read j (option_map (shut_by i) s) ≡ (if j == i then None else bytes_read j s)
 shut_read i j None = none_either (j == i)

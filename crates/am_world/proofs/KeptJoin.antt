@@ -58,10 +58,11 @@ use Rattle.am_world.proofs.AloneKept.{clock_before}
 use Rattle.am_world.proofs.AloneOwn.{AreOf, IsOf}
 use Rattle.am_world.proofs.AlonePlaces.{at_each, bytes_here, bytes_other, incarnation_here}
 use Rattle.am_world.proofs.AlonePlaces.{incarnations_are}
-use Rattle.am_world.proofs.AlonePlaces.{known_here, local_here, local_other, map_alike, number_of, refused_here}
+use Rattle.am_world.proofs.AlonePlaces.{known_here, local_here, local_other, map_alike, refused_here}
 use Rattle.am_world.proofs.AlonePlaces.{refused_then, up_here}
 use Rattle.am_world.proofs.ComesUp.{IsAskOf, asks_own, incarnations_then, opened_alike, opened_only, opened_owned}
-use Rattle.am_world.proofs.KeptQuiet.{roster_then as same_then}
+use Rattle.am_world.proofs.InstancesLemmas.{number_of}
+use Rattle.am_world.proofs.AlonePlaces.{roster_then as same_then}
 use Rattle.am_world.proofs.NotRefused.{Becomes, IsChangedAlone, kept_changed}
 use Rattle.am_world.proofs.Placed.{there}
 use Rattle.am_world.proofs.Posted.{just_sent, posted_alike, posted_of_own}

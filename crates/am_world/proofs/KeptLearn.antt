@@ -58,10 +58,11 @@ use Rattle.am_world.proofs.Alone.{own_messages}
 use Rattle.am_world.proofs.AloneKept.{clock_before}
 use Rattle.am_world.proofs.AloneOwn.{AreOf}
 use Rattle.am_world.proofs.AlonePlaces.{at_each, bytes_here, bytes_other, exists_then, incarnation_here}
-use Rattle.am_world.proofs.AlonePlaces.{incarnations_are, known_here, local_here, local_other, map_alike, number_of}
+use Rattle.am_world.proofs.AlonePlaces.{incarnations_are, known_here, local_here, local_other, map_alike}
 use Rattle.am_world.proofs.AlonePlaces.{refused_here, refused_then, roster_then, up_here, up_there}
 use Rattle.am_world.proofs.AloneTold.{later_itself}
 use Rattle.am_world.proofs.HereAlone.{IsAround, IsPlaced, here_alike, three_alike}
+use Rattle.am_world.proofs.InstancesLemmas.{number_of}
 use Rattle.am_world.proofs.NotRefused.{IsChangedAlone, kept_changed}
 use Rattle.am_world.proofs.Posted.{alike_told, just_sent}
 use Rattle.am_world.proofs.RingOwn.{learned_own}

@@ -34,23 +34,11 @@ use Rattle.am_world.specs.declared.state.State.{State}
 use Rattle.am_tenant.specs.Names.{same}
 use Rattle.am_world.proofs.Beside.{Kept, Premises}
 use Rattle.am_world.proofs.Built.{builds_kept}
-use Rattle.am_world.proofs.RunLater.{asked_later, later_itself, later_watch}
+use Rattle.am_world.proofs.RunLater.{asked_later, later_watch}
 use Rattle.am_world.proofs.RunPlaces.{turned_here}
 use Rattle.am_instance.specs.Site.{local_of}
-
--- ---- rosters
-
-pub same_again : (r : Roster) → IsSameRoster r r
-same_again r = record { rings = refl; known = λ i. refl; up = λ i. refl; incarnation = λ i. refl; first = refl }
-
-pub roster_then : (a b c : Roster) → IsSameRoster a b → IsSameRoster b c → IsSameRoster a c
-roster_then a b c first next = record {
-  rings = first.rings ∙ next.rings;
-  known = λ i. first.known i ∙ next.known i;
-  up = λ i. first.up i ∙ next.up i;
-  incarnation = λ i. first.incarnation i ∙ next.incarnation i;
-  first = first.first ∙ next.first;
-}
+use Rattle.am_world.proofs.AlonePlaces.{roster_then, same_again}
+use Rattle.am_world.proofs.AloneTold.{later_itself}
 
 -- ---- what stays
 

@@ -64,7 +64,7 @@ up_here i xs up x here = sym (ap up_where here) ∙ up
 abbrev pub Closes : (c : ℕ) → Instance → Instance → Type 0
 Closes c x x' = (d : ℕ) → bytes_in d x' ≡ (if d == c then None else bytes_in d x)
 
-none_either : (b : Bool) → None ≡ (if b then None else (let o : Option (List ℕ) = None in o))
+pub none_either : (b : Bool) → None ≡ (if b then None else (let o : Option (List ℕ) = None in o))
 none_either true = refl
 none_either false = refl
 

@@ -21,7 +21,8 @@ use Rattle.am_world.specs.Simulation.{AreAsked, Follows, StandsOver, put_out, ro
 use Rattle.am_world.specs.Steps.{KeepsBuilds, Premises, clock_after, limits_after}
 use Rattle.am_world.specs.Stopping.{Step}
 use Rattle.am_world.specs.declared.state.State.{State}
-use Rattle.am_world.proofs.KeptQuiet.{IsNothing, nothing_refused, same_again}
+use Rattle.am_world.proofs.KeptQuiet.{IsNothing, nothing_refused}
+use Rattle.am_world.proofs.AlonePlaces.{same_again}
 
 -- the event of a change
 abbrev pub event_of : RingEvent → Event

@@ -45,11 +45,12 @@ use Rattle.am_world.specs.declared.state.State.{State}
 use Rattle.am_world.proofs.AllReact.{all_posted, each_fits, flat_same, front_each, outputs_each, owned_each}
 use Rattle.am_world.proofs.AloneKept.{clock_before}
 use Rattle.am_world.proofs.AloneOwn.{AreOf, IsOf}
-use Rattle.am_world.proofs.AlonePlaces.{at_each, incarnation_here, known_here, local_here, number_of, roster_then}
+use Rattle.am_world.proofs.AlonePlaces.{at_each, incarnation_here, known_here, local_here, roster_then}
 use Rattle.am_world.proofs.AlonePlaces.{up_here}
 use Rattle.am_world.proofs.AloneTold.{later_itself}
 use Rattle.am_world.proofs.ComesUp.{opened_owned}
 use Rattle.am_world.proofs.HereAlone.{IsAround, IsPlaced, here_alike}
+use Rattle.am_world.proofs.InstancesLemmas.{number_of}
 use Rattle.am_world.proofs.NotRefused.{IsChangedAlone, kept_changed}
 use Rattle.am_world.proofs.Posted.{just_sent}
 use Rattle.am_world.proofs.RestartPlaces.{Follower, Idle, Restarted, comes, first, follower_own, follower_over}

@@ -1,4 +1,4 @@
--- What an instance that learned a ring, or didn't, leaves in its store.
+-- What an instance that learned a ring or came up, or didn't, leaves in its store.
 use Rattle.std.proofs.Common.{◌≡◌, ◌∙◌, inr, ℕ, true, List, Option, None, Some, sym, ap, subst}
 use Rattle.std.proofs.lemmas.Bool.{true≢false}
 use Rattle.am_item.specs.declared.fault.Fault.{Fault}
@@ -7,7 +7,7 @@ use Rattle.am_item.specs.declared.item.Item.{Item}
 use Rattle.am_instance.proofs.Leaves.{memory_unrefused}
 use Rattle.am_instance.specs.Changing.{rows_held, rows_learned}
 use Rattle.am_instance.specs.Here.{Circumstances}
-use Rattle.am_instance.specs.Leaving.{LeavesEachShelf, stop_for}
+use Rattle.am_instance.specs.Leaving.{LeavesEachShelf, LeavesOwn, stop_for}
 use Rattle.am_instance.specs.Shelves.{IsBacked, Shelf}
 use Rattle.am_instance.specs.declared.instance.Instance.{Instance}
 use Rattle.am_world.specs.Leaving.{stop_at}
@@ -53,3 +53,16 @@ pub left_learned : (i : ℕ) (xs : List Instance) (fault : Option Fault) (a b : 
 left_learned i xs fault a b x old new same is left =
     subst (λ o. LeavesEachShelf (rows_held x) (rows_learned b x) o old new) (sym is)
     (subst (λ (c : Circumstances). LeavesEachShelf (rows_held x) (rows_learned c x) fault old new) same left)
+
+-- ---- it came up, or didn't
+
+-- memory ran out once it had opened its store
+pub opened_then_memory : (ring : List ℕ) (i : ℕ) (old new : Shelf) → LeavesOwn ring i None old new
+    → LeavesOwn ring i (Some OutOfMemory) old new
+opened_then_memory ring i old new left clean t = λ still. inr (left clean t)
+
+-- .. as a world says it
+pub left_opened : (i : ℕ) (xs : List Instance) (fault : Option Fault) (one other : List ℕ) (old new : Shelf)
+    → one ≡ other → stop_at i xs ≡ fault → LeavesOwn one i fault old new → LeavesOwn other i (stop_at i xs) old new
+left_opened i xs fault one other old new same is left =
+    subst (λ o. LeavesOwn other i o old new) (sym is) (subst (λ ring. LeavesOwn ring i fault old new) same left)

@@ -23,7 +23,7 @@ use Rattle.am_world.specs.Simulation.{AreAsked, Follows, StandsOver, bytes_read,
 use Rattle.am_world.specs.Simulation.{roster_of}
 use Rattle.am_world.specs.Steps.{IsAsAlone, Kept, KeepsBuilds, Later, Premises, limits_after}
 use Rattle.am_world.specs.declared.state.State.{State}
-use Rattle.am_world.proofs.KeptQuiet.{roster_then as same_then}
+use Rattle.am_world.proofs.AlonePlaces.{roster_then as same_then}
 use Rattle.am_world.proofs.KeptRefusedRing.{adds_as, clock_as, event_of, front_as, roster_as, watched_as}
 use Rattle.am_world.proofs.RunLater.{asked_later, later_after, later_watch}
 

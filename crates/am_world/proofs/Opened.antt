@@ -33,9 +33,9 @@ use Rattle.am_world.specs.Opening.{StayOutside, first_ring}
 use Rattle.am_world.specs.Places.{AreNumbered, At, EachIs, incarnations_of, instance_at}
 use Rattle.am_world.specs.Shelves.{NeverCleaner, rows_in, shelf_at, shelves_of}
 use Rattle.am_world.specs.declared.state.State.{State}
-use Rattle.am_world.proofs.InstancesLemmas.{number_of}
+use Rattle.am_world.proofs.InstancesLemmas.{number_of, set_get}
 use Rattle.am_world.proofs.OpenedFound.{all_are, exists_at, missing_at}
-use Rattle.am_world.proofs.Shelved.{cleaner_put, set_get, shelf_is, shelf_other, shelf_put}
+use Rattle.am_world.proofs.Shelved.{cleaner_put, shelf_is, shelf_other, shelf_put}
 
 -- ---- what an instance goes by
 

@@ -43,8 +43,8 @@ use Rattle.am_world.specs.Shelves.{AreBacked, AreClean, rows_in, shelves_of}
 use Rattle.am_world.specs.Simulation.{IsAskerOf, IsPostedAlike, KeepsRows, Stands, limits_in, roster_of}
 use Rattle.am_world.specs.declared.opening.OpenRefusal.{OpenRefusal}
 use Rattle.am_world.specs.declared.state.State.{State}
-use Rattle.am_world.proofs.AlonePlaces.{number_of}
 use Rattle.am_world.proofs.FreshKept.{past_none}
+use Rattle.am_world.proofs.InstancesLemmas.{number_of}
 use Rattle.am_world.proofs.Opened.{AreOpenedTo, here_first, is_open_by}
 use Rattle.am_world.proofs.OpenedCluster.{IsSameBesideStores, has_opened, opened_at, opened_rows, opened_same}
 use Rattle.am_world.proofs.OpenedFound.{exists_at, missing_at}

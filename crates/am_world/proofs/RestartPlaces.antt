@@ -33,9 +33,10 @@ use Rattle.am_world.specs.declared.common.Common.{Common}
 use Rattle.am_world.specs.declared.state.State.{State}
 use Rattle.am_world.proofs.AloneOwn.{AreOf}
 use Rattle.am_world.proofs.AlonePlaces.{at_each, incarnations_are}
-use Rattle.am_world.proofs.AlonePlaces.{local_here, map_alike, number_of, up_here}
+use Rattle.am_world.proofs.AlonePlaces.{local_here, map_alike, up_here}
 use Rattle.am_world.proofs.ComesUp.{opened_owned}
 use Rattle.am_world.proofs.InTurn.{HadTurns}
+use Rattle.am_world.proofs.InstancesLemmas.{number_of}
 use Rattle.am_world.proofs.RestartTurns.{DoesAtRestart, FailsAtRestart, restarted_as}
 use Rattle.am_world.proofs.RingOwn.{other_restarted_own}
 use Rattle.am_world.proofs.Rostered.{StaysSo, named_by, opened_roster, put_here, put_other}

@@ -11,20 +11,23 @@ use Rattle.am_cluster.specs.Refused.{InstanceNotUp, NoIncarnation, Refused}
 use Rattle.am_cluster.specs.Roster.{Restarts, last_incarnation, ring_event_refusal}
 use Rattle.am_item.specs.declared.item.Item.{Item}
 use Rattle.am_ring.specs.Instances.{all_instances, is_among, is_instance}
+use Rattle.am_instance.specs.Leaving.{LeavesOwn, stop_for}
 use Rattle.am_instance.specs.Shelves.{Shelf}
+use Rattle.am_instance.specs.declared.instance.Instance.{Instance}
 use Rattle.am_world.specs.Changing.{ComesUpAt, FailsToFollow, FollowsRestart, FollowsRestartAt, InTurn, MayComeUp}
 use Rattle.am_world.specs.Changing.{Restarting, WhereUp, around_opening, incarnations_with, may_restart}
 use Rattle.am_world.specs.Consistent.{IsConsistent, around, newest_in}
-use Rattle.am_world.specs.Leaving.{LeavesShelves, opens_or_drops}
-use Rattle.am_world.specs.Places.{At, incarnation_at, instance_at, up_at}
+use Rattle.am_world.specs.Leaving.{LeavesShelves, opens_or_drops, stop_at}
+use Rattle.am_world.specs.Places.{At, cause_at, cause_where, incarnation_at, instance_at, up_at, up_where}
 use Rattle.am_world.specs.Refusal.{refusal}
 use Rattle.am_world.specs.Shelves.{shelf_at}
 use Rattle.am_world.specs.Simulation.{IsSameBeside, roster_of}
 use Rattle.am_world.specs.declared.common.Common.{Common}
 use Rattle.am_world.specs.declared.state.State.{State}
-use Rattle.am_world.proofs.AlonePlaces.{incarnation_here, number_of, up_here}
+use Rattle.am_world.proofs.AlonePlaces.{incarnation_here, up_here}
+use Rattle.am_world.proofs.InstancesLemmas.{number_of}
 use Rattle.am_world.proofs.LearnStep.{up_known}
-use Rattle.am_world.proofs.RestartTurns.{not_before}
+use Rattle.am_world.proofs.RestartTurns.{not_before, not_behind}
 use Rattle.am_world.proofs.Shelved.{shelves_unwritten}
 use Rattle.am_world.proofs.TurnsTaken.{beside_in_turn, stays_in_turn}
 
@@ -109,10 +112,17 @@ restart_elsewhere w i j apart = ap (λ b. b && is_none (refusal w (Restart i))) 
 
 pub restart_left : (Rejects : List ℕ → List Item → Type 0) (w w' : State) (i : ℕ) (old new : List Shelf)
     → opens_or_drops w (Restart i) i ≡ true → ((j : ℕ) → (j == i) ≡ false → shelf_at j new ≡ shelf_at j old)
+    → LeavesOwn (newest_in w.common) i (stop_at i w'.instances) (shelf_at i old) (shelf_at i new)
     → LeavesShelves Rejects w (Restart i) w' old new
-restart_left Rejects w w' i old new some rest = record {
+restart_left Rejects w w' i old new some rest left = record {
   each = λ j never. absurd (false≢true never);
-  turned = λ j taken. tt;
+  turned = λ j taken. elim (cases_Bool (nat_eq j i)) [
+    | inl h ↦
+        let is : j ≡ i = grind (arith, nat_tests) in
+        subst (λ k. LeavesOwn (newest_in w.common) k (stop_at k w'.instances) (shelf_at k old) (shelf_at k new))
+        (sym is) left
+    | inr h ↦ absurd (true≢false (sym taken ∙ restart_elsewhere w i j h))
+  ];
   others = λ j idle out. elim (cases_Bool (nat_eq j i)) [
     | inl h ↦
         let is : j ≡ i = grind (arith, nat_tests) in
@@ -175,3 +185,17 @@ module _ (w lower : State) (r at : ℕ) (ks : List ℕ) (place : at + 1 ≡ r)
             (subst (λ k. InTurn (FollowsRestartAt (around upper.clock upper.common ks) r) (drop k all_instances)
             upper w') place after);
       }
+
+stops_alike : (i : ℕ) (xs ys : List Instance) → instance_at i xs ≡ instance_at i ys → stop_at i xs ≡ stop_at i ys
+unfolding up_at cause_at
+stops_alike i xs ys same = ap (λ (o : Option Instance). stop_for (up_where o) (cause_where o)) same
+
+-- those behind it leave it as it was, and so the fault for which it stopped
+pub upper_stop : (upper w' : State) (r at : ℕ) (ks : List ℕ) → at + 1 ≡ r
+    → InTurn (FollowsRestartAt (around upper.clock upper.common ks) r) (drop (at + 1) all_instances) upper w'
+    → stop_at r w'.instances ≡ stop_at r upper.instances
+upper_stop upper w' r at ks place after =
+    stops_alike r w'.instances upper.instances
+    (stays_in_turn (λ i x. x) (λ i. WhereUp (FollowsRestart (around upper.clock upper.common ks) r))
+    (λ i. FailsToFollow (around upper.clock upper.common ks) r) r (drop (at + 1) all_instances) upper w' after
+    (ap (λ k. is_among r (drop k all_instances)) place ∙ not_behind r))

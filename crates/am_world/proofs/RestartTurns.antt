@@ -158,6 +158,14 @@ behind_apart i r among = elim (cases_Bool (nat_eq i r)) [
   | inr h ↦ h
 ]
 
+pub not_behind : (r : ℕ) → is_among r (drop r all_instances) ≡ false
+not_behind r = elim (cases_Bool (is_among r (drop r all_instances))) [
+  | inl among ↦
+      let itself : nat_eq r r ≡ true = grind (arith, nat_tests) in
+      absurd (true≢false (sym itself ∙ behind_apart r r among))
+  | inr apart ↦ apart
+]
+
 -- ---- all their turns
 
 -- a turn of this kind is one of that

@@ -33,8 +33,9 @@ use Rattle.am_world.specs.Posting.{AreFiled}
 use Rattle.am_world.specs.Simulation.{roster_of}
 use Rattle.am_world.specs.declared.common.Common.{Common}
 use Rattle.am_world.specs.declared.state.State.{State}
-use Rattle.am_world.proofs.AlonePlaces.{at_each, incarnation_here, known_here, number_of, up_here}
+use Rattle.am_world.proofs.AlonePlaces.{at_each, incarnation_here, known_here, up_here}
 use Rattle.am_world.proofs.FaultedRing.{Begins}
+use Rattle.am_world.proofs.InstancesLemmas.{number_of}
 use Rattle.am_world.proofs.TickPlaces.{nobody, standing}
 use Rattle.am_world.proofs.Turned.{whole_at}
 

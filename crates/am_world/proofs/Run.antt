@@ -26,8 +26,9 @@ use Rattle.am_world.specs.Steps.{IsAsAlone, IsRefusedAlone, Kept, Later}
 use Rattle.am_world.specs.Stopping.{Faulted, Step}
 use Rattle.am_world.proofs.Built.{built_among, built_before, builds_more, keep_equal, keep_then, none_refused}
 use Rattle.am_world.proofs.Rosters.{IsSound, clean_before, clean_same, sound_same, sound_then}
-use Rattle.am_world.proofs.RunLater.{later_after, later_all, later_itself}
+use Rattle.am_world.proofs.RunLater.{later_after, later_all}
 use Rattle.am_world.proofs.RunPatterns.{open_then}
+use Rattle.am_world.proofs.AloneTold.{later_itself}
 
 -- ---- happenings one after the other
 

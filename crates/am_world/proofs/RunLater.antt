@@ -17,14 +17,12 @@ use Rattle.am_world.specs.Places.{local_at}
 use Rattle.am_world.specs.Simulation.{AreAsked, IsAskerOf}
 use Rattle.am_world.specs.Steps.{Later}
 use Rattle.am_world.specs.declared.state.State.{State}
+use Rattle.am_world.proofs.AloneTold.{later_itself}
 
 -- .. as tables tell
 record LaterTable (v u : Table) : Type 0 where
   asked : (c : ℕ) (t : List ℕ) → look c v ≡ Some (AskedAs t) → look c u ≡ Some (AskedAs t)
   answered : (c : ℕ) → look c v ≡ Some FrontAnswered → look c u ≡ Some FrontAnswered
-
-pub later_itself : (v : Watch) → Later v v
-later_itself v = record { asked = λ c t e. e; answered = λ c e. e }
 
 table_itself : (v : Table) → LaterTable v v
 table_itself v = record { asked = λ c t e. e; answered = λ c e. e }

@@ -23,9 +23,9 @@ use Rattle.am_world.specs.declared.state.State.{State}
 use Rattle.am_world.proofs.Built.{built_among}
 use Rattle.am_world.proofs.Rosters.{IsSound}
 use Rattle.am_world.proofs.Run.{watched}
-use Rattle.am_world.proofs.RunLater.{later_itself}
 use Rattle.am_world.proofs.RunPatterns.{none_open}
 use Rattle.am_world.proofs.RunPlaces.{found_one}
+use Rattle.am_world.proofs.AloneTold.{later_itself}
 
 -- ---- who is up is an instance
 

@@ -22,8 +22,8 @@ use Rattle.am_world.proofs.Built.{built_among, keep_equal, keep_then}
 use Rattle.am_world.proofs.Run.{Given, Ran, Watched, first_alone, ran_more, rest_given, step_faults, step_kept}
 use Rattle.am_world.proofs.Run.{step_refused, watched_more}
 use Rattle.am_world.proofs.Rosters.{IsSound, clean_before, clean_same}
-use Rattle.am_world.proofs.RunLater.{later_itself}
 use Rattle.am_world.proofs.RunOpened.{asked_alone, sound_opened}
+use Rattle.am_world.proofs.AloneTold.{later_itself}
 
 -- ---- what a world put out says nothing of what it reads and has
 

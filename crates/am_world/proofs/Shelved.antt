@@ -24,23 +24,9 @@ use Rattle.am_world.specs.Leaving.{stored_where, opens_or_drops, writes}
 use Rattle.am_world.specs.Places.{At, SameElsewhere, cause_at, cause_where, instance_at, up_at, up_where}
 use Rattle.am_world.specs.Shelves.{AreBacked, AreBackedBut, AreClean, NeverCleaner, shelf_at, shelf_where}
 use Rattle.am_world.specs.declared.state.State.{State}
+use Rattle.am_world.proofs.InstancesLemmas.{set_get}
 
 -- ---- the store of a number, at its place
-
-same_step : (q p : ℕ) → nat_eq q p ≡ nat_eq (suc q) (suc p)
-same_step q p = elim (cases_Bool (nat_eq q p)) [
-  | inl e ↦ let next : nat_eq (suc q) (suc p) ≡ true = grind (arith, nat_tests) in e ∙ sym next
-  | inr e ↦ let next : nat_eq (suc q) (suc p) ≡ false = grind (arith, nat_tests) in e ∙ sym next
-]
-
-pub set_get : {A : Type 0} (xs : List A) (p q : ℕ) (y : A) → p < length xs
-    → slice_get (slice_set xs p y) q ≡ (if nat_eq q p then Some y else slice_get xs q)
-set_get [] p q y less = absurd (omega arith)
-set_get (x ∷ xs) zero zero y less = refl
-set_get (x ∷ xs) zero (suc q) y less = let apart : nat_eq (suc q) 0 ≡ false = grind (arith, nat_tests) in rw apart refl
-set_get (x ∷ xs) (suc p) zero y less = let apart : nat_eq 0 (suc p) ≡ false = grind (arith, nat_tests) in rw apart refl
-set_get (x ∷ xs) (suc p) (suc q) y less =
-    set_get xs p q y (omega arith) ∙ ap (λ b. if b then Some y else slice_get xs q) (same_step q p)
 
 module _ {R : Type 0} (f : R → Shelf) (stores : List R) where
   found_at : (p : ℕ) (x : R) → slice_get stores p ≡ Some x → shelf_at (suc p) (map f stores) ≡ f x

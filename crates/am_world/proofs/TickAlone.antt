@@ -33,9 +33,11 @@ use Rattle.am_world.specs.Simulation.{IsAskerOf, Stands}
 use Rattle.am_world.specs.Steps.{Later}
 use Rattle.am_world.specs.declared.state.State.{State}
 use Rattle.am_world.proofs.AlonePlaces.{incarnation_here, incarnations_are, known_here, local_here, map_alike}
-use Rattle.am_world.proofs.AlonePlaces.{number_of, up_here}
+use Rattle.am_world.proofs.AlonePlaces.{up_here}
+use Rattle.am_world.proofs.InstancesLemmas.{number_of}
 use Rattle.am_world.proofs.TickPlaces.{CountsFrom, all_counted, not_later}
 use Rattle.am_world.proofs.TickSaid.{all_owned, of_tenant}
+use Rattle.am_world.proofs.AllReact.{or_nothing}
 
 -- ---- what an instance goes by, and what its tenant's cluster does
 
@@ -157,10 +159,6 @@ module _ (t : List ℕ) (v : Watch) (p : PrivateCluster) (m i : ℕ) (w w' : Sta
       (sym (s.roster.up i) ∙ ap up_where none) quiet
 
 -- ---- what is found under a name
-
-or_nothing : {X : Type 0} (o : Option X) → option_or o None ≡ o
-or_nothing None = refl
-or_nothing (Some x) = refl
 
 -- what each instance of the tenant's cluster says at its turn is counted
 pub turns_alone : (m : ℕ) (p : PrivateCluster) (i : ℕ) → Turn (at_tick m p) (turn_at m p) i

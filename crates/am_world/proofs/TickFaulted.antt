@@ -53,7 +53,7 @@ any_stopped stopped (n ∷ ns) = elim (cases_Bool (stopped n)) [
   ]
 ]
 
-none_counted : (stopped : ℕ → Bool) (ns : List ℕ) → ((i : ℕ) → stopped i ≡ false) → length (filter stopped ns) ≡ 0
+pub none_counted : (stopped : ℕ → Bool) (ns : List ℕ) → ((i : ℕ) → stopped i ≡ false) → length (filter stopped ns) ≡ 0
 none_counted stopped [] on = refl
 none_counted stopped (n ∷ ns) on = rw (on n) (none_counted stopped ns on)
 

@@ -24,8 +24,8 @@ use Rattle.am_world.specs.Ticks.{StopsAt, TakeTurns, TakesTurn, TicksAt}
 use Rattle.am_world.specs.declared.state.State.{State}
 use Rattle.am_world.proofs.TickPlaces.{CountsFrom, all_counted, around_same, everywhere, incarnations_same}
 use Rattle.am_world.proofs.TickPlaces.{not_later, standing, turns_same}
-use Rattle.am_world.proofs.AlonePlaces.{number_of}
 use Rattle.am_world.proofs.TickSaid.{AreFrom, told_from, unposted_from}
+use Rattle.am_world.proofs.InstancesLemmas.{number_of}
 
 -- the instance of a number stopped
 pub record HasStopped (i : ℕ) (around : Circumstances) (xs ys : List Instance) : Type 0 where

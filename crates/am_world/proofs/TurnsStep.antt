@@ -35,14 +35,10 @@ use Rattle.am_world.proofs.NotRefused.{roster_turned, taken}
 use Rattle.am_world.proofs.RestartPlaces.{Restarted}
 use Rattle.am_world.proofs.RestartTurns.{DoesAtRestart, FailsAtRestart, restart_turns, restarted_as}
 use Rattle.am_world.proofs.Rostered.{named_by, put_other}
-use Rattle.am_world.proofs.TickFaulted.{any_stopped}
+use Rattle.am_world.proofs.TickFaulted.{any_stopped, none_counted}
 use Rattle.am_world.proofs.TickTurns.{CountsUp}
 
 -- ---- nobody stopped
-
-none_counted : (stopped : ℕ → Bool) (ns : List ℕ) → ((i : ℕ) → stopped i ≡ false) → length (filter stopped ns) ≡ 0
-none_counted stopped [] on = refl
-none_counted stopped (n ∷ ns) on = rw (on n) (none_counted stopped ns on)
 
 module _ (become : Becomes) (Are : ℕ → List Output → Instance → Instance → Type 0)
     (Cause : ℕ → Fault → Instance → Instance → Type 0) (w w' : State)

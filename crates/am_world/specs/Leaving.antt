@@ -6,17 +6,18 @@ use Rattle.am_item.specs.declared.fault.Fault.{Fault}
 use Rattle.am_item.specs.declared.item.Item.{Item}
 use Rattle.am_messages.specs.Posted.{posted_at}
 use Rattle.am_messages.specs.declared.messages.Posted.{Posted}
+use Rattle.am_ring.specs.Instances.{is_among}
 use Rattle.am_instance.specs.Node.{Local, blank}
 use Rattle.am_instance.specs.Node.{retired}
 use Rattle.am_instance.specs.Changing.{rows_held, rows_learned}
 use Rattle.am_instance.specs.Here.{Circumstances}
 use Rattle.am_instance.specs.Instance.{node_local_in}
-use Rattle.am_instance.specs.Leaving.{LeavesEachShelf, LeavesShelf, no_rows_of, stop_for}
+use Rattle.am_instance.specs.Leaving.{LeavesEachShelf, LeavesOwn, LeavesShelf, no_rows_of, stop_for}
 use Rattle.am_instance.specs.Receiving.{brought_on}
 use Rattle.am_instance.specs.Shelves.{Shelf}
 use Rattle.am_instance.specs.Ticks.{Either}
 use Rattle.am_instance.specs.declared.instance.Instance.{Instance}
-use Rattle.am_world.specs.Consistent.{around_at}
+use Rattle.am_world.specs.Consistent.{around_at, newest_in}
 use Rattle.am_world.specs.Places.{cause_at, instance_at, up_at}
 use Rattle.am_world.specs.Refusal.{refusal}
 use Rattle.am_world.specs.Shelves.{shelf_at}
@@ -100,9 +101,14 @@ rows_learned_where around (Some x) t = rows_learned around x t
 abbrev pub rows_learned_at : State → ℕ → List ℕ → List Item
 rows_learned_at w i = rows_learned_where (around_at w.clock w) (instance_at i w.instances)
 
--- What it leaves in such a store. One that leaves and is up still found no memory for the ring. Of one that is opened
--- nothing is said here: what the instance holds then is there, where it is up.
+-- What it leaves in such a store. One that joins and isn't in the ring, or leaves and is up still, found no memory for
+-- the ring.
 abbrev pub LeavesOpenedOrDropped : State → Event → State → ℕ → (old new : Shelf) → Type 0
+LeavesOpenedOrDropped w (Join j) w' i old new =
+    Either (is_among i (newest_in w'.common))
+    (LeavesOwn (newest_in w'.common) i (stop_at i w'.instances) old new) (new ≡ old)
+LeavesOpenedOrDropped w (Restart j) w' i old new =
+    LeavesOwn (newest_in w.common) i (stop_at i w'.instances) old new
 LeavesOpenedOrDropped w (Leave j) w' i old new =
     Either (up_at i w'.instances) (new ≡ old)
     (LeavesEachShelf (rows_at w i) no_rows_of (stop_at i w'.instances) old new)

@@ -97,7 +97,8 @@ pub trait AnyWorld {
     /// for a tenant's limits or for a ring, nothing changes but the count.
     fn step(&mut self, alloc: Global, event: &Event) -> Result<(), Refused>
         ensures step { Step (contents self.old) event.now (contents self.new) }
-        ensures refused { MatchOption (refusal (contents self.old).state event.now) (IsOk result) (λ r. result ≡ Err r) }
+        ensures refused { MatchOption (refusal (contents self.old).state event.now) (IsOk result)
+            (λ r. result ≡ Err r) }
         ensures err { OnErr result (self.new ≡ self.old) }
         ensures left { LeavesShelves rejects (contents self.old).state event.now (contents self.new).state
             (contents self.old).shelves (contents self.new).shelves };

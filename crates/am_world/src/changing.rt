@@ -14,10 +14,11 @@ use am_tenant::TenantName;
 use std::alloc::Global;
 
 impl State {
+    ghost use Rattle.am_instance.specs.Leaving.{LeavesOwn};
     ghost use Rattle.am_instance.specs.Shelves.{Shelf};
     ghost use Rattle.am_world.specs.Changing.{ForcesAt, InTurn, MayComeUp, Restarting, around_opening, may_restart};
     ghost use Rattle.am_world.specs.Consistent.{IsConsistent, around_at, newest_in, over};
-    ghost use Rattle.am_world.specs.Leaving.{LeavesShelves};
+    ghost use Rattle.am_world.specs.Leaving.{LeavesShelves, stop_at};
     ghost use Rattle.am_world.specs.Places.{At, instance_at};
     ghost use Rattle.am_world.specs.Refusal.{refusal};
     ghost use Rattle.am_world.specs.Shelves.{AreBacked, NeverCleaner, shelf_at, shelves_of};
@@ -161,6 +162,8 @@ impl State {
         ensures backed { AreBacked self.new.instances (shelves_of R.Rows stores.new) }
         ensures others { (i : ℕ) → (i == number) ≡ false →
             shelf_at i (shelves_of R.Rows stores.new) ≡ shelf_at i (shelves_of R.Rows stores.old) }
+        ensures left { LeavesOwn (newest_in self.old.common) number (stop_at number self.new.instances)
+            (shelf_at number (shelves_of R.Rows stores.old)) (shelf_at number (shelves_of R.Rows stores.new)) }
     {
         let incarnations = self.instances.next_incarnations(number);
         let at = place(number);

@@ -3,6 +3,7 @@
 ghost use Rattle.std.specs.Prelude.{◌≡◌, ◌⊎◌, ◌+◌, ◌<◌, ℕ, List, [], true, false, IfErr, OnOk};
 ghost use Rattle.std.specs.Prelude.{length};
 ghost use Rattle.am_cluster.specs.RingChanges.{other_restarted};
+ghost use Rattle.am_cluster.specs.Rings.{newest_ring};
 ghost use Rattle.am_cluster.specs.Roster.{last_incarnation};
 ghost use Rattle.am_cluster.specs.Transfers.{forced};
 ghost use Rattle.am_instance.specs.Node.{fault_in};
@@ -21,9 +22,9 @@ impl Instances {
     ghost use Rattle.am_instance.specs.Changing.{IsOut, ReactsAll, Restarts, StopsForcing, StopsLearning};
     ghost use Rattle.am_instance.specs.Changing.{StopsLeaving, StopsOpening, StopsReactingAll};
     ghost use Rattle.am_instance.specs.Changing.{learned, learning, renewed, rows_held, rows_learned};
-    ghost use Rattle.am_instance.specs.Here.{Circumstances, circumstances};
+    ghost use Rattle.am_instance.specs.Here.{Circumstances, circumstances, rings_on};
     ghost use Rattle.am_instance.specs.Instance.{IsDown, IsSameNode, ReadsOn, refused_in};
-    ghost use Rattle.am_instance.specs.Leaving.{LeavesEachShelf, no_rows_of};
+    ghost use Rattle.am_instance.specs.Leaving.{LeavesEachShelf, LeavesOwn, no_rows_of};
     ghost use Rattle.am_instance.specs.Reacting.{Reacts};
     ghost use Rattle.am_instance.specs.Shelves.{IsBacked, shelf_of};
     ghost use Rattle.am_instance.specs.Tenants.{AreNoted};
@@ -92,6 +93,8 @@ impl Instances {
         ensures whole { OnOk result (At number (IsWhole (circumstances occasion.now)) self.new) }
         ensures clean { R.is_clean store.new ≡ true → R.is_clean store.old ≡ true }
         ensures backed { OnOk result (At number (λ x. IsBacked x (shelf_of R.Rows store.new)) self.new) }
+        ensures left { LeavesOwn (newest_ring (rings_on (circumstances occasion.now))) number (fault_in result)
+            (shelf_of R.Rows store.old) (shelf_of R.Rows store.new) }
     {
         self.list[place(number)].restart(alloc, occasion, outputs, store)
     }

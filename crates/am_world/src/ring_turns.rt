@@ -13,7 +13,7 @@ use std::alloc::Global;
 
 impl State {
     ghost use Rattle.am_instance.specs.Changing.{rows_held, rows_learned};
-    ghost use Rattle.am_instance.specs.Leaving.{LeavesEachShelf};
+    ghost use Rattle.am_instance.specs.Leaving.{LeavesEachShelf, LeavesOwn};
     ghost use Rattle.am_instance.specs.Shelves.{IsBacked, Shelf, shelf_of};
     ghost use Rattle.am_world.specs.Changing.{ComesUpAt, FollowsRestartAt, ForcesAt, InTurn, IsBehind, LearnsRingAt};
     ghost use Rattle.am_world.specs.Changing.{MayComeUp};
@@ -39,6 +39,8 @@ impl State {
         ensures consistent { IsConsistent self.new }
         ensures clean { R.is_clean store.new ≡ true → R.is_clean store.old ≡ true }
         ensures backed { At number (λ x. IsBacked x (shelf_of R.Rows store.new)) self.new.instances }
+        ensures left { LeavesOwn (newest_in self.old.common) number (stop_at number self.new.instances)
+            (shelf_of R.Rows store.old) (shelf_of R.Rows store.new) }
     {
         let occasion = self.common.occasion(self.clock, incarnations);
         let mut told = Vec::new(alloc);

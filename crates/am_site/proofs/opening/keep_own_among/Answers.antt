@@ -1,7 +1,7 @@
-use Rattle.std.proofs.Common.{◌≡◌, ◌∙◌, ◌+◌, ◌++◌, ◌∷◌, [], rules, take}
+use Rattle.std.proofs.Common.{◌≡◌, ◌∙◌, ◌+◌, ◌++◌, ◌∷◌, [], refl, rules, take}
 use Rattle.std.proofs.lemmas.List.{take_all, take_more}
 use Rattle.am_rows.proofs.Wearing.{caused_later, unworn, wears_then}
-use Rattle.am_site.proofs.Opened.{none_come, one_comes}
+use Rattle.am_site.proofs.Opened.{none_come, one_comes, some_kept}
 use Rattle.am_site.proofs.opening.keep_own_among.Goals as goal
 
 pub loop-tenant-init : goal.loop-tenant-init
@@ -42,3 +42,13 @@ pub returns-in_err-keep_if_own-clause-wears : goal.returns-in_err-keep_if_own-cl
 returns-in_err-keep_if_own-clause-wears g c = λ clean.
     wears_then (g.R.Rows.medium c.args.store.now) (g.R.Rows.medium c.loop-tenant.store) (g.R.Rows.medium c.keep_if_own.new.store)
     (c.loop-tenant.invariant.wears (c.keep_if_own.ensures.clean clean)) (c.keep_if_own.ensures.wears clean)
+
+pub returns-clause-left : goal.returns-clause-left
+returns-clause-left g c = λ clean whole.
+    some_kept c.args.ring.now.instances c.args.instance (take c.loop-tenant.tenant-index c.args.names.now) (g.R.Rows.pairs c.args.store.now) (g.R.Rows.pairs c.loop-tenant.store) (g.R.Rows.pairs c.loop-tenant.store)
+    (c.loop-tenant.invariant.kept clean) (λ t. refl)
+
+pub returns-in_err-keep_if_own-clause-left : goal.returns-in_err-keep_if_own-clause-left
+returns-in_err-keep_if_own-clause-left g c = λ clean whole.
+    some_kept c.args.ring.now.instances c.args.instance (take c.loop-tenant.tenant-index c.args.names.now) (g.R.Rows.pairs c.args.store.now) (g.R.Rows.pairs c.loop-tenant.store) (g.R.Rows.pairs c.keep_if_own.new.store)
+    (c.loop-tenant.invariant.kept (c.keep_if_own.ensures.clean clean)) (c.in_err-keep_if_own.ensures.err clean whole)

@@ -1,9 +1,14 @@
 use Rattle.std.proofs.Common.{◌≡◌, ◌∙◌, refl, sym}
 use Rattle.std.proofs.lemmas.Result.{IfErr-weaker, on_ok_weaker}
-use Rattle.am_instance.specs.Here.{circumstances}
+use Rattle.am_cluster.specs.Rings.{ring_at}
+use Rattle.am_replica.specs.Storing.{fault_in}
+use Rattle.am_rows.specs.Rows.{rows_of}
+use Rattle.am_site.specs.Opening.{own_rows}
+use Rattle.am_instance.specs.Here.{circumstances, rings_on}
 use Rattle.am_instance.specs.Instance.{local_in}
 use Rattle.am_instance.proofs.Following.{followed_backed, opens_anew, stops_asking, stops_opening}
 use Rattle.am_instance.proofs.Growing.{more_then}
+use Rattle.am_instance.proofs.Opening.{left_kept}
 use Rattle.am_instance.proofs.instance.Instance.open_anew.Goals as goal
 
 pub follow_start-requires : goal.follow_start-requires
@@ -47,3 +52,13 @@ returns-in-Ok-clause-backed g c =
     (λ _. followed_backed c.start.new.self c.follow_start.new.self c.follow_start.ensures.stays c.follow_start.ensures.node
     _ c.in-Ok.ensures.backed)
     c.follow_start.ensures.reacts
+
+pub returns-in-Ok-clause-left : goal.returns-in-Ok-clause-left
+returns-in-Ok-clause-left g c clean t =
+    let rows = rows_of t (g.R.Rows.pairs c.args.store.now) in
+    let ring = ring_at c.args.self.now.known (rings_on (circumstances c.args.occasion.now)) in
+    left_kept (fault_in c.follow_start.result) _ rows (own_rows ring c.args.self.now.number t rows)
+    (rows_of t (g.R.Rows.pairs c.start.new.store)) (c.in-Ok.ensures.kept clean t)
+
+pub returns-in-Err-clause-left : goal.returns-in-Err-clause-left
+returns-in-Err-clause-left g c clean t still = c.start.ensures.left clean still t

@@ -1,10 +1,14 @@
-use Rattle.std.proofs.Common.{◌≡◌, ◌∙◌, ◌+◌, ◌-◌, ◌<◌, length, map, ap, arith, refl, sym}
+use Rattle.std.proofs.Common.{◌≡◌, ◌∙◌, ◌+◌, ◌-◌, ◌<◌, length, map, ap, arith, refl, subst, sym}
 use Rattle.std.proofs.lemmas.List.{length-map}
 use Rattle.std.proofs.lemmas.Result.{IfErr-weaker, on_ok_weaker}
+use Rattle.am_cluster.specs.Rings.{ring_at}
+use Rattle.am_replica.specs.Storing.{fault_in}
 use Rattle.am_ring.specs.Instances.{Members}
 use Rattle.am_instance.specs.Changing.{renewed}
-use Rattle.am_instance.specs.Here.{circumstances}
+use Rattle.am_instance.specs.Here.{circumstances, rings_on}
 use Rattle.am_instance.specs.Instance.{local_in}
+use Rattle.am_instance.specs.Leaving.{LeavesOwn}
+use Rattle.am_instance.specs.Shelves.{shelf_of}
 use Rattle.am_instance.specs.declared.instance.Instance.{Instance}
 use Rattle.am_instance.proofs.Following.{opens_alike, stops_alike}
 use Rattle.am_instance.proofs.Whole.{whole_blank}
@@ -56,3 +60,12 @@ returns-clause-stays g c =
       known = stays.known ∙ ap (λ n. n - 1) (sym (length-map c.args.occasion.now.rings.now (λ (r : Members). r.instances)));
       refused = stays.refused;
     }
+
+pub returns-clause-left : goal.returns-clause-left
+returns-clause-left g c =
+    let around = circumstances c.args.occasion.now in
+    let x = c.args.self.now in
+    let rings = c.args.occasion.now.rings.now in
+    let known : length rings - 1 ≡ (renewed around x).known = ap (λ n. n - 1) (sym (length-map rings (λ (r : Members). r.instances))) in
+    subst (λ k. LeavesOwn (ring_at k (rings_on around)) x.number (fault_in c.open_anew.result) (shelf_of g.R.Rows c.args.store.now) (shelf_of g.R.Rows c.open_anew.new.store))
+    known c.open_anew.ensures.left

@@ -1,6 +1,7 @@
 use Rattle.std.proofs.Common.{◌∙◌, ap, refl, subst, sym}
 use Rattle.am_ring.specs.Replicas.{replicas}
 use Rattle.am_site.specs.Locals.{local_of}
+use Rattle.am_site.specs.Opening.{KeepsOwn, MayKeepOwn}
 use Rattle.am_transfer.specs.Timers.{AreTimed}
 use Rattle.am_instance.specs.Here.{circumstances, has_stayed_on, here_on, three_on}
 use Rattle.am_instance.specs.Instance.{local_in}
@@ -52,3 +53,27 @@ returns-clause-backed g c = record { opens = λ up. c.in_ok-names.ensures.«open
 
 pub returns-in_err-note_all-clause-stays : goal.returns-in_err-note_all-clause-stays
 returns-in_err-note_all-clause-stays g c = record { number = refl; incarnation = refl; known = refl; refused = asked_more _ _ _ c.open.ensures.asked }
+
+pub returns-clause-kept : goal.returns-clause-kept
+returns-clause-kept g c clean =
+    subst (λ ring. KeepsOwn ring c.args.self.now.number (g.R.Rows.pairs c.args.store.now) (g.R.Rows.pairs c.open.new.store))
+    (sym (ring_there c.args.occasion.now.rings.now c.args.self.now.known c.index-occasion-self.result c.requires.whole.known c.index-occasion-self.is))
+    (c.in_ok-names.ensures.kept clean)
+
+pub returns-clause-left : goal.returns-clause-left
+returns-clause-left g c clean still =
+    subst (λ ring. MayKeepOwn ring c.args.self.now.number (g.R.Rows.pairs c.args.store.now) (g.R.Rows.pairs c.open.new.store))
+    (sym (ring_there c.args.occasion.now.rings.now c.args.self.now.known c.index-occasion-self.result c.requires.whole.known c.index-occasion-self.is))
+    (c.open.ensures.left clean still)
+
+pub returns-in_err-names-clause-left : goal.returns-in_err-names-clause-left
+returns-in_err-names-clause-left g c clean still =
+    subst (λ ring. MayKeepOwn ring c.args.self.now.number (g.R.Rows.pairs c.args.store.now) (g.R.Rows.pairs c.open.new.store))
+    (sym (ring_there c.args.occasion.now.rings.now c.args.self.now.known c.index-occasion-self.result c.requires.whole.known c.index-occasion-self.is))
+    (c.open.ensures.left clean still)
+
+pub returns-in_err-note_all-clause-left : goal.returns-in_err-note_all-clause-left
+returns-in_err-note_all-clause-left g c clean still =
+    subst (λ ring. MayKeepOwn ring c.args.self.now.number (g.R.Rows.pairs c.args.store.now) (g.R.Rows.pairs c.open.new.store))
+    (sym (ring_there c.args.occasion.now.rings.now c.args.self.now.known c.index-occasion-self.result c.requires.whole.known c.index-occasion-self.is))
+    (c.open.ensures.left clean still)

@@ -79,3 +79,14 @@ pub returns-in_err-hold_rows-clause-wears : goal.returns-in_err-hold_rows-clause
 returns-in_err-hold_rows-clause-wears g c = λ clean.
     wears_then (g.R.Rows.medium c.args.store.now) (g.R.Rows.medium c.loop-tenant.store) (g.R.Rows.medium c.rows_of.new.self)
     (c.loop-tenant.invariant.wears (c.rows_of.ensures.clean clean)) (c.rows_of.ensures.wears clean)
+
+pub returns-clause-left : goal.returns-clause-left
+returns-clause-left g c = λ clean whole. c.loop-tenant.invariant.keeps clean
+
+pub returns-in_err-rows-clause-left : goal.returns-in_err-rows-clause-left
+returns-in_err-rows-clause-left g c = λ clean whole t.
+    c.in_err-rows.ensures.err clean whole t ∙ c.loop-tenant.invariant.keeps (c.rows_of.ensures.clean clean) t
+
+pub returns-in_err-hold_rows-clause-left : goal.returns-in_err-hold_rows-clause-left
+returns-in_err-hold_rows-clause-left g c = λ clean whole t.
+    c.in_ok-rows.ensures.stays clean t ∙ c.loop-tenant.invariant.keeps (c.rows_of.ensures.clean clean) t

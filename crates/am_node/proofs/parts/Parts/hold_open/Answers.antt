@@ -37,3 +37,11 @@ pub returns-clause-wears : goal.returns-clause-wears
 returns-clause-wears g c = λ clean.
     let m = g.R.Rows.medium in
     wears_then (m c.args.store.now) (m c.tenants.new.self) (m c.hold_each.new.store) (c.tenants.ensures.wears (c.hold_each.ensures.clean clean)) (c.hold_each.ensures.wears clean)
+
+pub returns-clause-left : goal.returns-clause-left
+returns-clause-left g c = λ clean whole t.
+    c.hold_each.ensures.left clean whole t ∙ c.in_ok-names.ensures.stays (c.hold_each.ensures.clean clean) t
+
+pub returns-in_err-hold_each-clause-left : goal.returns-in_err-hold_each-clause-left
+returns-in_err-hold_each-clause-left g c = λ clean whole t.
+    c.hold_each.ensures.left clean whole t ∙ c.in_ok-names.ensures.stays (c.hold_each.ensures.clean clean) t

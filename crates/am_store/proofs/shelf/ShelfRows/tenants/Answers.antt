@@ -1,8 +1,9 @@
-use Rattle.std.proofs.Common.{◌≡◌, true, ap, sym, subst, ◌∙◌}
+use Rattle.std.proofs.Common.{◌≡◌, true, not, ap, sym, subst, ◌∙◌}
 use Rattle.sqlite.specs.Held.{state}
 use Rattle.am_store.specs.Rows.{IsStore}
 use Rattle.am_store.proofs.Calls.{clean_before}
-use Rattle.am_store.proofs.Shelves.{caused, clean_is, cleaner, stays, unnamed_empty, worn}
+use Rattle.am_store.proofs.Resting.{rests_same}
+use Rattle.am_store.proofs.Shelves.{caused, clean_is, cleaner, not_shut, stays, unnamed_empty, worn}
 use Rattle.am_store.proofs.shelf.ShelfRows.tenants.Goals as goal
 
 pub returns-in-Ok-clause-clean : goal.returns-in-Ok-clause-clean
@@ -18,6 +19,15 @@ returns-in-Ok-clause-stays g c = λ clean.
     let opened : c.self.inside.is_open ≡ true = ap (λ v. v.1) c.self.view_is ∙ c.requires in
     let is = c.self.invariant.1 opened (clean_is old (cleaner old new _ (c.tenants.ensures.rests (λ clean. c.self.invariant.1 (ap (λ v. v.1) c.self.view_is ∙ c.requires) clean)).survives clean)) in
     rw (← c.self.view_is) (stays old.now new.now (c.in-Ok.ensures.same (clean_is new clean) is))
+
+pub returns-in-Err-clause-err : goal.returns-in-Err-clause-err
+returns-in-Err-clause-err g c = λ clean still.
+    let old = state g.S.Store c.self.inside.conn in
+    let new = state g.S.Store c.tenants.new.conn in
+    let opened : c.self.inside.is_open ≡ true = ap (λ v. v.1) c.self.view_is ∙ c.requires in
+    let rests = c.tenants.ensures.rests (λ clean. c.self.invariant.1 opened clean) in
+    let settled = c.is_autocommit-settled.ensures.settled (c.is_autocommit-settled.ensures.value ∙ ap not c.self.invariant.0) in
+    rw (← c.self.view_is) (stays old.now new.now (rests_same old new rests settled (clean_is new clean) (not_shut _ still)).0)
 
 pub invariant_of-self : goal.invariant_of-self
 invariant_of-self g c =

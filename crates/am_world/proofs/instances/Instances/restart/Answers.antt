@@ -1,5 +1,11 @@
+use Rattle.std.proofs.Common.{subst}
 use Rattle.std.proofs.lemmas.Result.{IfErr-weaker, on_ok_weaker}
-use Rattle.am_world.proofs.InstancesLemmas.{at_here, changed, here_at, turns_here}
+use Rattle.am_cluster.specs.Rings.{newest_ring}
+use Rattle.am_instance.specs.Here.{circumstances, rings_on}
+use Rattle.am_instance.specs.Leaving.{LeavesOwn}
+use Rattle.am_instance.specs.Node.{fault_in}
+use Rattle.am_instance.specs.Shelves.{shelf_of}
+use Rattle.am_world.proofs.InstancesLemmas.{at_here, changed, here_at, number_of, turns_here}
 use Rattle.am_world.proofs.instances.Instances.restart.Goals as goal
 
 pub restart-requires-clause-down : goal.restart-requires-clause-down
@@ -73,3 +79,12 @@ returns-clause-backed g c =
     let change = changed xs c.place.result c.args.number _ c.restart.new.self c.self.invariant c.place.ensures.place
     c.place.ensures.range c.index_mut.ensures.value c.restart.ensures.stays.number in
     on_ok_weaker c.restart.result (at_here _ c.args.number _ _ change.there) c.restart.ensures.backed
+
+pub returns-clause-left : goal.returns-clause-left
+returns-clause-left g c =
+    let xs = c.self.inside.list.items in
+    let here = here_at xs c.place.result c.args.number _ c.self.invariant c.place.ensures.place c.place.ensures.range
+    c.index_mut.ensures.value in
+    subst (λ i. LeavesOwn (newest_ring (rings_on (circumstances c.args.occasion.now))) i (fault_in c.restart.result)
+    (shelf_of g.R.Rows c.args.store.now) (shelf_of g.R.Rows c.restart.new.store))
+    (number_of c.args.number xs _ here) c.restart.ensures.left

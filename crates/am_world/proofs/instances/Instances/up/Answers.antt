@@ -1,7 +1,8 @@
 use Rattle.std.proofs.Common.{◌∙◌, sym}
-use Rattle.am_world.proofs.InstancesLemmas.{exists_here, number_of, up_here, up_nowhere}
+use Rattle.am_world.proofs.InstancesLemmas.{exists_here, number_of, up_nowhere}
 use Rattle.am_world.proofs.instances.Instances.up.Goals.{in_default-via-in-Some+else-is_up}
 use Rattle.am_world.proofs.instances.Instances.up.Goals.{in_default-via-in_default}
+use Rattle.am_world.proofs.AlonePlaces.{up_here}
 use Rattle.am_world.proofs.instances.Instances.up.Goals as goal
 
 pub returns-in-Some-clause-up : goal.returns-in-Some-clause-up

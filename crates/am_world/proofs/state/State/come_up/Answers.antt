@@ -1,13 +1,15 @@
-use Rattle.std.proofs.Common.{◌≡◌, ◌⊎◌, ◌∙◌, [], ap, inl, inr, refl, subst, sym}
+use Rattle.std.proofs.Common.{◌≡◌, ◌⊎◌, ◌∙◌, [], None, Some, ap, inl, inr, refl, subst, sym}
+use Rattle.am_cluster.specs.Rings.{newest_ring}
 use Rattle.am_rows.specs.Refusing.{MayRefuse}
 use Rattle.am_item.specs.declared.fault.Fault.TheVariants.{OutOfMemory}
 use Rattle.am_instance.specs.Changing.{Restarts, StopsOpening, renewed}
-use Rattle.am_instance.specs.Here.{Circumstances, circumstances}
+use Rattle.am_instance.specs.Here.{Circumstances, circumstances, rings_on}
 use Rattle.am_instance.specs.Instance.{IsSameNode}
 use Rattle.am_instance.specs.Shelves.{shelf_of}
 use Rattle.am_world.specs.Changing.{FailsToComeUp}
 use Rattle.am_world.specs.Consistent.{around, around_at}
 use Rattle.am_world.proofs.ComesUp.{any_reason, ends_stopped}
+use Rattle.am_world.proofs.LearnTaken.{left_opened, opened_then_memory, stop_none, stop_told}
 use Rattle.am_world.proofs.Placed.{also_there, there}
 use Rattle.am_world.proofs.RunPlaces.{elsewhere_then}
 use Rattle.am_world.proofs.TickTaken.{when_err, when_ok}
@@ -62,6 +64,18 @@ returns-in-Err-clause-turn g c =
       };
       beside = record { clock = stopped.beside.clock; common = stopped.beside.common };
     }
+
+pub returns-in-Err-clause-left : goal.returns-in-Err-clause-left
+returns-in-Err-clause-left g c =
+    let w = c.args.self.now in
+    let i = c.args.number in
+    let x = there i w.instances c.requires.exists in
+    let z = also_there i w.instances c.stop.new.self.instances c.requires.consistent.numbered
+    c.stop.ensures.stopped.others.numbered x.0 x.1 in
+    left_opened i c.stop.new.self.instances (Some c.in-Err.fault) _ _ (shelf_of g.R.Rows c.args.store.now)
+    (shelf_of g.R.Rows c.restart.new.store)
+    (ap (λ (a : Circumstances). newest_ring (rings_on a)) c.occasion-occasion.ensures)
+    (stop_told i c.in-Err.fault _ c.stop.new.self z.0 c.stop.ensures.stopped z.1) c.in-Err.ensures.left
 
 -- ---- what it told wasn't put out
 
@@ -121,6 +135,20 @@ returns-then-is_err-clause-turn g c =
       beside = record { clock = stopped.beside.clock; common = stopped.beside.common };
     }
 
+pub returns-then-is_err-clause-left : goal.returns-then-is_err-clause-left
+returns-then-is_err-clause-left g c =
+    let w = c.args.self.now in
+    let i = c.args.number in
+    let x = there i w.instances c.requires.exists in
+    let z = also_there i w.instances c.stop-then-is_err.new.self.instances c.requires.consistent.numbered
+    c.stop-then-is_err.ensures.stopped.others.numbered x.0 x.1 in
+    let old = shelf_of g.R.Rows c.args.store.now in
+    let new = shelf_of g.R.Rows c.restart.new.store in
+    left_opened i c.stop-then-is_err.new.self.instances (Some OutOfMemory) _ _ old new
+    (ap (λ (a : Circumstances). newest_ring (rings_on a)) c.occasion-occasion.ensures)
+    (stop_told i OutOfMemory _ c.stop-then-is_err.new.self z.0 c.stop-then-is_err.ensures.stopped z.1)
+    (opened_then_memory _ i old new c.in_default.ensures.left)
+
 -- ---- it is up, and what it told is put out
 
 pub returns-else-is_err-clause-turn : goal.returns-else-is_err-clause-turn
@@ -167,3 +195,14 @@ returns-else-is_err-clause-consistent g c =
     (sym (ap (λ (a : Circumstances). a.first) c.occasion-occasion.ensures))
     (c.in_default.ensures.whole x'.0 x'.1))
     (when_ok c.send_out.result went c.send_out.ensures.posts)
+
+pub returns-else-is_err-clause-left : goal.returns-else-is_err-clause-left
+returns-else-is_err-clause-left g c =
+    let w = c.args.self.now in
+    let i = c.args.number in
+    let ys = c.restart.new.self in
+    let x = there i w.instances c.requires.exists in
+    let x' = also_there i w.instances ys c.requires.consistent.numbered c.restart.ensures.at.numbered x.0 x.1 in
+    left_opened i ys None _ _ (shelf_of g.R.Rows c.args.store.now) (shelf_of g.R.Rows c.restart.new.store)
+    (ap (λ (a : Circumstances). newest_ring (rings_on a)) c.occasion-occasion.ensures)
+    (stop_none i ys x'.0 x'.1 (c.in_default.ensures.restarts x.0 x'.0 x.1 x'.1).starts.up) c.in_default.ensures.left

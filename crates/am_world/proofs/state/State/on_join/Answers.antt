@@ -1,5 +1,5 @@
 use Rattle.std.proofs.Common.{◌≡◌, ◌≢◌, ◌∙◌, ◌++◌, ◌∷◌, ◌<◌, ◌≤◌, ℕ, [], Err, IsTrue, None, Option, Some, ap, arith}
-use Rattle.std.proofs.Common.{false, get_or, inr, is_some, length, map, refl, rules, slice_set, subst, sym, true}
+use Rattle.std.proofs.Common.{List, false, get_or, inr, is_some, length, map, refl, rules, slice_set, subst, sym, true}
 use Rattle.std.specs.Prelude.{nat_le}
 use Rattle.std.proofs.lemmas.Bool.{true≢false}
 use Rattle.std.proofs.lemmas.Bool.Decides.{nat_tests}
@@ -8,9 +8,11 @@ use Rattle.std.proofs.lemmas.Option.{slice_get-get_or}
 use Rattle.am_cluster.specs.Events.{Join}
 use Rattle.am_cluster.specs.Refused.{Refused}
 use Rattle.am_cluster.specs.Roster.{Joins, last_incarnation}
+use Rattle.am_cluster.specs.Rings.{newest_ring}
+use Rattle.am_ring.proofs.Admitted.{may_join}
 use Rattle.am_ring.proofs.Numbers.{made}
 use Rattle.am_ring.specs.Changes.{join_refusal, with_instance}
-use Rattle.am_ring.specs.Instances.{Members, is_instance}
+use Rattle.am_ring.specs.Instances.{Members, is_among, is_instance}
 use Rattle.am_instance.specs.Shelves.{Shelf, shelf_of}
 use Rattle.am_world.specs.Changing.{ComesUpAt, members_of}
 use Rattle.am_world.specs.Consistent.{around, newest_in, over}
@@ -20,10 +22,12 @@ use Rattle.am_world.specs.Shelves.{shelf_at}
 use Rattle.am_world.specs.Stopping.{Step}
 use Rattle.am_world.specs.declared.state.State.{State}
 use Rattle.am_world.proofs.FaultedRing.{Begins, faulted_alone}
-use Rattle.am_world.proofs.JoinBegun.{join_last, join_refused, join_step, join_taken, join_untouched, joiner_is}
-use Rattle.am_world.proofs.JoinBegun.{joining, turns_beside, turns_joined}
+use Rattle.am_world.proofs.InstancesLemmas.{number_of}
+use Rattle.am_world.proofs.JoinBegun.{join_last, join_refused, join_step, join_taken, join_unbegun, join_untouched}
+use Rattle.am_world.proofs.JoinBegun.{joined_left, joiner_is, joining, turns_beside, turns_joined}
 use Rattle.am_world.proofs.KeptRefusedRing.{step_refused}
 use Rattle.am_world.proofs.NotRefused.{taken}
+use Rattle.am_world.proofs.Placed.{there}
 use Rattle.am_world.proofs.Rostered.{begun_with, consistent_again, pushed, rings_some, unpushed}
 use Rattle.am_world.proofs.Shelved.{backed_put, cleaner_put, shelf_is, shelf_other, shelf_put, turned_put}
 use Rattle.am_world.proofs.Stopped.{exists_at}
@@ -58,7 +62,10 @@ pub returns-in-Err-clause-left : goal.returns-in-Err-clause-left
 returns-in-Err-clause-left g c =
     let w = c.args.self.now in
     let i = c.args.instance in
-    join_untouched g.R.Rows.rejects w w i (map (shelf_of g.R.Rows) c.args.stores.now)
+    let is : join_refusal i (newest_in w.common) ≡ Some c.in-Err.refusal =
+    rw c.newest.ensures at c.in-Err.ensures.refusal in
+    join_untouched g.R.Rows.rejects w i (map (shelf_of g.R.Rows) c.args.stores.now) _
+    (join_refused w i c.in-Err.refusal is)
 
 pub unwrap-number-requires : goal.unwrap-number-requires
 unwrap-number-requires g c =
@@ -91,7 +98,10 @@ pub returns-then-incarnation-clause-left : goal.returns-then-incarnation-clause-
 returns-then-incarnation-clause-left g c =
     let w = c.args.self.now in
     let i = c.args.instance in
-    join_untouched g.R.Rows.rejects w w i (map (shelf_of g.R.Rows) c.args.stores.now)
+    let none : join_refusal i (newest_in w.common) ≡ None = rw c.newest.ensures at c.in_default.ensures.refusal in
+    let last : nat_le last_incarnation (incarnation_at i w.instances) ≡ true =
+    rw (← c.incarnation.ensures) (rw c.if-incarnation.true refl) in
+    join_untouched g.R.Rows.rejects w i (map (shelf_of g.R.Rows) c.args.stores.now) _ (join_last w i none last)
 
 -- ---- no memory for the ring
 
@@ -135,8 +145,13 @@ pub returns-then-is_err-clause-left : goal.returns-then-is_err-clause-left
 returns-then-is_err-clause-left g c =
     let w = c.args.self.now in
     let i = c.args.instance in
+    let none : join_refusal i (newest_in w.common) ≡ None = rw c.newest.ensures at c.in_default.ensures.refusal in
+    let failed = sym c.is_err.ensures.value ∙ c.if-is_err.true in
+    let same = unpushed c.push.result c.push.new.self.items _ _ c.push.ensures.items failed in
     rw c.count_fault.ensures
-    (join_untouched g.R.Rows.rejects w _ i (map (shelf_of g.R.Rows) c.args.stores.now))
+    (join_unbegun g.R.Rows.rejects w _ i (map (shelf_of g.R.Rows) c.args.stores.now)
+    (ap (λ (rings : List Members). is_among i (newest_ring (map (λ (r : Members). r.instances) rings))) same
+    ∙ (may_join i (newest_in w.common) none).new))
 
 -- ---- it comes up, or stops on the way
 
@@ -304,8 +319,15 @@ returns-clause-left g c =
     (ap (λ (r : Members). r.instances) ring) (ap (λ k. join_refusal k (newest_in w.common)) one.0 ∙ none)
     (ap (λ k. nat_le last_incarnation (incarnation_at k w.instances)) one.0 ∙ next) in
     let no = taken w (Joins n) joins.taken in
+    let x = there n w.instances (exists_at n w.instances c.requires.consistent.numbered
+    (subst (λ k. IsTrue (is_instance k)) (sym one.0) one.1)) in
+    let member : is_among n (newest_in begun.common) ≡ true =
+    ap (λ k. is_among k (newest_in begun.common)) (sym (number_of n w.instances x.0 x.1))
+    ∙ (joins.may x.0 x.1).member in
     let new = map f (slice_set stores c.place.result c.come_up.new.store) in
     subst (λ k. LeavesShelves g.R.Rows.rejects w (Join k) c.come_up.new.self (map f stores) new) one.0
     (turned_put f stores c.place.result n c.place.ensures.place g.R.Rows.rejects w (Join n) c.come_up.new.self store
-    c.come_up.new.store less found (λ j. refl) (λ j apart. turns_beside w n j apart) (λ some. tt)
+    c.come_up.new.store less found (λ j. refl) (λ j apart. turns_beside w n j apart)
+    (λ some. joined_left n begun c.come_up.new.self (f store) (f c.come_up.new.store)
+    c.come_up.ensures.turn.beside.common member c.come_up.ensures.left)
     (λ out. absurd (true≢false (sym (turns_joined w n no) ∙ out))))

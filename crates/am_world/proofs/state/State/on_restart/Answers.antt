@@ -148,4 +148,5 @@ returns-clause-left g c =
     let new = map (shelf_of g.R.Rows) c.restart.new.stores in
     let none = ap (λ k. ring_event_refusal (Restarts k) (roster_of w)) one.0 ∙ restart_taken w i ok next in
     subst (λ k. LeavesShelves g.R.Rows.rejects w (Restart k) c.restart.new.self old new) one.0
-    (restart_left g.R.Rows.rejects w c.restart.new.self n old new (restart_there w n none) c.restart.ensures.others)
+    (restart_left g.R.Rows.rejects w c.restart.new.self n old new (restart_there w n none) c.restart.ensures.others
+    c.restart.ensures.left)
