@@ -35,6 +35,8 @@ pub struct Counted<'w, W: AnyWorld> {
     moment: u64,
     // Whether the world was told the time since that was last asked.
     has_ticked: bool,
+    // Whether the file of limits was refused when it was last read.
+    are_limits_refused: bool,
 }
 
 // Written out, so that a crate which owns one has no need to prove anew how each of its parts is dropped.
@@ -48,6 +50,7 @@ impl<W: AnyWorld> Drop for Counted<'_, W> {
             load: _load,
             moment: _moment,
             has_ticked: _has_ticked,
+            are_limits_refused: _are_limits_refused,
         } = self;
         drop(gateway);
         drop(tally);
@@ -69,6 +72,7 @@ impl<'w, W: AnyWorld> Counted<'w, W> {
             load: Load::none(),
             moment: 0,
             has_ticked: false,
+            are_limits_refused: false,
         }
     }
 
@@ -114,6 +118,20 @@ impl<'w, W: AnyWorld> Counted<'w, W> {
         ensures taken { self.new ≡ record self.old { has_ticked = false } }
     {
         mem::replace(&mut self.has_ticked, false)
+    }
+
+    /// The file of limits was read, and was refused or not.
+    pub fn note_limits(&mut self, are_refused: bool)
+        ensures { self.new ≡ record self.old { are_limits_refused = are_refused } }
+    {
+        self.are_limits_refused = are_refused;
+    }
+
+    /// Whether the file of limits was refused when it was last read.
+    pub(crate) fn are_limits_refused(&self) -> bool
+        ensures { result ≡ self.now.are_limits_refused }
+    {
+        self.are_limits_refused
     }
 
     /// Gives a tenant its limits.

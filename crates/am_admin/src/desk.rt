@@ -1,6 +1,6 @@
 //! Where requests are answered.
 
-use crate::calm::{Unready, obstacle};
+use crate::calm::{Obstacle, obstacle_to};
 use crate::counted::Counted;
 use crate::metrics;
 use crate::telling::standing;
@@ -85,8 +85,8 @@ impl<'d, 'w, W: AnyWorld> Desk<'d, 'w, W> {
 
     // Has an event happen, unless something is in its way, and replies.
     fn change(&mut self, event: &Event) -> Result<Octets, AllocError> {
-        if let Some(unready) = obstacle(self.alloc, self.world(), event)? {
-            return self.refuse(unready);
+        if let Some(obstacle) = obstacle_to(self.alloc, self.world(), event)? {
+            return self.refuse(obstacle);
         }
         match self.counted.operate(event) {
             Ok(None) => reply_bytes(self.alloc, 200, b"{}"),
@@ -101,9 +101,9 @@ impl<'d, 'w, W: AnyWorld> Desk<'d, 'w, W> {
         }
     }
 
-    // Tells why a change has to wait.
-    fn refuse(&self, unready: Unready) -> Result<Octets, AllocError> {
-        let why = format!(in self.alloc; "{unready}")?;
+    // Tells what is in the way of a change.
+    fn refuse(&self, obstacle: Obstacle) -> Result<Octets, AllocError> {
+        let why = format!(in self.alloc; "{obstacle}")?;
         let body = json!(in self.alloc; {"error": why})?.to_vec(self.alloc)?;
         reply_bytes(self.alloc, 409, &body)
     }

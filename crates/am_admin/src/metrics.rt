@@ -1,4 +1,5 @@
-//! What was counted, what is held, and how the ring stands, as Prometheus reads it: its text format, version 0.0.4.
+//! What was counted, what is held, whether limits are refused, and how the ring stands, as Prometheus reads it: its
+//! text format, version 0.0.4.
 
 use crate::counted::Counted;
 use am_tally::{Metric, add, add_counts, add_each, add_load};
@@ -25,6 +26,12 @@ const HELD_BACK: Metric = Metric {
     help: "How often an allowance held a notice back.",
 };
 
+const LIMITS_REFUSED: Metric = Metric {
+    name: "amring_limits_refused",
+    kind: "gauge",
+    help: "Whether the file of limits was refused when it was last read.",
+};
+
 const EPOCH: Metric = Metric {
     name: "amring_ring_epoch",
     kind: "gauge",
@@ -49,7 +56,8 @@ const BEHIND: Metric = Metric {
     help: "Whether an instance has yet to learn the newest ring.",
 };
 
-/// A reply with all that was counted, what is open and held, and how the ring stands. It looks at each tenant.
+/// A reply with all that was counted, what is open and held, whether limits are refused, and how the ring stands. It
+/// looks at each tenant.
 ///
 /// # Errors
 /// Out of memory.
@@ -60,6 +68,8 @@ pub fn reply<W: AnyWorld>(alloc: Global, counted: &Counted<'_, W>) -> Result<Oct
     let waiting = counted.gateway().waiting_bytes() as u64;
     add_load(alloc, &mut text, counted.load(), waiting)?;
     add_held(alloc, &mut text, world)?;
+    let are_refused = counted.are_limits_refused();
+    add(alloc, &mut text, LIMITS_REFUSED, "", u64::from(are_refused))?;
     add_ring(alloc, &mut text, world)?;
     let length = text.len();
     let mut head = format!(in alloc; "{START}Content-Length: {length}\r\n\r\n")?.into_bytes();

@@ -26,7 +26,7 @@ pub(crate) fn remedy_of(reason: Reason, cause: Cause) -> &'static str {
 fn of_any(refusal: ConfigRefusal) -> &'static str {
     match refusal {
         ConfigRefusal::NotJson => {
-            "Send JSON in both, the text quoted; `yq -o=json` makes it of YAML."
+            "Send JSON in both, the text quoted; `yq -o=json .` (Debian's: `yq .`) makes it of YAML."
         }
         ConfigRefusal::BadForm => "docs/API.md lists what may stand there.",
         ConfigRefusal::BadReceiver => "List each receiver that a route names, once.",
@@ -49,7 +49,8 @@ fn of_any(refusal: ConfigRefusal) -> &'static str {
 fn of_whole(refusal: ConfigRefusal) -> &'static str {
     match refusal {
         ConfigRefusal::NotJson => {
-            "Write JSON (docs/API.md), the posted document or its text alone; `yq -o=json` makes it of YAML."
+            "Write JSON (docs/API.md), the posted document or its text alone; \
+             `yq -o=json .` (Debian's: `yq .`) makes it of YAML."
         }
         _ => of_any(refusal),
     }
@@ -57,7 +58,9 @@ fn of_whole(refusal: ConfigRefusal) -> &'static str {
 
 fn of_value(refusal: ConfigRefusal, kind: Kind) -> &'static str {
     match refusal {
-        ConfigRefusal::NotJson => "The text has to be JSON itself; `yq -o=json` makes it of YAML.",
+        ConfigRefusal::NotJson => {
+            "The text has to be JSON itself; `yq -o=json .` (Debian's: `yq .`) makes it of YAML."
+        }
         ConfigRefusal::BadForm => of_form(kind),
         ConfigRefusal::LeftOut => of_left_out(kind),
         ConfigRefusal::TooMany => of_count(kind),

@@ -138,11 +138,12 @@ const FILES: [(&str, &str, &str); 28] = [
 const REMEDIES: [(&str, &str); 14] = [
     (
         "route:\n  receiver: a\n",
-        "Write JSON (docs/API.md), the posted document or its text alone; `yq -o=json` makes it of YAML.",
+        "Write JSON (docs/API.md), the posted document or its text alone; \
+         `yq -o=json .` (Debian's: `yq .`) makes it of YAML.",
     ),
     (
         r#"{"alertmanager_config":"route:"}"#,
-        "The text has to be JSON itself; `yq -o=json` makes it of YAML.",
+        "The text has to be JSON itself; `yq -o=json .` (Debian's: `yq .`) makes it of YAML.",
     ),
     (r#"{"receivers":[]}"#, "Add this key: it is required."),
     (

@@ -4,7 +4,7 @@
 //! It ends with the status
 //! - 0 where all was played or served, a configuration would be accepted, or help or the version was asked for;
 //! - 1 where a stream, a socket or the clock failed, or fewer than two instances are left that serve;
-//! - 2 where the command line, a store, a line of a scenario or a configuration was refused, or the port or the
+//! - 2 where the command line, a store, a line of a scenario or a configuration was refused, or a port or the
 //!   configuration's file can't be had;
 //! - 3 where it is out of memory.
 #![tactic(auto)]

@@ -28,7 +28,7 @@ use std::process::ExitCode;
 use std::time::Clock;
 use std::{io, mem};
 
-/// The exit status where the port can't be had.
+/// The exit status where a port can't be had.
 const NO_PORT: u8 = 2;
 
 /// The exit status where the file of limits is refused.
@@ -48,6 +48,15 @@ struct Site {
 struct Desk {
     listener: TcpListener,
     address: SocketAddr,
+}
+
+/// A port that the program listens on.
+#[derive(Clone, Copy)]
+enum Port {
+    /// That of clients.
+    Clients,
+    /// That of those who run the program.
+    Admin,
 }
 
 /// How the program serves: how many connections are answered, by which file of limits, how it tells what it does, and
@@ -88,9 +97,9 @@ pub fn serve<E: Sink>(rt: &HostRuntime, serving: Serving, errors: &mut E) -> io:
         form,
         by_tenant,
     };
-    let Some(site) = open_site(rt, SocketAddr::from((address, port)), admin, manner)? else {
-        errors.write_whole(b"port\n")?;
-        return Ok(ExitCode::from(NO_PORT));
+    let site = match open_site(rt, SocketAddr::from((address, port)), admin, manner)? {
+        Ok(site) => site,
+        Err(lacking) => return refuse_port(lacking, errors),
     };
     match store {
         None => serve_over(rt, setup, stores::in_memory(rt.alloc())?, site, errors),
@@ -147,7 +156,20 @@ fn log_now<R: Clock>(rt: &R, form: Form) -> io::Result<Log> {
     Ok(Log::new(form, milliseconds))
 }
 
-/// Where the program is to serve and be asked; none where a port can't be had.
+/// Tells which port can't be had.
+///
+/// # Errors
+/// Those of the sink.
+fn refuse_port<E: Sink>(lacking: Port, errors: &mut E) -> io::Result<ExitCode> {
+    let text = match lacking {
+        Port::Clients => "port\n",
+        Port::Admin => "admin port\n",
+    };
+    errors.write_whole(text.as_bytes())?;
+    Ok(ExitCode::from(NO_PORT))
+}
+
+/// Where the program is to serve and be asked, or the port that can't be had.
 ///
 /// # Errors
 /// Out of memory.
@@ -156,21 +178,21 @@ fn open_site<R: Net>(
     address: SocketAddr,
     admin: Option<u16>,
     manner: Manner,
-) -> io::Result<Option<Site>> {
+) -> io::Result<Result<Site, Port>> {
     let Some(listener) = listen_at(rt, address)? else {
-        return Ok(None);
+        return Ok(Err(Port::Clients));
     };
     let admin = match admin {
         None => None,
         Some(port) => {
             let address = SocketAddr::from((Ipv4Addr::LOCALHOST, port));
             let Some(listener) = listen_at(rt, address)? else {
-                return Ok(None);
+                return Ok(Err(Port::Admin));
             };
             Some(Desk { listener, address })
         }
     };
-    Ok(Some(Site {
+    Ok(Ok(Site {
         listener,
         address,
         admin,
@@ -369,8 +391,12 @@ fn renew_limits<W: AnyWorld, R: Files + AllocGlobal, E: Sink>(
     };
     match watch.renew(rt)? {
         Renewal::Same => Ok(()),
-        Renewal::Set(limits) => set_limits(rt.alloc(), counted, limits, log, errors),
+        Renewal::Set(limits) => {
+            counted.note_limits(false);
+            set_limits(rt.alloc(), counted, limits, log, errors)
+        }
         Renewal::Refused(cause) => {
+            counted.note_limits(true);
             let entry = Entry::LimitsRefused(Text::from_string(cause));
             tell(rt.alloc(), log, &entry, errors)?;
             Ok(())
