@@ -1,5 +1,6 @@
 //! What is planned of all tenants.
-ghost use Rattle.std.specs.Prelude.{◌≡◌, ◌↔◌, ◌+◌, ◌^◌, ◌≤◌, ℕ, false, List, [], map, IfOk, IfSome, IsErrOf, OnErr, OnOk, if◌then◌else◌};
+ghost use Rattle.std.specs.Prelude.{◌≡◌, ◌↔◌, ◌+◌, ◌^◌, ◌≤◌, ℕ, false, List, [], map, IfOk, IfSome, IsErrOf, OnErr};
+ghost use Rattle.std.specs.Prelude.{OnOk, if◌then◌else◌};
 ghost use Rattle.std.specs.List.Sorted.{IsStrictlySortedBy};
 ghost use Rattle.std.specs.Map.{keys_of, lookup};
 ghost use Rattle.std.specs.Option.{option_copied};
@@ -7,7 +8,8 @@ ghost use Rattle.am_tenant.specs.Names.{same};
 ghost use Rattle.am_members.specs.Grouped.{flushed_at, grouped_of, kept_after, listed, members, nothing, put_in};
 ghost use Rattle.am_members.specs.Members.{gave, is_bare};
 ghost use Rattle.am_members.specs.Names.{is_set, without as absent};
-ghost use Rattle.am_outlet.specs.Attempts.{added, after_outcome, after_tick, attempt_at, awaits_outcome, next_of, no_attempts, outcome_of, sending_of, without, without_key};
+ghost use Rattle.am_outlet.specs.Attempts.{added, after_outcome, after_tick, attempt_at, awaits_outcome, next_of};
+ghost use Rattle.am_outlet.specs.Attempts.{no_attempts, outcome_of, sending_of, without, without_key};
 ghost use Rattle.am_outlet.specs.Desks.{desk_of};
 ghost use Rattle.am_timer.specs.Queue.{due_at, timers_of};
 ghost use Rattle.am_timer.specs.Tied.{has_timer};
@@ -15,10 +17,11 @@ ghost use Rattle.am_timer.specs.Timer.{Timer as Timed, timer_cmp};
 ghost use Rattle.am_labels.specs.Labels.{labels_cmp};
 ghost use Rattle.am_planning.specs.Planning.{default_paces};
 ghost use Rattle.am_agenda.specs.Paces.{paces_of};
-ghost use Rattle.am_agenda.specs.Plan.{all_groups, dropped, flush_due, no_plan, rebuilt, timers_in, with_alert, with_alerts, with_desk, with_flush, with_living, without_alert};
+ghost use Rattle.am_agenda.specs.Plan.{all_groups, dropped, flush_due, no_plan, rebuilt, timers_in, with_alert};
+ghost use Rattle.am_agenda.specs.Plan.{with_alerts, with_desk, with_flush, with_living, without_alert};
 ghost use Rattle.am_agenda.specs.Planned.{flush_due_of, groups_known, is_for, is_for_one, plan_of};
 
-use crate::grouping::{flush_in, put_all, put_in, remove_from, take_out_of};
+use crate::grouping::{flush_in, put_all, put_in, remove_from, sinces_of, take_out_of};
 use crate::paces::Paces;
 use crate::refresh::due;
 use crate::trying::{drop_attempt, take_outcome, try_again};
@@ -32,7 +35,6 @@ use am_tenant::TenantName;
 use am_text::{Listed, Moment, Text};
 use am_timer::{Timer, TimerQueue};
 use std::alloc::{AllocError, Global};
-use std::collections::BTreeMap;
 use std::marker::Model;
 
 /// What an instance has to do by itself, of all tenants. A call that fails leaves nothing planned of any tenant but how long
@@ -67,7 +69,8 @@ impl Model for Agenda {
 
     ghost view = { λ a. record { paces = a.paces; groups = a.groups; desks = a.attempts } };
 
-    ghost invariant = { λ a. IsKept (record { paces = a.paces; groups = a.groups; desks = a.attempts }) a.timers.timers };
+    ghost invariant = { λ a. IsKept (record { paces = a.paces; groups = a.groups; desks = a.attempts })
+        a.timers.timers };
 }
 
 impl Agenda {
@@ -147,7 +150,8 @@ impl Agenda {
         alloc: Global,
         tenant: &TenantName,
     ) -> Result<Vec<(LabelSet, Moment)>, AllocError>
-        ensures sinces { IfOk result (λ v. v.items ≡ map (λ a. (a.0, a.1.since)) (plan_of tenant.now self.now).grouped.alerts) }
+        ensures sinces { IfOk result (λ v. v.items
+            ≡ map (λ a. (a.0, a.1.since)) (plan_of tenant.now self.now).grouped.alerts) }
         ensures rising { IfOk result (λ v. IsStrictlySortedBy labels_cmp (keys_of v.items)) }
     {
         match self.groups.alerts(tenant) {
@@ -172,8 +176,10 @@ impl Agenda {
         labels: &LabelSet,
         known: Known,
     ) -> Result<(), AllocError>
-        requires { IfSome (lookup (is_set labels.now) (plan_of tenant.now self.old).grouped.alerts) (λ held. held.groups ≡ known.groups) }
-        ensures plans { OnOk result ((t : List ℕ) → plan_of t self.new ≡ (if same t tenant.now then with_alert labels.now known (plan_of t self.old) else plan_of t self.old)) }
+        requires { IfSome (lookup (is_set labels.now) (plan_of tenant.now self.old).grouped.alerts)
+            (λ held. held.groups ≡ known.groups) }
+        ensures plans { OnOk result ((t : List ℕ) → plan_of t self.new
+            ≡ (if same t tenant.now then with_alert labels.now known (plan_of t self.old) else plan_of t self.old)) }
         ensures err { OnErr result ((t : List ℕ) → plan_of t self.new ≡ no_plan (plan_of t self.new).paces) }
     {
         let paces = self.paces.of(tenant);
@@ -205,7 +211,8 @@ impl Agenda {
         tenant: &TenantName,
         labels: &LabelSet,
     ) -> Result<(), AllocError>
-        ensures plans { OnOk result ((t : List ℕ) → plan_of t self.new ≡ (if same t tenant.now then without_alert labels.now (plan_of t self.old) else plan_of t self.old)) }
+        ensures plans { OnOk result ((t : List ℕ) → plan_of t self.new
+            ≡ (if same t tenant.now then without_alert labels.now (plan_of t self.old) else plan_of t self.old)) }
         ensures err { OnErr result ((t : List ℕ) → plan_of t self.new ≡ no_plan (plan_of t self.new).paces) }
     {
         let paces = self.paces.of(tenant);
@@ -238,7 +245,8 @@ impl Agenda {
         list: Vec<(LabelSet, Known)>,
     ) -> Result<(), AllocError>
         requires { IsStrictlySortedBy labels_cmp (keys_of list.items) }
-        ensures plans { OnOk result ((t : List ℕ) → plan_of t self.new ≡ (if same t tenant.now then rebuilt paces list.items (plan_of t self.old) else plan_of t self.old)) }
+        ensures plans { OnOk result ((t : List ℕ) → plan_of t self.new
+            ≡ (if same t tenant.now then rebuilt paces list.items (plan_of t self.old) else plan_of t self.old)) }
         ensures err { OnErr result ((t : List ℕ) → plan_of t self.new ≡ no_plan (plan_of t self.new).paces) }
     {
         self.take_out(alloc, tenant)?;
@@ -248,7 +256,8 @@ impl Agenda {
 
     // Takes out all alerts of a tenant. The flushes stay.
     fn take_out(&mut self, alloc: Global, tenant: &TenantName) -> Result<(), AllocError>
-        ensures plans { OnOk result ((t : List ℕ) → plan_of t self.new ≡ (if same t tenant.now then with_alerts [] (plan_of t self.old) else plan_of t self.old)) }
+        ensures plans { OnOk result ((t : List ℕ) → plan_of t self.new
+            ≡ (if same t tenant.now then with_alerts [] (plan_of t self.old) else plan_of t self.old)) }
         ensures err { OnErr result ((t : List ℕ) → plan_of t self.new ≡ no_plan (plan_of t self.new).paces) }
     {
         let paces = self.paces.of(tenant);
@@ -274,7 +283,8 @@ impl Agenda {
     ) -> Result<(), AllocError>
         requires none { (plan_of tenant.now self.old).grouped.alerts ≡ [] }
         requires rising { IsStrictlySortedBy labels_cmp (keys_of list.items) }
-        ensures plans { OnOk result ((t : List ℕ) → plan_of t self.new ≡ (if same t tenant.now then rebuilt paces list.items (plan_of t self.old) else plan_of t self.old)) }
+        ensures plans { OnOk result ((t : List ℕ) → plan_of t self.new
+            ≡ (if same t tenant.now then rebuilt paces list.items (plan_of t self.old) else plan_of t self.old)) }
         ensures err { OnErr result ((t : List ℕ) → plan_of t self.new ≡ no_plan (plan_of t self.new).paces) }
     {
         let put = put_all(
@@ -306,7 +316,8 @@ impl Agenda {
         moment: Moment,
     ) -> Result<(), AllocError>
         requires { is_bare (members group.now (plan_of tenant.now self.old).grouped.alerts) ≡ false }
-        ensures plans { OnOk result ((t : List ℕ) → plan_of t self.new ≡ (if same t tenant.now then with_flush group.now moment (plan_of t self.old) else plan_of t self.old)) }
+        ensures plans { OnOk result ((t : List ℕ) → plan_of t self.new
+            ≡ (if same t tenant.now then with_flush group.now moment (plan_of t self.old) else plan_of t self.old)) }
         ensures err { OnErr result ((t : List ℕ) → plan_of t self.new ≡ no_plan (plan_of t self.new).paces) }
     {
         let paces = self.paces.of(tenant);
@@ -343,7 +354,8 @@ impl Agenda {
     /// # Errors
     /// Out of memory. Nothing changes.
     pub fn due(&mut self, alloc: Global, now: Moment) -> Result<Vec<Timer>, AllocError>
-        ensures due { IfOk result (λ due. (t : List ℕ) → timers_of t due.items ≡ due_at now (timers_in t (plan_of t self.old))) }
+        ensures due { IfOk result (λ due. (t : List ℕ) → timers_of t due.items
+            ≡ due_at now (timers_in t (plan_of t self.old))) }
         ensures order { IfOk result (λ due. IsStrictlySortedBy timer_cmp due.items) }
         ensures stays { self.new ≡ self.old }
     {
@@ -353,7 +365,9 @@ impl Agenda {
 
     /// Closes the attempt of this key, if the tenant has one open. It takes no memory.
     pub fn drop_attempt(&mut self, tenant: &TenantName, key: &EntryKey)
-        ensures plans { (t : List ℕ) → plan_of t self.new ≡ (if same t tenant.now then with_desk (without key.now (plan_of t self.old).desk) (plan_of t self.old) else plan_of t self.old) }
+        ensures plans { (t : List ℕ) → plan_of t self.new
+            ≡ (if same t tenant.now then with_desk (without key.now (plan_of t self.old).desk) (plan_of t self.old)
+            else plan_of t self.old) }
     {
         drop_attempt(&mut self.attempts, &mut self.timers, tenant, key);
     }
@@ -369,9 +383,13 @@ impl Agenda {
         tenant: &TenantName,
         notice: Notice,
     ) -> Result<Sending, Fault>
-        requires { without_key notice.key (plan_of tenant.now self.old).desk.open_ones ≡ (plan_of tenant.now self.old).desk.open_ones }
-        ensures sending { IfOk result (λ sending. sending ≡ sending_of ((plan_of tenant.now self.old).desk.used + 1) 1 notice) }
-        ensures started { OnOk result ((t : List ℕ) → plan_of t self.new ≡ (if same t tenant.now then with_desk (added notice (plan_of t self.old).desk) (plan_of t self.old) else plan_of t self.old)) }
+        requires { without_key notice.key (plan_of tenant.now self.old).desk.open_ones
+            ≡ (plan_of tenant.now self.old).desk.open_ones }
+        ensures sending { IfOk result (λ sending. sending
+            ≡ sending_of ((plan_of tenant.now self.old).desk.used + 1) 1 notice) }
+        ensures started { OnOk result ((t : List ℕ) → plan_of t self.new
+            ≡ (if same t tenant.now then with_desk (added notice (plan_of t self.old).desk) (plan_of t self.old)
+            else plan_of t self.old)) }
         ensures fault { IsErrOf result Fault.CountsExhausted ↔ (2 ^ 62 ≤ (plan_of tenant.now self.old).desk.used) }
         ensures no_pattern { IsErrOf result Fault.PatternNotBuilt → ⊥ }
         ensures no_store { IsErrOf result Fault.StoreRefused → ⊥ }
@@ -402,8 +420,11 @@ impl Agenda {
         moment: Moment,
         status: Option<u16>,
     ) -> Result<Outcome, AllocError>
-        ensures outcome { IfOk result (λ outcome. outcome ≡ outcome_of number tries moment status (plan_of tenant.now self.old).desk.open_ones) }
-        ensures each { OnOk result ((t : List ℕ) → plan_of t self.new ≡ (if same t tenant.now then with_desk (after_outcome number tries moment status (plan_of t self.old).desk) (plan_of t self.old) else plan_of t self.old)) }
+        ensures outcome { IfOk result (λ outcome. outcome
+            ≡ outcome_of number tries moment status (plan_of tenant.now self.old).desk.open_ones) }
+        ensures each { OnOk result ((t : List ℕ) → plan_of t self.new
+            ≡ (if same t tenant.now then with_desk (after_outcome number tries moment status (plan_of t self.old).desk)
+            (plan_of t self.old) else plan_of t self.old)) }
         ensures err { OnErr result ((t : List ℕ) → plan_of t self.new ≡ no_plan (plan_of t self.new).paces) }
     {
         let outcome = take_outcome(
@@ -440,7 +461,9 @@ impl Agenda {
         now: Moment,
     ) -> Result<Option<Sending>, AllocError>
         ensures sending { IfOk result (λ sending. sending ≡ next_of number now (plan_of tenant.now self.old).desk) }
-        ensures each { OnOk result ((t : List ℕ) → plan_of t self.new ≡ (if same t tenant.now then with_desk (after_tick number now (plan_of t self.old).desk) (plan_of t self.old) else plan_of t self.old)) }
+        ensures each { OnOk result ((t : List ℕ) → plan_of t self.new
+            ≡ (if same t tenant.now then with_desk (after_tick number now (plan_of t self.old).desk)
+            (plan_of t self.old) else plan_of t self.old)) }
         ensures err { OnErr result ((t : List ℕ) → plan_of t self.new ≡ plan_of t self.old) }
     {
         let sending = try_again(
@@ -464,18 +487,4 @@ fn reset(alloc: Global, groups: &mut Groups, attempts: &mut Attempts, timers: &m
     *groups = Groups::new(alloc);
     *attempts = Attempts::new(alloc);
     *timers = TimerQueue::new(alloc);
-}
-
-// The label sets of these alerts, each with the moment since which it is held.
-fn sinces_of(
-    alloc: Global,
-    alerts: &BTreeMap<LabelSet, Known>,
-) -> Result<Vec<(LabelSet, Moment)>, AllocError>
-    ensures { IfOk result (λ v. v.items ≡ map (λ a. (a.0, a.1.since)) alerts.now.entries) }
-{
-    let mut all = Vec::new(alloc);
-    for (labels, known) in alerts.iter() {
-        all.push((labels.copy()?, known.since))?;
-    }
-    Ok(all)
 }

@@ -1,6 +1,6 @@
 //! The groups of alerts, with the timers of their flushes.
 
-ghost use Rattle.std.specs.Prelude.{◌≡◌, ℕ, false, List, [], IfOk, OnOk, if◌then◌else◌};
+ghost use Rattle.std.specs.Prelude.{◌≡◌, ℕ, false, List, [], map, IfOk, OnOk, if◌then◌else◌};
 ghost use Rattle.std.specs.List.Sorted.{IsStrictlySortedBy};
 ghost use Rattle.std.specs.Map.{keys_of, lookup};
 ghost use Rattle.am_labels.specs.Labels.{labels_cmp};
@@ -23,6 +23,7 @@ use am_tenant::TenantName;
 use am_text::{Listed, Moment};
 use am_timer::TimerQueue;
 use std::alloc::{AllocError, Global};
+use std::collections::BTreeMap;
 
 /// Puts an alert, and sets the timers of its groups anew.
 pub fn put_in(
@@ -34,9 +35,13 @@ pub fn put_in(
     labels: &LabelSet,
     known: Known,
 ) -> Result<(), AllocError>
-    ensures alerts { OnOk result ((t : List ℕ) → (grouped_of t groups.new).alerts ≡ (if same t tenant.now then put_in labels.now known (grouped_of t groups.old).alerts else (grouped_of t groups.old).alerts)) }
-    ensures flushes { OnOk result ((t : List ℕ) → (grouped_of t groups.new).flushes ≡ (grouped_of t groups.old).flushes) }
-    ensures timers { OnOk result ((x : Timed) → has_timer timers.new.timers x ≡ (if is_for_one tenant.now paces.now known.groups x
+    ensures alerts { OnOk result ((t : List ℕ) → (grouped_of t groups.new).alerts
+        ≡ (if same t tenant.now then put_in labels.now known (grouped_of t groups.old).alerts
+        else (grouped_of t groups.old).alerts)) }
+    ensures flushes { OnOk result ((t : List ℕ) → (grouped_of t groups.new).flushes
+        ≡ (grouped_of t groups.old).flushes) }
+    ensures timers { OnOk result ((x : Timed) → has_timer timers.new.timers x
+        ≡ (if is_for_one tenant.now paces.now known.groups x
         then gave (flush_due_of paces.now (grouped_of tenant.now groups.new) x.name.key) x.due
         else has_timer timers.old.timers x)) }
 {
@@ -54,8 +59,12 @@ pub fn remove_from(
     tenant: &TenantName,
     labels: &LabelSet,
 ) -> Result<(), AllocError>
-    ensures alerts { (t : List ℕ) → (grouped_of t groups.new).alerts ≡ (if same t tenant.now then absent labels.now (grouped_of t groups.old).alerts else (grouped_of t groups.old).alerts) }
-    ensures flushes { (t : List ℕ) → (grouped_of t groups.new).flushes ≡ (if same t tenant.now then kept_after labels.now (grouped_of t groups.old) else (grouped_of t groups.old).flushes) }
+    ensures alerts { (t : List ℕ) → (grouped_of t groups.new).alerts
+        ≡ (if same t tenant.now then absent labels.now (grouped_of t groups.old).alerts
+        else (grouped_of t groups.old).alerts) }
+    ensures flushes { (t : List ℕ) → (grouped_of t groups.new).flushes
+        ≡ (if same t tenant.now then kept_after labels.now (grouped_of t groups.old)
+        else (grouped_of t groups.old).flushes) }
     ensures timers { OnOk result ((x : Timed) → has_timer timers.new.timers x ≡
         (if is_for_one tenant.now paces.now (groups_known (lookup (is_set labels.now) (grouped_of tenant.now groups.old).alerts)) x
         then gave (flush_due_of paces.now (grouped_of tenant.now groups.new) x.name.key) x.due
@@ -86,8 +95,11 @@ pub fn flush_in(
 ) -> Result<(), AllocError>
     requires { is_bare (members group.now (grouped_of tenant.now groups.old).alerts) ≡ false }
     ensures alerts { OnOk result ((t : List ℕ) → (grouped_of t groups.new).alerts ≡ (grouped_of t groups.old).alerts) }
-    ensures flushes { OnOk result ((t : List ℕ) → (grouped_of t groups.new).flushes ≡ (if same t tenant.now then flushed_at group.now moment (grouped_of t groups.old) else (grouped_of t groups.old).flushes)) }
-    ensures timers { OnOk result ((x : Timed) → has_timer timers.new.timers x ≡ (if is_for tenant.now paces.now group.now x
+    ensures flushes { OnOk result ((t : List ℕ) → (grouped_of t groups.new).flushes
+        ≡ (if same t tenant.now then flushed_at group.now moment (grouped_of t groups.old)
+        else (grouped_of t groups.old).flushes)) }
+    ensures timers { OnOk result ((x : Timed) → has_timer timers.new.timers x
+        ≡ (if is_for tenant.now paces.now group.now x
         then gave (flush_due_of paces.now (grouped_of tenant.now groups.new) x.name.key) x.due
         else has_timer timers.old.timers x)) }
 {
@@ -103,9 +115,11 @@ pub fn take_out_of(
     paces: &[Pace],
     tenant: &TenantName,
 ) -> Result<(), AllocError>
-    ensures alerts { OnOk result ((t : List ℕ) → (grouped_of t groups.new).alerts ≡ (if same t tenant.now then [] else (grouped_of t groups.old).alerts)) }
+    ensures alerts { OnOk result ((t : List ℕ) → (grouped_of t groups.new).alerts
+        ≡ (if same t tenant.now then [] else (grouped_of t groups.old).alerts)) }
     ensures flushes { (t : List ℕ) → (grouped_of t groups.new).flushes ≡ (grouped_of t groups.old).flushes }
-    ensures timers { OnOk result ((x : Timed) → has_timer timers.new.timers x ≡ (if is_for_one tenant.now paces.now (all_groups (grouped_of tenant.now groups.old).alerts) x
+    ensures timers { OnOk result ((x : Timed) → has_timer timers.new.timers x
+        ≡ (if is_for_one tenant.now paces.now (all_groups (grouped_of tenant.now groups.old).alerts) x
         then gave (flush_due_of paces.now (grouped_of tenant.now groups.new) x.name.key) x.due
         else has_timer timers.old.timers x)) }
 {
@@ -124,10 +138,13 @@ pub fn put_all(
     list: Vec<(LabelSet, Known)>,
 ) -> Result<(), AllocError>
     requires { IsStrictlySortedBy labels_cmp (keys_of list.items) }
-    ensures paces { OnOk result ((t : List ℕ) → paces_of t book.new ≡ (if same t tenant.now then paces else paces_of t book.old)) }
-    ensures alerts { OnOk result ((t : List ℕ) → (grouped_of t groups.new).alerts ≡ (if same t tenant.now then list.items else (grouped_of t groups.old).alerts)) }
+    ensures paces { OnOk result ((t : List ℕ) → paces_of t book.new
+        ≡ (if same t tenant.now then paces else paces_of t book.old)) }
+    ensures alerts { OnOk result ((t : List ℕ) → (grouped_of t groups.new).alerts
+        ≡ (if same t tenant.now then list.items else (grouped_of t groups.old).alerts)) }
     ensures flushes { (t : List ℕ) → (grouped_of t groups.new).flushes ≡ (grouped_of t groups.old).flushes }
-    ensures timers { OnOk result ((x : Timed) → has_timer timers.new.timers x ≡ (if is_for_one tenant.now paces (all_groups list.items) x
+    ensures timers { OnOk result ((x : Timed) → has_timer timers.new.timers x
+        ≡ (if is_for_one tenant.now paces (all_groups list.items) x
         then gave (flush_due_of paces (grouped_of tenant.now groups.new) x.name.key) x.due
         else has_timer timers.old.timers x)) }
 {
@@ -137,4 +154,21 @@ pub fn put_all(
         Some(alerts) => refresh_alerts(alloc, timers, groups, book.of(tenant), tenant, alerts),
         None => Ok(()),
     }
+}
+
+/// The label sets of these alerts, each with the moment since which it is held.
+///
+/// # Errors
+/// Out of memory.
+pub fn sinces_of(
+    alloc: Global,
+    alerts: &BTreeMap<LabelSet, Known>,
+) -> Result<Vec<(LabelSet, Moment)>, AllocError>
+    ensures { IfOk result (λ v. v.items ≡ map (λ a. (a.0, a.1.since)) alerts.now.entries) }
+{
+    let mut all = Vec::new(alloc);
+    for (labels, known) in alerts.iter() {
+        all.push((labels.copy()?, known.since))?;
+    }
+    Ok(all)
 }

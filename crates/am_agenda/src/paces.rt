@@ -57,7 +57,8 @@ impl Paces {
 
     /// Sets the paces of a tenant's routes. An error, which is out of memory, changes nothing.
     pub fn set(&mut self, tenant: &TenantName, paces: Listed<Pace>) -> Result<(), AllocError>
-        ensures set { OnOk result ((t : List ℕ) → paces_of t self.new ≡ (if same t tenant.now then paces else paces_of t self.old)) }
+        ensures set { OnOk result ((t : List ℕ) → paces_of t self.new
+            ≡ (if same t tenant.now then paces else paces_of t self.old)) }
         ensures err { OnErr result ((t : List ℕ) → paces_of t self.new ≡ paces_of t self.old) }
     {
         self.own.insert(*tenant, paces)?;

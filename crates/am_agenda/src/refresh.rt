@@ -27,7 +27,8 @@ pub fn refresh_alerts(
     tenant: &TenantName,
     alerts: &BTreeMap<LabelSet, Known>,
 ) -> Result<(), AllocError>
-    ensures { OnOk result ((x : Timed) → has_timer timers.new.timers x ≡ (if is_for_one tenant.now paces.now (all_groups alerts.now.entries) x
+    ensures { OnOk result ((x : Timed) → has_timer timers.new.timers x
+        ≡ (if is_for_one tenant.now paces.now (all_groups alerts.now.entries) x
         then gave (flush_due_of paces.now (grouped_of tenant.now groups.now) x.name.key) x.due
         else has_timer timers.old.timers x)) }
 {
@@ -53,7 +54,8 @@ pub fn refresh_all(
     tenant: &TenantName,
     changed: &[Group],
 ) -> Result<(), AllocError>
-    ensures { OnOk result ((x : Timed) → has_timer timers.new.timers x ≡ (if is_for_one tenant.now paces.now changed.now x
+    ensures { OnOk result ((x : Timed) → has_timer timers.new.timers x
+        ≡ (if is_for_one tenant.now paces.now changed.now x
         then gave (flush_due_of paces.now (grouped_of tenant.now groups.now) x.name.key) x.due
         else has_timer timers.old.timers x)) }
 {

@@ -1,8 +1,10 @@
 //! The timers of attempts' next tries.
 
-ghost use Rattle.std.specs.Prelude.{◌≡◌, ℕ, List, Some, None, IfNone, IfOk, IfSome, OnErr, OnOk, is_some, if◌then◌else◌};
+ghost use Rattle.std.specs.Prelude.{◌≡◌, ℕ, List, Some, None, IfNone, IfOk, IfSome, OnErr, OnOk, is_some};
+ghost use Rattle.std.specs.Prelude.{if◌then◌else◌};
 ghost use Rattle.am_tenant.specs.Names.{same};
-ghost use Rattle.am_outlet.specs.Attempts.{after_outcome, after_tick, next_of, outcome_of, without, without_key, without_number};
+ghost use Rattle.am_outlet.specs.Attempts.{after_outcome, after_tick, next_of, outcome_of, without, without_key};
+ghost use Rattle.am_outlet.specs.Attempts.{without_number};
 ghost use Rattle.am_outlet.specs.Desks.{desk_of};
 ghost use Rattle.am_agenda.specs.Planned.{due_after, with_retry, without_retry};
 
@@ -21,9 +23,12 @@ pub fn drop_attempt(
     tenant: &TenantName,
     key: &EntryKey,
 ) -> Option<u64>
-    ensures each { (t : List ℕ) → desk_of t attempts.new ≡ (if same t tenant.now then without key.now (desk_of t attempts.old) else desk_of t attempts.old) }
-    ensures one { IfSome result (λ number. without_key key.now (desk_of tenant.now attempts.old).open_ones ≡ without_number number (desk_of tenant.now attempts.old).open_ones) }
-    ensures none { IfNone result (without_key key.now (desk_of tenant.now attempts.old).open_ones ≡ (desk_of tenant.now attempts.old).open_ones) }
+    ensures each { (t : List ℕ) → desk_of t attempts.new
+        ≡ (if same t tenant.now then without key.now (desk_of t attempts.old) else desk_of t attempts.old) }
+    ensures one { IfSome result (λ number. without_key key.now (desk_of tenant.now attempts.old).open_ones
+        ≡ without_number number (desk_of tenant.now attempts.old).open_ones) }
+    ensures none { IfNone result (without_key key.now (desk_of tenant.now attempts.old).open_ones
+        ≡ (desk_of tenant.now attempts.old).open_ones) }
     ensures timers { timers.new.timers ≡ without_retry tenant.now result timers.old.timers }
 {
     let number = attempts.drop_key(tenant, key)?;
@@ -42,9 +47,13 @@ pub fn take_outcome(
     moment: Moment,
     status: Option<u16>,
 ) -> Result<Outcome, AllocError>
-    ensures outcome { IfOk result (λ outcome. outcome ≡ outcome_of number tries moment status (desk_of tenant.now attempts.old).open_ones) }
-    ensures each { (t : List ℕ) → desk_of t attempts.new ≡ (if same t tenant.now then after_outcome number tries moment status (desk_of t attempts.old) else desk_of t attempts.old) }
-    ensures timers { IfOk result (λ outcome. timers.new.timers ≡ with_retry tenant.now number (due_after outcome) timers.old.timers) }
+    ensures outcome { IfOk result (λ outcome. outcome
+        ≡ outcome_of number tries moment status (desk_of tenant.now attempts.old).open_ones) }
+    ensures each { (t : List ℕ) → desk_of t attempts.new
+        ≡ (if same t tenant.now then after_outcome number tries moment status (desk_of t attempts.old)
+        else desk_of t attempts.old) }
+    ensures timers { IfOk result (λ outcome. timers.new.timers
+        ≡ with_retry tenant.now number (due_after outcome) timers.old.timers) }
 {
     let outcome = attempts.outcome(tenant, number, tries, moment, status);
     if let Outcome::Again(due) = &outcome {
@@ -64,8 +73,10 @@ pub fn try_again(
     now: Moment,
 ) -> Result<Option<Sending>, AllocError>
     ensures sending { IfOk result (λ sending. sending ≡ next_of number now (desk_of tenant.now attempts.old)) }
-    ensures each { OnOk result ((t : List ℕ) → desk_of t attempts.new ≡ (if same t tenant.now then after_tick number now (desk_of t attempts.old) else desk_of t attempts.old)) }
-    ensures timers { IfOk result (λ sending. timers.new.timers ≡ without_retry tenant.now (if is_some sending then Some number else None) timers.old.timers) }
+    ensures each { OnOk result ((t : List ℕ) → desk_of t attempts.new
+        ≡ (if same t tenant.now then after_tick number now (desk_of t attempts.old) else desk_of t attempts.old)) }
+    ensures timers { IfOk result (λ sending. timers.new.timers
+        ≡ without_retry tenant.now (if is_some sending then Some number else None) timers.old.timers) }
     ensures err { OnErr result ((t : List ℕ) → desk_of t attempts.new ≡ desk_of t attempts.old) }
     ensures err_timers { OnErr result (timers.new.timers ≡ timers.old.timers) }
 {

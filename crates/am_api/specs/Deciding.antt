@@ -29,7 +29,8 @@ Decides (Err StoreRefused) decision = ⊥
 -- a refusal for a pattern that is not built: of one that nests too deep it is that of a text which is no pattern
 abbrev pub IsUnbuilt : Decision → Type 0
 IsUnbuilt decision =
-    (decision ≡ refused 503 (codes "B2")) ⊎ ((decision ≡ refused 400 (codes "M2")) ⊎ (decision ≡ refused 400 (codes "C7")))
+    (decision ≡ refused 503 (codes "B2")) ⊎ ((decision ≡ refused 400 (codes "M2"))
+    ⊎ (decision ≡ refused 400 (codes "C7")))
 
 -- The same, whatever was refused a build: a pattern of the request that stands among the refused ones may refuse the
 -- request, and one in use that gives no answer may be the fault.
@@ -42,9 +43,11 @@ DecidesUnless refused own stored (Err PatternNotBuilt) decision = HasUnanswered 
 DecidesUnless refused own stored (Err StoreRefused) decision = ⊥
 
 -- .. where such a pattern refuses the request so alone. Where it is the decision, no text is refused that wasn't before
-abbrev pub DecidesBy : (Decision → Type 0) → (had refused own stored : List (List ℕ)) → Result Decided Fault → Decision → Type 0
+abbrev pub DecidesBy : (Decision → Type 0) → (had refused own stored : List (List ℕ)) → Result Decided Fault → Decision
+    → Type 0
 DecidesBy Refuses had refused own stored (Ok d) decision =
-    (IsDecision d decision × (refused ≡ had)) ⊎ (Refuses (decision_of d) × (IsUnbuilt (decision_of d) × HasRefused refused own))
+    (IsDecision d decision × (refused ≡ had)) ⊎
+    (Refuses (decision_of d) × (IsUnbuilt (decision_of d) × HasRefused refused own))
 DecidesBy Refuses had refused own stored (Err fault) decision = DecidesUnless refused own stored (Err fault) decision
 
 -- the request is accepted: something is stored, or the reply is no refusal

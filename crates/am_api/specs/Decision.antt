@@ -1,9 +1,11 @@
 -- The decision on a request.
-use Rattle.std.specs.Prelude.{ℕ, ◌+◌, nat_lt, List, [], ◌∷◌, codes, length, Option, Some, None, option_map, Result, Ok, Err, if◌then◌else◌}
+use Rattle.std.specs.Prelude.{ℕ, ◌+◌, nat_lt, List, [], ◌∷◌, codes, length, Option, Some, None, option_map, Result, Ok}
+use Rattle.std.specs.Prelude.{Err, if◌then◌else◌}
 use Rattle.am_http.specs.declared.request.Method.{Method}
 use Rattle.am_http.specs.declared.request.Method.TheVariants.{Get, Post, Delete}
 use Rattle.am_http.specs.declared.request.Endpoint.{Endpoint}
-use Rattle.am_http.specs.declared.request.Endpoint.TheVariants.{Alerts, AlertGroups, Silences, Silence, Receivers, Configuration}
+use Rattle.am_http.specs.declared.request.Endpoint.TheVariants.{Alerts, AlertGroups, Silences, Silence, Receivers}
+use Rattle.am_http.specs.declared.request.Endpoint.TheVariants.{Configuration}
 use Rattle.am_http.specs.declared.request.Request.{Request}
 use Rattle.am_limit.specs.declared.limits.Limits.{Limits}
 use Rattle.am_draft.specs.Drafts as drafts

@@ -9,7 +9,8 @@ use Rattle.am_config.specs.Refusals as config_refusals
 use Rattle.am_http.specs.declared.request.Method.{Method}
 use Rattle.am_http.specs.declared.request.Method.TheVariants.{Get, Post, Delete}
 use Rattle.am_http.specs.declared.request.Endpoint.{Endpoint}
-use Rattle.am_http.specs.declared.request.Endpoint.TheVariants.{Alerts, AlertGroups, Silences, Silence, Receivers, Configuration}
+use Rattle.am_http.specs.declared.request.Endpoint.TheVariants.{Alerts, AlertGroups, Silences, Silence, Receivers}
+use Rattle.am_http.specs.declared.request.Endpoint.TheVariants.{Configuration}
 use Rattle.am_http.specs.declared.request.Request.{Request}
 use Rattle.am_limit.specs.declared.limits.Limits.{Limits}
 use Rattle.am_query.specs.declared.query.Parameter.{Parameter}
@@ -30,7 +31,8 @@ refused_query reason = refused (queries.status_of reason) (queries.code_of reaso
 
 -- a query is refused at the first of its parameters that is
 abbrev pub QueryRefuses : List Parameter → Cache → Cache → Decision → Type 0
-QueryRefuses parameters old new d = (reason : QueryRefusal) × (d ≡ refused_query reason) × StopsAt parameters reason old new
+QueryRefuses parameters old new d = (reason : QueryRefusal) × (d ≡ refused_query reason)
+    × StopsAt parameters reason old new
 
 -- a pattern of a query that was read isn't built when it is asked
 abbrev pub IsNotAnswered : List Parameter → Decision → Type 0
@@ -63,12 +65,14 @@ AlertsRefuse Post request old new d = ⊥
 AlertsRefuse Delete request old new d = ⊥
 
 abbrev pub GroupsRefuse : Method → Request → Cache → Cache → Decision → Type 0
-GroupsRefuse Get request old new d = ListRefuses (queries.processed_among (queries.parameters_in request.query)) old new d
+GroupsRefuse Get request old new d = ListRefuses
+    (queries.processed_among (queries.parameters_in request.query)) old new d
 GroupsRefuse Post request old new d = ⊥
 GroupsRefuse Delete request old new d = ⊥
 
 abbrev pub SilencesRefuse : Method → Request → Limits → Cache → Cache → Decision → Type 0
-SilencesRefuse Get request limits old new d = QueryRefuses (queries.filters_among (queries.parameters_in request.query)) old new d
+SilencesRefuse Get request limits old new d = QueryRefuses
+    (queries.filters_among (queries.parameters_in request.query)) old new d
 SilencesRefuse Post request limits old new d = SilenceRefuses request.body limits old new d
 SilencesRefuse Delete request limits old new d = ⊥
 

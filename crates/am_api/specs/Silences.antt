@@ -1,5 +1,6 @@
 -- What is decided on requests to the silences.
-use Rattle.std.specs.Prelude.{ℕ, ◌+◌, Bool, not, ◌&&◌, is_some, nat_lt, List, [], ◌∷◌, codes, length, Option, Some, None, Result, Ok, Err, if◌then◌else◌}
+use Rattle.std.specs.Prelude.{ℕ, ◌+◌, Bool, not, ◌&&◌, is_some, nat_lt, List, [], ◌∷◌, codes, length, Option, Some}
+use Rattle.std.specs.Prelude.{None, Result, Ok, Err, if◌then◌else◌}
 use Rattle.std.specs.Option.{option_and_then}
 use Rattle.rand_chacha.specs.ChaCha.{ChaCha}
 use Rattle.am_text.specs.Outcome.{◌>>=◌}
@@ -107,9 +108,10 @@ new_stored maker change (Some id) = change_stored maker change id
 -- a new silence needs words; one that is changed in its place doesn't
 abbrev pub identified : List Item → Maker → ChaCha → Changed → Option (List ℕ) → Decision
 identified held maker words change (Some id) = change_stored maker change id
-identified held maker words change None = record (new_stored maker change (new_id (words_in words) words.word_pos held)) {
-  drawn = Some (place_drawn (words_in words) words.word_pos held);
-}
+identified held maker words change None =
+    record (new_stored maker change (new_id (words_in words) words.word_pos held)) {
+      drawn = Some (place_drawn (words_in words) words.word_pos held);
+    }
 
 -- a change is stored, unless more silences would then not have expired than the limit says
 abbrev pub change_within : ℕ → List Item → ℕ → Maker → ChaCha → Changed → Decision

@@ -9,7 +9,8 @@ ghost use Rattle.am_item.specs.Key.{ConfigurationKey};
 ghost use Rattle.am_alert.specs.declared.maker.Maker.{Maker};
 ghost use Rattle.am_muting.specs.Failing.{AddsAmong};
 ghost use Rattle.am_api.specs.Deciding.{AcceptsBuilt, Decides, DecidesBy};
-ghost use Rattle.am_api.specs.Decision.{configuration_posted, configuration_stored, read_or_none, seen, status_of, text_at};
+ghost use Rattle.am_api.specs.Decision.{configuration_posted, configuration_stored, read_or_none, seen, status_of};
+ghost use Rattle.am_api.specs.Decision.{text_at};
 ghost use Rattle.am_api.specs.Refusing.{ConfigurationRefuses};
 
 use crate::decision::{self, Decided, refuse, reply};
@@ -46,7 +47,8 @@ pub(crate) fn post_configuration(
     maker: Maker,
     cache: &mut PatternCache,
 ) -> Result<Decided, Fault>
-    ensures decides { DecidesBy (ConfigurationRefuses document.now limits cache.old cache.new) cache.old.refused cache.new.refused
+    ensures decides { DecidesBy (ConfigurationRefuses document.now limits cache.old cache.new) cache.old.refused
+        cache.new.refused
         (patterns_of_draft (posted document.now)) [] result (configuration_posted limits held.now moment maker document.now) }
     ensures built { IfOk result (AcceptsBuilt (patterns_of_draft (posted document.now))) }
     ensures asked { Grows cache.old cache.new }

@@ -10,7 +10,8 @@ ghost use Rattle.am_listing.specs.Failing.{patterns_in_use};
 ghost use Rattle.am_api.specs.Deciding.{AcceptsBuilt, Decides, DecidesBy, DecidesUnless, decision_of};
 ghost use Rattle.am_api.specs.Decision.{alerts_decided, configuration_decided, decided, decided_by, receivers_decided};
 ghost use Rattle.am_api.specs.Patterns.{patterns_by, patterns_of_alerts, patterns_of_document, patterns_of_request};
-ghost use Rattle.am_api.specs.Refusing.{AlertsRefuse, DocumentRefuses, Refuses, RefusesBy, asked_by, asked_by_method, stored_asked};
+ghost use Rattle.am_api.specs.Refusing.{AlertsRefuse, DocumentRefuses, Refuses, RefusesBy, asked_by, asked_by_method};
+ghost use Rattle.am_api.specs.Refusing.{stored_asked};
 ghost use Rattle.am_api.specs.Replied.{refused, replied, stored};
 
 use crate::configuration::{delete_configuration, post_configuration, read_configuration};
@@ -66,11 +67,13 @@ pub fn decide(
 
     // Where a pattern of the request is refused its build, the request's own check that meets it refuses the request, and
     // none before it did; the fault comes of a stored pattern where the request asks such.
-    ensures refuses { DecidesBy (Refuses request.now limits cache.old cache.new) cache.old.refused cache.new.refused (patterns_of_request request.now)
+    ensures refuses { DecidesBy (Refuses request.now limits cache.old cache.new) cache.old.refused cache.new.refused
+        (patterns_of_request request.now)
         (stored_asked request.now (patterns_in_use config.now moment held.now)) result
         (decided request.now held.now limits moment maker words) }
     ensures asked { Grows cache.old cache.new }
-    ensures adds { AddsAmong (patterns_of_request request.now ++ stored_asked request.now (patterns_in_use config.now moment held.now))
+    ensures adds { AddsAmong (patterns_of_request request.now ++ stored_asked request.now
+        (patterns_in_use config.now moment held.now))
         cache.old.refused cache.new.refused }
 
     // No request is accepted before each pattern that it brings was built, in the size that one may have.
@@ -99,7 +102,8 @@ fn decide_by(
     words: Words,
     cache: &mut PatternCache,
 ) -> Result<Decided, Fault>
-    ensures decides { DecidesBy (RefusesBy request.now.endpoint request.now limits cache.old cache.new) cache.old.refused cache.new.refused
+    ensures decides { DecidesBy (RefusesBy request.now.endpoint request.now limits cache.old cache.new)
+        cache.old.refused cache.new.refused
         (patterns_by request.now.endpoint request.now)
         (asked_by request.now.endpoint request.now.method (patterns_in_use config.now moment held.now)) result
         (decided_by config.now request.now request.now.endpoint held.now limits moment maker words) }
@@ -138,7 +142,8 @@ fn decide_alerts(
     maker: Maker,
     cache: &mut PatternCache,
 ) -> Result<Decided, Fault>
-    ensures decides { DecidesBy (AlertsRefuse request.now.method request.now cache.old cache.new) cache.old.refused cache.new.refused
+    ensures decides { DecidesBy (AlertsRefuse request.now.method request.now cache.old cache.new) cache.old.refused
+        cache.new.refused
         (patterns_of_alerts request.now.method request.now)
         (asked_by_method request.now.method (patterns_in_use config.now moment held.now)) result
         (alerts_decided config.now request.now request.now.method held.now limits moment maker) }
@@ -176,7 +181,8 @@ fn decide_configuration(
     maker: Maker,
     cache: &mut PatternCache,
 ) -> Result<Decided, Fault>
-    ensures decides { DecidesBy (DocumentRefuses request.now.method request.now limits cache.old cache.new) cache.old.refused cache.new.refused
+    ensures decides { DecidesBy (DocumentRefuses request.now.method request.now limits cache.old cache.new)
+        cache.old.refused cache.new.refused
         (patterns_of_document request.now.method request.now) [] result
         (configuration_decided request.now request.now.method held.now limits moment maker) }
     ensures built { IfOk result (AcceptsBuilt (patterns_of_document request.now.method request.now)) }

@@ -21,10 +21,13 @@ ghost use Rattle.am_api.specs.Patterns.{patterns_of_items, patterns_of_request};
 /// The items of a decision are stamped with one count after another, and where none is past the greatest, there was room
 /// for as many.
 pub fn items_are_counted()
-    ensures counted { (request : Request) (held : List Item) (limits : Limits) (moment : ℕ) (maker : Maker) (words : ChaCha) →
+    ensures counted { (request : Request) (held : List Item) (limits : Limits) (moment : ℕ) (maker : Maker)
+        (words : ChaCha) →
         AreCounted maker.used (decided request held limits moment maker words).items }
-    ensures room { (request : Request) (held : List Item) (limits : Limits) (moment : ℕ) (maker : Maker) (words : ChaCha) →
-        counts_fit (decided request held limits moment maker words).items ≡ true → 0 < length (decided request held limits moment maker words).items →
+    ensures room { (request : Request) (held : List Item) (limits : Limits) (moment : ℕ) (maker : Maker)
+        (words : ChaCha) →
+        counts_fit (decided request held limits moment maker words).items ≡ true
+        → 0 < length (decided request held limits moment maker words).items →
         maker.used + length (decided request held limits moment maker words).items ≤ greatest_count }
 {}
 
@@ -32,14 +35,17 @@ pub fn items_are_counted()
 /// held. So where no build of these was refused, none of those was, and where a regex was built of each of these, one was of
 /// each of those.
 pub fn stored_patterns_were_asked()
-    ensures stored { (request : Request) (held : List Item) (limits : Limits) (moment : ℕ) (maker : Maker) (words : ChaCha)
+    ensures stored { (request : Request) (held : List Item) (limits : Limits) (moment : ℕ) (maker : Maker)
+        (words : ChaCha)
         (refused : List (List ℕ)) →
         AreRefusedRightly refused (patterns_of_request request) → AreRefusedRightly refused (patterns_of_items held) →
         AreRefusedRightly refused (patterns_of_items (decided request held limits moment maker words).items) }
-    ensures built { (request : Request) (held : List Item) (limits : Limits) (moment : ℕ) (maker : Maker) (words : ChaCha) →
+    ensures built { (request : Request) (held : List Item) (limits : Limits) (moment : ℕ) (maker : Maker)
+        (words : ChaCha) →
         All HasRegex (patterns_of_request request) → All HasRegex (patterns_of_items held) →
         All HasRegex (patterns_of_items (decided request held limits moment maker words).items) }
-    ensures in_use { (held : List Item) (moment : ℕ) (refused : List (List ℕ)) → AreRefusedRightly refused (patterns_of_items held) →
+    ensures in_use { (held : List Item) (moment : ℕ) (refused : List (List ℕ))
+        → AreRefusedRightly refused (patterns_of_items held) →
         AreRefusedRightly refused (patterns_in_use (configuration_in held) moment held) }
     ensures built_in_use { (held : List Item) (moment : ℕ) → All HasRegex (patterns_of_items held) →
         All HasRegex (patterns_in_use (configuration_in held) moment held) }

@@ -38,7 +38,8 @@ pub(crate) fn decide_list(
     moment: Moment,
     cache: &mut PatternCache,
 ) -> Result<Decided, Fault>
-    ensures decides { DecidesBy (ListRefuses (parameters_in query.now) cache.old cache.new) cache.old.refused cache.new.refused
+    ensures decides { DecidesBy (ListRefuses (parameters_in query.now) cache.old cache.new) cache.old.refused
+        cache.new.refused
         (patterns_of_query query.now) (patterns_in_use config.now moment held.now) result
         (listed_or_refused (λ asked. alerts_text config.now asked moment held.now) (query_in query.now)) }
     ensures built { IfOk result (AcceptsBuilt (patterns_of_query query.now)) }
@@ -65,7 +66,8 @@ fn list_asked(
 ) -> Result<Decided, Fault>
     requires asked { IsAsked asked.now (patterns_of_query query.now) }
     requires fine { list_all is_fine (parameters_in query.now) ≡ true }
-    ensures decides { DecidesBy (IsNotAnswered (parameters_in query.now)) cache.old.refused cache.new.refused (patterns_of_query query.now)
+    ensures decides { DecidesBy (IsNotAnswered (parameters_in query.now)) cache.old.refused cache.new.refused
+        (patterns_of_query query.now)
         (patterns_in_use config.now moment held.now) result (replied 200 (alerts_text config.now asked.now moment held.now)) }
     ensures asked { Grows cache.old cache.new }
     ensures adds { AddsAmong (patterns_of_query query.now ++ patterns_in_use config.now moment held.now)
@@ -84,7 +86,8 @@ pub(crate) fn decide_groups(
     moment: Moment,
     cache: &mut PatternCache,
 ) -> Result<Decided, Fault>
-    ensures decides { DecidesBy (GroupsRefuse request.now.method request.now cache.old cache.new) cache.old.refused cache.new.refused
+    ensures decides { DecidesBy (GroupsRefuse request.now.method request.now cache.old cache.new) cache.old.refused
+        cache.new.refused
         (patterns_of_groups request.now.method request.now)
         (asked_by_method request.now.method (patterns_in_use config.now moment held.now)) result
         (groups_decided config.now request.now request.now.method held.now moment) }
@@ -111,7 +114,8 @@ fn decide_group_list(
     moment: Moment,
     cache: &mut PatternCache,
 ) -> Result<Decided, Fault>
-    ensures decides { DecidesBy (ListRefuses (processed_among (parameters_in query.now)) cache.old cache.new) cache.old.refused cache.new.refused
+    ensures decides { DecidesBy (ListRefuses (processed_among (parameters_in query.now)) cache.old cache.new)
+        cache.old.refused cache.new.refused
         (patterns_of_group_query query.now) (patterns_in_use config.now moment held.now) result
         (listed_or_refused (λ asked. groups_text config.now asked moment held.now) (group_query_in query.now)) }
     ensures built { IfOk result (AcceptsBuilt (patterns_of_group_query query.now)) }
@@ -138,7 +142,8 @@ fn list_grouped(
 ) -> Result<Decided, Fault>
     requires asked { IsAsked asked.now (patterns_of_group_query query.now) }
     requires fine { list_all is_fine (processed_among (parameters_in query.now)) ≡ true }
-    ensures decides { DecidesBy (IsNotAnswered (processed_among (parameters_in query.now))) cache.old.refused cache.new.refused
+    ensures decides { DecidesBy (IsNotAnswered (processed_among (parameters_in query.now))) cache.old.refused
+        cache.new.refused
         (patterns_of_group_query query.now) (patterns_in_use config.now moment held.now) result (replied 200 (groups_text config.now asked.now moment held.now)) }
     ensures asked { Grows cache.old cache.new }
     ensures adds { AddsAmong (patterns_of_group_query query.now ++ patterns_in_use config.now moment held.now)

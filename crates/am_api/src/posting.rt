@@ -54,7 +54,8 @@ fn store(
 // Whether more alerts than the limit would be held once the posted ones have come. Those that are held are not gone
 // over, and where there is room for all that are posted, none is looked for.
 fn is_past(alloc: Global, limit: u64, held: &Held, posted: &[Alert]) -> Result<bool, AllocError>
-    ensures { IfOk result (λ past. (time : ℕ) (maker : Maker) → past ≡ nat_lt limit (count_with held.now time maker posted.now)) }
+    ensures { IfOk result (λ past. (time : ℕ) (maker : Maker) → past
+        ≡ nat_lt limit (count_with held.now time maker posted.now)) }
 {
     let Some(room) = limit.checked_sub(held.alerts().entries().len() as u64) else {
         return Ok(true);

@@ -13,7 +13,8 @@ ghost use Rattle.am_api.specs.Deciding.{AcceptsBuilt, Decides, DecidesBy};
 ghost use Rattle.am_api.specs.Patterns.{patterns_of_silences};
 ghost use Rattle.am_api.specs.Refusing.{QueryRefuses, SilenceRefuses, SilencesRefuse};
 ghost use Rattle.am_api.specs.Replied.{replied, stored};
-ghost use Rattle.am_api.specs.Silences.{read_or_unknown, refused_for, silence_decided, silence_items, silence_named, silence_posted, silences_decided, silences_or_refused, status_of};
+ghost use Rattle.am_api.specs.Silences.{read_or_unknown, refused_for, silence_decided, silence_items, silence_named};
+ghost use Rattle.am_api.specs.Silences.{silence_posted, silences_decided, silences_or_refused, status_of};
 
 use crate::decision::{Decided, refuse, reply, store};
 use crate::silencing::{items_of, store_posted};
@@ -41,7 +42,8 @@ pub(crate) fn decide_silences(
     words: Words,
     cache: &mut PatternCache,
 ) -> Result<Decided, Fault>
-    ensures decides { DecidesBy (SilencesRefuse request.now.method request.now limits cache.old cache.new) cache.old.refused cache.new.refused
+    ensures decides { DecidesBy (SilencesRefuse request.now.method request.now limits cache.old cache.new)
+        cache.old.refused cache.new.refused
         (patterns_of_silences request.now.method request.now) [] result
         (silences_decided request.now request.now.method held.now limits moment maker words) }
     ensures built { IfOk result (AcceptsBuilt (patterns_of_silences request.now.method request.now)) }
@@ -85,7 +87,8 @@ fn list_silences(
     moment: Moment,
     cache: &mut PatternCache,
 ) -> Result<Decided, Fault>
-    ensures decides { DecidesBy (QueryRefuses (filters_among (parameters_in query.now)) cache.old cache.new) cache.old.refused cache.new.refused
+    ensures decides { DecidesBy (QueryRefuses (filters_among (parameters_in query.now)) cache.old cache.new)
+        cache.old.refused cache.new.refused
         (patterns_of_filters query.now) [] result (silences_or_refused held.now moment (filters_in query.now)) }
     ensures built { IfOk result (AcceptsBuilt (patterns_of_filters query.now)) }
     ensures asked { Grows cache.old cache.new }

@@ -6,7 +6,8 @@ ghost use Rattle.am_alert.specs.Made.{MakesItems};
 ghost use Rattle.am_silence.specs.Changing.{changed_of, write_of};
 ghost use Rattle.am_silence.specs.Posted.{posted_of};
 ghost use Rattle.am_api.specs.Deciding.{Decides};
-ghost use Rattle.am_api.specs.Silences.{change_by, change_stored, change_within, changed_or_refused, count_with, id_given, identified, is_one_more, silence_items};
+ghost use Rattle.am_api.specs.Silences.{change_by, change_stored, change_within, changed_or_refused, count_with};
+ghost use Rattle.am_api.specs.Silences.{id_given, identified, is_one_more, silence_items};
 
 use crate::decision::{Decided, refuse, store};
 use crate::silences::refuse_for;
@@ -29,7 +30,8 @@ pub(crate) fn store_posted(
     maker: Maker,
     words: Words,
 ) -> Result<Decided, Fault>
-    ensures { Decides result (changed_or_refused limit held.now moment maker words (change_by held.now moment (posted_of posted))) }
+    ensures { Decides result (changed_or_refused limit held.now moment maker words
+        (change_by held.now moment (posted_of posted))) }
 {
     match change_by(alloc, held, posted, moment) {
         Ok(change) => store_within(alloc, change, held, limit, moment, maker, words),

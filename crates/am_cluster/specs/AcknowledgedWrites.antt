@@ -1,6 +1,7 @@
 -- Writes that were acknowledged stay: what the words of that claim mean, over what happens to one tenant. It is claimed of
 -- the cluster as it is opened, where its stores have earlier rows alone.
-use Rattle.std.specs.Prelude.{◌≡◌, ◌⊎◌, ◌<◌, ℕ, ◌+◌, Bool, true, false, IsTrue, ◌&&◌, not, ◌==◌, Contains, IfSome, List, [], ◌∷◌, ◌++◌, length, Option, Some, None, is_some, if◌then◌else◌}
+use Rattle.std.specs.Prelude.{◌≡◌, ◌⊎◌, ◌<◌, ℕ, ◌+◌, Bool, true, false, IsTrue, ◌&&◌, not, ◌==◌, Contains, IfSome, List}
+use Rattle.std.specs.Prelude.{[], ◌∷◌, ◌++◌, length, Option, Some, None, is_some, if◌then◌else◌}
 use Rattle.std.specs.List.{list_any, list_all}
 use Rattle.std.specs.Ordering.{is_lt}
 use Rattle.am_http.specs.declared.request.Request.{Request}
@@ -137,11 +138,13 @@ IsStartedBy p before i d =
 -- the list on which it was decided has the item or a greater one of its key, unless the item was outlived by then.
 abbrev pub WritesStay : PrivateCluster → List Happening → Type 0
 WritesStay p hs =
-    (before between meanwhile rest : List Happening) (ack decides : Happening) (connection i moment : ℕ) (request : Request)
+    (before between meanwhile rest : List Happening) (ack decides : Happening) (connection i moment : ℕ)
+    (request : Request)
     (item : Item)
     → hs ≡ before ++ ack ∷ (between ++ Asked connection i moment request ∷ (meanwhile ++ decides ∷ rest))
     → IsWritten p before ack item
-    → IfSome (deciding_at (after_all p (before ++ ack ∷ (between ++ Asked connection i moment request ∷ meanwhile))) decides)
+    → IfSome (deciding_at (after_all p (before ++ ack ∷ (between ++ Asked connection i moment request ∷ meanwhile)))
+    decides)
     (λ d. IsStartedBy p (before ++ ack ∷ between) i d
     → IsTrue (has d.list item)
     ⊎ IsOutlived p (before ++ ack ∷ (between ++ Asked connection i moment request ∷ (meanwhile ++ decides ∷ []))) item)

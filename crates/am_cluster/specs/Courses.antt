@@ -1,5 +1,6 @@
 -- What comes of each thing that happens to a tenant: one function for each kind, and when it is refused.
-use Rattle.std.specs.Prelude.{ℕ, Bool, true, ◌&&◌, ◌==◌, List, [], ◌∷◌, ◌++◌, Option, Some, None, is_some, if◌then◌else◌}
+use Rattle.std.specs.Prelude.{ℕ, Bool, true, ◌&&◌, ◌==◌, List, [], ◌∷◌, ◌++◌, Option, Some, None, is_some}
+use Rattle.std.specs.Prelude.{if◌then◌else◌}
 use Rattle.am_rows.specs.Rows.{stored_in}
 use Rattle.am_cluster.specs.Arriving.{arrive}
 use Rattle.am_cluster.specs.Delivery.{is_awaited, outcome}
@@ -14,7 +15,8 @@ use Rattle.am_cluster.specs.PrivateCluster.{Course, PrivateCluster, react, react
 use Rattle.am_cluster.specs.Reactions.{Reaction}
 use Rattle.am_cluster.specs.Refused.{Refused, MomentRefused, NotAwaited, NotSent}
 use Rattle.am_cluster.specs.RingChanges.{just_opened, other_restarted, ring_learned}
-use Rattle.am_cluster.specs.Roster.{Crashes, Joins, Learns, Leaves, Restarts, RingEvent, ring_event_refusal, roster_after, three_at}
+use Rattle.am_cluster.specs.Roster.{Crashes, Joins, Learns, Leaves, Restarts, RingEvent, ring_event_refusal}
+use Rattle.am_cluster.specs.Roster.{roster_after, three_at}
 use Rattle.am_cluster.specs.Sent.{posted, with_given_up}
 use Rattle.am_cluster.specs.Ticking.{ticked}
 use Rattle.am_cluster.specs.Transfers.{forced}
@@ -35,7 +37,8 @@ changed (Leaves i) p = unchanged (stopped i (if p.roster.up i then [] else p.row
 changed (Crashes i) p = unchanged (stopped i (stored_in (p.at i).held) (with_event (Crashes i) p))
 changed (Restarts i) p = react_all (at_restart i) p.clock (with_opened i (with_event (Restarts i) p))
 changed (Learns i) p =
-    react (λ here local. ring_learned here (three_at p.replicas_by p.roster i) local) p.clock i (with_event (Learns i) p)
+    react (λ here local. ring_learned here (three_at p.replicas_by p.roster i) local) p.clock i
+    (with_event (Learns i) p)
 
 -- ---- messages and outcomes
 

@@ -1,13 +1,15 @@
 -- Operations: a request goes to the three replicas, is decided at the second answer, and is replied to at the second
 -- Ack.
-use Rattle.std.specs.Prelude.{ℕ, ◌+◌, ◌&&◌, nat_le, nat_lt, ◌==◌, Bool, true, false, sum_by, codes, List, [], ◌∷◌, ◌++◌, length, Option, Some, None, option_map, if◌then◌else◌}
+use Rattle.std.specs.Prelude.{ℕ, ◌+◌, ◌&&◌, nat_le, nat_lt, ◌==◌, Bool, true, false, sum_by, codes, List, [], ◌∷◌, ◌++◌}
+use Rattle.std.specs.Prelude.{length, Option, Some, None, option_map, if◌then◌else◌}
 use Rattle.am_alert.specs.Made.{counts_fit, greatest_count}
 use Rattle.am_alert.specs.declared.maker.Maker.{Maker}
 use Rattle.am_api.specs.Decision.{decided}
 use Rattle.am_api.specs.Replied.{Decision, refused}
 use Rattle.am_http.specs.Replies.{refusal, reply}
 use Rattle.am_http.specs.declared.request.Endpoint.{Endpoint}
-use Rattle.am_http.specs.declared.request.Endpoint.TheVariants.{Alerts, AlertGroups, Silences, Silence, Receivers, Configuration}
+use Rattle.am_http.specs.declared.request.Endpoint.TheVariants.{Alerts, AlertGroups, Silences, Silence, Receivers}
+use Rattle.am_http.specs.declared.request.Endpoint.TheVariants.{Configuration}
 use Rattle.am_http.specs.declared.request.Method.{Method}
 use Rattle.am_http.specs.declared.request.Method.TheVariants as method
 use Rattle.am_http.specs.declared.request.Request.{Request}
@@ -24,7 +26,8 @@ use Rattle.am_cluster.specs.Accepting.{counted}
 use Rattle.am_cluster.specs.Here.{Here}
 use Rattle.am_cluster.specs.Local.{Ledger, Local, with_operations}
 use Rattle.am_cluster.specs.Messages.{Get, Put}
-use Rattle.am_cluster.specs.Operations.{Answered, Decided, Operation, Stage, Undecided, operation_of, with_operation, without_operation}
+use Rattle.am_cluster.specs.Operations.{Answered, Decided, Operation, Stage, Undecided, operation_of, with_operation}
+use Rattle.am_cluster.specs.Operations.{without_operation}
 use Rattle.am_transfer.specs.Pieces.{size_of}
 use Rattle.am_cluster.specs.Reactions.{Reaction, Replies, each, says, stays, where_some, ◌>>◌}
 use Rattle.am_cluster.specs.Sending.{send_all}
@@ -150,7 +153,8 @@ unfoldable pub carry_out : Here → Operation → Decision → Local → Reactio
 carry_out here operation decision local =
     let bytes : List ℕ = reply decision.status decision.body in
     (stamp decision >> (if length decision.items == 0 then finish bytes operation
-    else (wait_with bytes operation >> send_all operation.epoch here here.three (Put operation.number decision.items)))) local
+    else (wait_with bytes operation >> send_all operation.epoch here here.three (Put operation.number decision.items))))
+    local
 
 -- the list on which an operation is decided, once this answer comes: the best of two answers, which are of different
 -- replicas

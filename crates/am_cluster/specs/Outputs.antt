@@ -1,5 +1,6 @@
 -- Whose an output is.
-use Rattle.std.specs.Prelude.{ℕ, Bool, true, false, ◌++◌, is_some, List, [], ◌∷◌, Option, None, Some, filter, if◌then◌else◌}
+use Rattle.std.specs.Prelude.{ℕ, Bool, true, false, ◌++◌, is_some, List, [], ◌∷◌, Option, None, Some, filter}
+use Rattle.std.specs.Prelude.{if◌then◌else◌}
 use Rattle.std.specs.List.{list_all}
 use Rattle.am_http.specs.Codes.{code_of, status_of}
 use Rattle.am_http.specs.Replies.{ready_reply, refusal, reply}

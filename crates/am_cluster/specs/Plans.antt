@@ -5,7 +5,8 @@ use Rattle.std.specs.List.{filter_map}
 use Rattle.am_node.specs.Notices.{Plan, paces_at, planned_alerts}
 use Rattle.am_current.specs.Current.{configuration_in}
 use Rattle.am_members.specs.Grouped.{Grouped}
-use Rattle.am_node.specs.Local.{Local as ReplicaLocal, Reaction as ReplicaReaction, Said as ReplicaSaid, Records as ReplicaRecords, Replies as ReplicaReplies, Tells as ReplicaTells}
+use Rattle.am_node.specs.Local.{Local as ReplicaLocal, Reaction as ReplicaReaction, Said as ReplicaSaid}
+use Rattle.am_node.specs.Local.{Records as ReplicaRecords, Replies as ReplicaReplies, Tells as ReplicaTells}
 use Rattle.am_context.specs.declared.context.Context.{Context as NodeContext}
 use Rattle.am_cluster.specs.Here.{Here, position_here, replica_here}
 use Rattle.am_cluster.specs.Local.{Local, is_settled}

@@ -119,12 +119,14 @@ with_opened i p = record p {
 -- and rows of one key and stamp are the same, whichever stores have them
 pub record AreEarlier (first : ℕ) (rows : ℕ → List Item) : Type 0 where
   pub earlier : (i : ℕ) (item : Item) → Contains (rows i) item → item.stamp.incarnation < first
-  pub same : (i j : ℕ) (x y : Item) → Contains (rows i) x → Contains (rows j) y → key_of x ≡ key_of y → x.stamp ≡ y.stamp
+  pub same : (i j : ℕ) (x y : Item) → Contains (rows i) x → Contains (rows j) y → key_of x ≡ key_of y
+      → x.stamp ≡ y.stamp
       → x ≡ y
 
 -- before any instance is opened, where the tenant's replicas are so by ring, with these rows of the tenant in the
 -- stores
-abbrev pub unopened : (replicas_by : List ℕ → List ℕ) → Origin → (tenant : List ℕ) → (rows : ℕ → List Item) → PrivateCluster
+abbrev pub unopened : (replicas_by : List ℕ → List ℕ) → Origin → (tenant : List ℕ) → (rows : ℕ → List Item)
+    → PrivateCluster
 unopened replicas_by origin tenant rows = record {
   tenant = tenant;
   replicas_by = replicas_by;
@@ -142,7 +144,8 @@ with_all_opened [] p = p
 with_all_opened (i ∷ more) p = with_all_opened more (with_opened i p)
 
 -- .. as it is opened: the instances of the ring open their stores
-abbrev pub opened_by : (replicas_by : List ℕ → List ℕ) → Origin → (tenant : List ℕ) → (rows : ℕ → List Item) → PrivateCluster
+abbrev pub opened_by : (replicas_by : List ℕ → List ℕ) → Origin → (tenant : List ℕ) → (rows : ℕ → List Item)
+    → PrivateCluster
 opened_by replicas_by origin tenant rows =
     with_all_opened origin.ring (unopened replicas_by origin tenant rows)
 

@@ -1,11 +1,13 @@
 -- The instances: the rings so far, which ring each instance knows, which of them are up, and in which incarnation.
-use Rattle.std.specs.Prelude.{◌≡◌, ℕ, ◌+◌, Bool, true, false, ◌&&◌, not, nat_le, nat_lt, ◌==◌, Contains, List, [], ◌∷◌, ◌++◌, Option, Some, None, if◌then◌else◌}
+use Rattle.std.specs.Prelude.{◌≡◌, ℕ, ◌+◌, Bool, true, false, ◌&&◌, not, nat_le, nat_lt, ◌==◌, Contains, List, [], ◌∷◌}
+use Rattle.std.specs.Prelude.{◌++◌, Option, Some, None, if◌then◌else◌}
 use Rattle.am_ring.specs.Changes.{join_refusal, leave_refusal, with_instance, without}
 use Rattle.am_ring.specs.Instances.{all_instances, in_order, is_among, is_instance}
 use Rattle.am_ring.specs.declared.refusal.RingRefusal.{RingRefusal}
 use Rattle.am_ring.specs.declared.refusal.RingRefusal.TheVariants as ring
 use Rattle.am_setup.specs.Setup.{Origin}
-use Rattle.am_cluster.specs.Refused.{Refused, InstanceNotUp, NoIncarnation, NothingToLearn, RingFull, RingSmall, WrongInstance}
+use Rattle.am_cluster.specs.Refused.{Refused, InstanceNotUp, NoIncarnation, NothingToLearn, RingFull, RingSmall}
+use Rattle.am_cluster.specs.Refused.{WrongInstance}
 use Rattle.am_cluster.specs.Rings.{Rings, is_always_replica, newest_epoch, newest_ring, ring_at}
 
 -- the function with another value at one place

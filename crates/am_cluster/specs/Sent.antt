@@ -1,5 +1,6 @@
 -- Messages that were sent: none is forgotten, and each is there to be delivered, any number of times, until it is lost.
-use Rattle.std.specs.Prelude.{ℕ, Bool, true, false, ◌&&◌, ◌||◌, ◌==◌, nat_le, List, Option, Some, None, find, map, if◌then◌else◌}
+use Rattle.std.specs.Prelude.{ℕ, Bool, true, false, ◌&&◌, ◌||◌, ◌==◌, nat_le, List, Option, Some, None, find, map}
+use Rattle.std.specs.Prelude.{if◌then◌else◌}
 use Rattle.am_item.specs.Retirement.{moment_after}
 use Rattle.am_cluster.specs.Messages.{Message}
 use Rattle.am_cluster.specs.Reactions.{Said, messages_in}

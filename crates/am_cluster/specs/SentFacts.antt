@@ -1,5 +1,6 @@
 -- Facts about the messages that were sent, for claims over whole runs: names are given once, and a State is one list.
-use Rattle.std.specs.Prelude.{◌≡◌, ℕ, Bool, false, ◌&&◌, ◌==◌, Contains, List, [], ◌∷◌, Option, Some, None, filter, find, if◌then◌else◌}
+use Rattle.std.specs.Prelude.{◌≡◌, ℕ, Bool, false, ◌&&◌, ◌==◌, Contains, List, [], ◌∷◌, Option, Some, None, filter}
+use Rattle.std.specs.Prelude.{find, if◌then◌else◌}
 use Rattle.std.specs.List.{filter_map, list_any}
 use Rattle.am_item.specs.declared.item.Item.{Item}
 use Rattle.am_cluster.specs.Messages.{Body, Get, Answer, Put, Ack, Ask, State, Got, Message}

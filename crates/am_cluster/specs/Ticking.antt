@@ -12,7 +12,8 @@ use Rattle.am_ring.specs.Instances.{is_among}
 use Rattle.am_timer.specs.Queue.{due_at}
 use Rattle.am_timer.specs.Timer.{Key, Timer}
 use Rattle.am_timer.specs.declared.key.FlushKey.{FlushKey}
-use Rattle.am_timer.specs.declared.key.TimerKey.TheVariants.{Operation as OperationKey, Group as GroupKey, Retry as RetryKey, Push as PushKey}
+use Rattle.am_timer.specs.declared.key.TimerKey.TheVariants.{Operation as OperationKey, Group as GroupKey}
+use Rattle.am_timer.specs.declared.key.TimerKey.TheVariants.{Retry as RetryKey, Push as PushKey}
 use Rattle.am_cluster.specs.Delivery.{retried}
 use Rattle.am_cluster.specs.Flushing.{flushed}
 use Rattle.am_cluster.specs.Here.{Here}

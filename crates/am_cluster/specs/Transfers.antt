@@ -10,7 +10,8 @@ use Rattle.am_transfer.specs.Peers.{Peer}
 use Rattle.am_transfer.specs.Pieces.{Piece, SentList, pieces_to_send, reach_of}
 use Rattle.am_cluster.specs.Reactions.{Reaction, each, only_if, provided, stays}
 use Rattle.am_cluster.specs.Sending.{greatest_place, send}
-use Rattle.am_transfer.specs.Settling.{Settling, lacking, named_in, now_settled, list_for as sent_list_for, settled_by, spans_from, with_list, with_push, with_span}
+use Rattle.am_transfer.specs.Settling.{Settling, lacking, named_in, now_settled, list_for as sent_list_for, settled_by}
+use Rattle.am_transfer.specs.Settling.{spans_from, with_list, with_push, with_span}
 
 -- ---- Asks
 

@@ -34,15 +34,18 @@ ghost use Rattle.am_cluster.specs.View.{Watch, adds, first_watch, view, watch, w
 /// A tenant whom nothing has named stays so, whatever happens to the ring, and nothing is put out for it.
 pub fn unnamed_tenants()
     ensures opened { (origin : Origin) (tenant : List ℕ) → IsUnnamed (opened origin tenant (λ i. [])) }
-    ensures stay { (p : PrivateCluster) (hs : List Happening) → IsUnnamed p → IsTrue (name_nobody hs) → IsUnnamed (after_all p hs) }
-    ensures silent { (p : PrivateCluster) (hs : List Happening) → IsUnnamed p → IsTrue (name_nobody hs) → told_all p hs ≡ [] }
+    ensures stay { (p : PrivateCluster) (hs : List Happening) → IsUnnamed p → IsTrue (name_nobody hs)
+        → IsUnnamed (after_all p hs) }
+    ensures silent { (p : PrivateCluster) (hs : List Happening) → IsUnnamed p → IsTrue (name_nobody hs) → told_all p hs
+        ≡ [] }
 {}
 
 /// A join or a leave, as any other event of the ring, puts at most one replica of a tenant in another's place.
 pub fn one_replica_changes()
     ensures opened { (origin : Origin) → ring_now (opened_roster origin) ≡ in_order (ring_now (opened_roster origin)) }
     ensures one { (tenant : List ℕ) (roster : Roster) (event : RingEvent) → ring_now roster ≡ in_order (ring_now roster)
-        → ring_event_refusal event roster ≡ None → ReplacesOne tenant (ring_now roster) (ring_now (roster_after event roster)) }
+        → ring_event_refusal event roster ≡ None
+        → ReplacesOne tenant (ring_now roster) (ring_now (roster_after event roster)) }
     ensures ordered { (roster : Roster) (event : RingEvent) → ring_now roster ≡ in_order (ring_now roster)
         → ring_event_refusal event roster ≡ None
         → ring_now (roster_after event roster) ≡ in_order (ring_now (roster_after event roster)) }
@@ -81,12 +84,14 @@ pub fn instances_are_known()
 /// and nothing by which instances settle is sent: nobody asks, and the timers are deadlines, flushes and tries.
 pub fn settled_from_the_start()
     ensures opened { (origin : Origin) (tenant : List ℕ) (rows : ℕ → List Item) → IsSteady (opened origin tenant rows) }
-    ensures stay { (p : PrivateCluster) (hs : List Happening) → IsSteady p → any_moves hs ≡ false → IsSteady (after_all p hs) }
+    ensures stay { (p : PrivateCluster) (hs : List Happening) → IsSteady p → any_moves hs ≡ false
+        → IsSteady (after_all p hs) }
     ensures all { (p : PrivateCluster) (moment i : ℕ) → IsSteady p
         → is_settled (here_at p moment i) (p.at i) ≡ is_replica_here (here_at p moment i) }
     ensures settled { (here : Here) (local : Local) → here.stayed ≡ is_replica_here here → local.settling ≡ untouched
         → is_settled here local ≡ is_replica_here here }
-    ensures nobody_asks { (here : Here) (local : Local) → here.stayed ≡ is_replica_here here → asks_first here local ≡ stays local }
+    ensures nobody_asks { (here : Here) (local : Local) → here.stayed ≡ is_replica_here here → asks_first here local
+        ≡ stays local }
     ensures timers { (here : Here) (local : Local) → local.settling ≡ untouched
         → timers_of here local
         ≡ timers_in_order (deadlines here.tenant local ++ (timers_in here.tenant (plan_of here local) ++ [])) }
@@ -138,7 +143,16 @@ pub fn one_list()
 
 /// The frame of `Get` number 1 of tenant `a` from instance 1 to 2, of epoch 0.
 pub fn first_frame()
-    ensures { spelling (record { tenant = 97 ∷ []; from = 1; incarnation = 1; to = 2; count = 1; epoch = 0; body = Get 1 })
-        ≡ 0 ∷ 0 ∷ 0 ∷ 34 ∷ 2 ∷ 1 ∷ 1 ∷ 0 ∷ 0 ∷ 0 ∷ 1 ∷ 2 ∷ 0 ∷ 0 ∷ 0 ∷ 0 ∷ 0 ∷ 0 ∷ 0 ∷ 1 ∷ 0 ∷ 0 ∷ 0 ∷ 0 ∷ 0 ∷ 0 ∷ 0 ∷ 0 ∷ 1 ∷ 97
+    ensures { spelling (record {
+      tenant = 97 ∷ [];
+      from = 1;
+      incarnation = 1;
+      to = 2;
+      count = 1;
+      epoch = 0;
+      body = Get 1;
+    })
+        ≡ 0 ∷ 0 ∷ 0 ∷ 34 ∷ 2 ∷ 1 ∷ 1 ∷ 0 ∷ 0 ∷ 0 ∷ 1 ∷ 2 ∷ 0 ∷ 0 ∷ 0 ∷ 0 ∷ 0 ∷ 0 ∷ 0 ∷ 1 ∷ 0 ∷ 0 ∷ 0 ∷ 0 ∷ 0 ∷ 0 ∷ 0 ∷ 0
+        ∷ 1 ∷ 97
         ∷ 0 ∷ 0 ∷ 0 ∷ 0 ∷ 0 ∷ 0 ∷ 0 ∷ 1 ∷ [] }
 {}

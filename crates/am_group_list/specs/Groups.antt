@@ -37,14 +37,16 @@ groups_asked c receiver labels =
 -- the pairs of such a group and an alert in it, in the order of the alerts
 abbrev pub memberships : Configuration → Option (List ℕ) → List (Stamped Alert) → List (ListedGroup × Stamped Alert)
 memberships c receiver alerts =
-    flat_map (λ (alert : Stamped Alert). map (λ group. (group, alert)) (groups_asked c receiver alert.value.labels)) alerts
+    flat_map (λ (alert : Stamped Alert). map (λ group. (group, alert)) (groups_asked c receiver alert.value.labels))
+    alerts
 
 -- ---- the groups of all of them
 
 -- the order of lists of groups: by the names of their receivers, then by their labels, then by their routes
 abbrev pub listed_cmp : ListedGroup → ListedGroup → Ordering
 listed_cmp g h =
-    ordering_then (slice_cmp nat_cmp g.receiver h.receiver) (ordering_then (labels_cmp g.labels h.labels) (nat_cmp g.route h.route))
+    ordering_then (slice_cmp nat_cmp g.receiver h.receiver)
+    (ordering_then (labels_cmp g.labels h.labels) (nat_cmp g.route h.route))
 
 -- what is paired with a group, in the order of the pairs
 abbrev pub members_in : {X : Type 0} → ListedGroup → List (ListedGroup × X) → List X

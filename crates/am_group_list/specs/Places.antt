@@ -20,7 +20,8 @@ use Rattle.am_group_list.specs.declared.group.ListedGroup.{ListedGroup}
 -- the groups of an alert, by those of its routes whose flag is set
 abbrev pub groups_flagged : Configuration → List Bool → RoutedAlert → List ListedGroup
 groups_flagged c asked r =
-    map (λ route. listed_group c (group_by c r.alert.alert.labels.now route)) (filter (λ route. get_or asked route false) r.routes)
+    map (λ route. listed_group c (group_by c r.alert.alert.labels.now route))
+    (filter (λ route. get_or asked route false) r.routes)
 
 -- the pairs of a group and the place of an alert in it, where each of some alerts has these groups
 abbrev pub places_from : ℕ → List (List ListedGroup) → List (ListedGroup × ℕ)
@@ -45,7 +46,8 @@ read_of entry = (entry.0.receiver, (entry.0.labels, entry.1))
 
 -- a group of those of the alerts that stand at its places
 abbrev pub data_at : Configuration → List RoutedAlert → ListedGroup × List ℕ → Data
-data_at c alerts entry = group_data (map (read_data c) (reads_at (map read_alert alerts) entry.1)) entry.0.labels entry.0.receiver
+data_at c alerts entry = group_data (map (read_data c) (reads_at (map read_alert alerts) entry.1)) entry.0.labels
+    entry.0.receiver
 
 -- the bytes of the list
 abbrev pub written_by : Configuration → List RoutedAlert → List (ListedGroup × List ℕ) → List ℕ

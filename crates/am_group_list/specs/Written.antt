@@ -21,7 +21,8 @@ grouped_data c moment held group = group_data (map (shown_data c moment held) gr
 -- the list of the groups whose receiver a query asks for, with those of their alerts that it passes
 abbrev pub groups_data : Configuration → Query → ℕ → List Item → Data
 groups_data c query moment held =
-    array (items_of (map (grouped_data c moment held) (grouped (memberships c query.receiver (passed c query moment held)))))
+    array (items_of (map (grouped_data c moment held)
+    (grouped (memberships c query.receiver (passed c query moment held)))))
 
 -- its bytes
 unfoldable pub groups_text : Configuration → Query → ℕ → List Item → List ℕ

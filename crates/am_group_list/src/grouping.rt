@@ -1,6 +1,7 @@
 //! Which alerts are in which groups.
 
-ghost use Rattle.std.specs.Prelude.{◌≡◌, ◌∷◌, ◌++◌, ◌<◌, ℕ, [], false, List, All, IfOk, OnOk, filter, get_or, length, map};
+ghost use Rattle.std.specs.Prelude.{◌≡◌, ◌∷◌, ◌++◌, ◌<◌, ℕ, [], false, List, All, IfOk, OnOk, filter, get_or, length};
+ghost use Rattle.std.specs.Prelude.{map};
 ghost use Rattle.am_listing.specs.declared.receivers.RoutedAlert.{RoutedAlert};
 ghost use Rattle.am_members.specs.declared.group.Group.{Group};
 ghost use Rattle.am_group_list.specs.Groups.{listed_group};
@@ -26,7 +27,8 @@ pub(crate) fn grouped(
 ) -> Result<BTreeMap<ListedGroup, Vec<usize>>, AllocError>
     requires flags { length asked.now ≡ length config.now.routes }
     requires routes { All (λ (r : RoutedAlert). All (λ id. id < length config.now.routes) r.routes) alerts.now }
-    ensures { IfOk result (λ m. AreGrouped (places_by m.entries) (places_from 0 (map (groups_flagged config.now asked.now) alerts.now))) }
+    ensures { IfOk result (λ m. AreGrouped (places_by m.entries)
+        (places_from 0 (map (groups_flagged config.now asked.now) alerts.now))) }
 {
     let mut grouped = BTreeMap::new(alloc);
     for (place, alert) in alerts.iter().enumerate() {

@@ -52,7 +52,8 @@ pub fn list_groups(
     requires receiver { ForSome query.now.receiver IsPattern }
     ensures text { IfOk result (λ o. o ≡ groups_text config.now query.now moment held.now) }
     ensures asked { Asked result cache.old cache.new }
-    ensures adds { OnErr result (AddsAmong (patterns_asked query.now ++ patterns_in_use config.now moment held.now) cache.old.refused cache.new.refused) }
+    ensures adds { OnErr result (AddsAmong (patterns_asked query.now ++ patterns_in_use config.now moment held.now)
+        cache.old.refused cache.new.refused) }
     ensures failure { IfErr result (λ failure. ForRefused failure
         (IsUnanswered cache.new.refused (patterns_asked query.now) (patterns_in_use config.now moment held.now))) }
 {
@@ -72,7 +73,8 @@ fn asked_routes(
 ) -> Result<Vec<bool>, Failure<Unanswered>>
     requires pattern { ForSome receiver.now IsPattern }
     ensures flags { IfOk result (λ v. v.items
-        ≡ map (λ number. is_asked receiver.now (receiver_name config.now number ∷ [])) (range_with_len 0 (length config.now.routes))) }
+        ≡ map (λ number. is_asked receiver.now (receiver_name config.now number ∷ []))
+        (range_with_len 0 (length config.now.routes))) }
     ensures asked { Asked result cache.old cache.new }
     ensures adds { OnErr result (AddsAmong (option_to_list receiver.now) cache.old.refused cache.new.refused) }
     ensures failure { (stored : List (List ℕ)) → IfErr result (λ failure. ForRefused failure
@@ -107,7 +109,8 @@ fn read_groups<'a>(
     alloc: Global,
     groups: &'a BTreeMap<ListedGroup, Vec<usize>>,
 ) -> Result<Vec<ReadGroup<'a>>, AllocError>
-    ensures read { IfOk result (λ v. map (λ (g : ReadGroup). (g.receiver.now, (g.labels.now, g.alerts))) v.items ≡ map read_of (places_by groups.now.entries)) }
+    ensures read { IfOk result (λ v. map (λ (g : ReadGroup). (g.receiver.now, (g.labels.now, g.alerts))) v.items
+        ≡ map read_of (places_by groups.now.entries)) }
     ensures ordered { OnOk result (IsOrdered listed_cmp groups.now) }
 {
     let mut read = Vec::with_capacity(alloc, groups.len())?;

@@ -40,7 +40,8 @@ fn greatest_of<R: Rows>(
     requires { R.is_open store.old ≡ true }
     ensures clean { R.is_clean store.new ≡ true → R.is_clean store.old ≡ true }
     ensures greatest { R.is_clean store.new ≡ true → IfOk result (λ n.
-        (list_all (λ t. bounds n (rows_of t (R.pairs store.old))) tenants.now ≡ true) × IsReached n (R.pairs store.old)) }
+        (list_all (λ t. bounds n (rows_of t (R.pairs store.old))) tenants.now ≡ true)
+        × IsReached n (R.pairs store.old)) }
     ensures stays { R.is_clean store.new ≡ true → OnOk result (Keeps (R.pairs store.old) (R.pairs store.new)) }
     ensures fails { R.is_clean store.new ≡ true
         → IfErr result (IsCaused (MayRefuse (R.medium store.old) (R.medium store.new))) }

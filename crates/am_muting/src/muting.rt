@@ -39,7 +39,8 @@ pub fn mutes_of<'a>(
     ensures asked { Asked result cache.old cache.new }
     ensures failure { IfErr result (λ failure. ForRefused failure
         (λ refusal. HasUnanswered cache.new.refused (patterns_muting config.now moment held.now))) }
-    ensures adds { OnErr result (AddsAmong (patterns_muting config.now moment held.now) cache.old.refused cache.new.refused) }
+    ensures adds { OnErr result (AddsAmong (patterns_muting config.now moment held.now) cache.old.refused
+        cache.new.refused) }
 {
     let firing = sources_of(alloc, held, config, moment)?;
     let (silences, inhibited) = ask(
@@ -62,11 +63,13 @@ pub fn mutes_of_firing<'a>(
     cache: &mut PatternCache,
 ) -> Result<Mutes<'a>, Failure<PatternRefusal>>
     requires { map (λ set. set.now) firing.items ≡ firing_sets moment held.now }
-    ensures muting { IfOk result (λ m. m ≡ map (λ set. muting_of config.now moment held.now set.now) firing.entry.items) }
+    ensures muting { IfOk result (λ m. m ≡ map
+        (λ set. muting_of config.now moment held.now set.now) firing.entry.items) }
     ensures asked { Asked result cache.old cache.new }
     ensures failure { IfErr result (λ failure. ForRefused failure
         (λ refusal. HasUnanswered cache.new.refused (patterns_muting config.now moment held.now))) }
-    ensures adds { OnErr result (AddsAmong (patterns_muting config.now moment held.now) cache.old.refused cache.new.refused) }
+    ensures adds { OnErr result (AddsAmong (patterns_muting config.now moment held.now) cache.old.refused
+        cache.new.refused) }
 {
     let (silences, inhibited) = ask(alloc, held, config, moment, &firing, &firing, &[], cache)?;
     Ok(Mutes::new(firing, silences, inhibited, 0))
@@ -85,12 +88,14 @@ fn ask<'a>(
 ) -> Result<(Silenced, Inhibited), Failure<PatternRefusal>>
     ensures silencing { IfOk result (λ found. found.0 ≡ map (λ set. silencing moment held.now set.now) targets.now) }
     ensures inhibitors { IfOk result (λ found. found.1
-        ≡ map (λ target. inhibitor_places config.now.rules (map (λ set. set.now) firing.now) target.now) (firing.now ++ others.now)) }
+        ≡ map (λ target. inhibitor_places config.now.rules (map (λ set. set.now) firing.now) target.now)
+        (firing.now ++ others.now)) }
     ensures places { IfOk result (λ found. All (λ places. All (λ place. place < length firing.now) places) found.1) }
     ensures asked { Asked result cache.old cache.new }
     ensures failure { IfErr result (λ failure. ForRefused failure
         (λ refusal. HasUnanswered cache.new.refused (patterns_muting config.now moment held.now))) }
-    ensures adds { OnErr result (AddsAmong (patterns_muting config.now moment held.now) cache.old.refused cache.new.refused) }
+    ensures adds { OnErr result (AddsAmong (patterns_muting config.now moment held.now) cache.old.refused
+        cache.new.refused) }
 {
     let silences = SilenceBook::new(held).silencing(alloc, targets, moment, cache)?;
     let inhibited = inhibitors_of_each(alloc, config, firing, others, cache)?;
@@ -114,7 +119,8 @@ pub fn muted_sets(
     ensures asked { Asked result cache.old cache.new }
     ensures failure { IfErr result (λ failure. ForRefused failure
         (λ refusal. HasUnanswered cache.new.refused (patterns_muting config.now moment held.now))) }
-    ensures adds { OnErr result (AddsAmong (patterns_muting config.now moment held.now) cache.old.refused cache.new.refused) }
+    ensures adds { OnErr result (AddsAmong (patterns_muting config.now moment held.now) cache.old.refused
+        cache.new.refused) }
 {
     if is_quiet(held, config, moment) {
         return Ok(as_sets(Vec::new(alloc)));

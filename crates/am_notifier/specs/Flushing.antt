@@ -36,7 +36,14 @@ use Rattle.am_notifier.specs.Steps.{Step, each, stays}
 abbrev pub sent_entry : Stamp → Thing → Option (EntryKey × Stamped EntryDetails)
 sent_entry stamp (thing.SentEntry entry) = Some (
   record { receiver = entry.receiver; group = entry.group; webhook = entry.webhook },
-  record { stamp = stamp; value = record { ends_at = entry.ends_at; firing = entry.firing; resolved = entry.resolved } },
+  record {
+    stamp = stamp;
+    value = record {
+      ends_at = entry.ends_at;
+      firing = entry.firing;
+      resolved = entry.resolved;
+    };
+  },
 )
 sent_entry stamp (thing.Configuration text) = None
 sent_entry stamp (thing.Silence silence) = None
@@ -64,22 +71,27 @@ without_keys (key ∷ keys) desk = without_keys keys (without key desk)
 abbrev pub begun : (moment : ℕ) → Configuration → Name → Notifies → Notifies
 begun moment c group notifies =
     with_plan
-    (with_desk (without_keys (webhook_keys c group) notifies.plan.desk) (with_flush group moment notifies.plan)) notifies
+    (with_desk (without_keys (webhook_keys c group) notifies.plan.desk) (with_flush group moment notifies.plan))
+    notifies
 
 -- a group is flushed by a configuration, where these items are held and these label sets muted: that is noted, and the
 -- webhooks of its receiver are told, in their order, of what they weren't told before
-unfoldable pub flushed : Context → Configuration → (held : List Item) → (muted : List (List Label)) → Name → Notifies → Step
+unfoldable pub flushed : Context → Configuration → (held : List Item) → (muted : List (List Label)) → Name → Notifies
+    → Step
 flushed context c held muted group notifies =
     each (told context)
-    (tellings c group (sent_among held) (alerts_but muted held (members group notifies.plan.grouped.alerts)) context.moment)
+    (tellings c group (sent_among held) (alerts_but muted held (members group notifies.plan.grouped.alerts))
+    context.moment)
     (begun context.moment c group notifies)
 
 -- .. if its flush is due
-abbrev pub flushed_if : Bool → Context → Configuration → (held : List Item) → (muted : List (List Label)) → Name → Notifies → Step
+abbrev pub flushed_if : Bool → Context → Configuration → (held : List Item) → (muted : List (List Label)) → Name
+    → Notifies → Step
 flushed_if true context c held muted group notifies = flushed context c held muted group notifies
 flushed_if false context c held muted group notifies = stays notifies
 
-abbrev pub flushed_due : Context → Configuration → (held : List Item) → (muted : List (List Label)) → FlushKey → Notifies → Step
+abbrev pub flushed_due : Context → Configuration → (held : List Item) → (muted : List (List Label)) → FlushKey
+    → Notifies → Step
 flushed_due context c held muted key notifies =
     flushed_if (is_due context.moment (flush_due notifies.plan.paces notifies.plan.grouped key)) context c held muted
     (group_in key) notifies
@@ -98,12 +110,13 @@ MayTellAll context (telling ∷ tellings) notifies =
 -- ---- members as the code has them
 
 -- the alert of a label set, where it is held under it and isn't muted
-abbrev pub unmuted_at : (muted : List (List Label)) → List (List Label × Stamped AlertDetails) → List Label → Option (Stamped Alert)
+abbrev pub unmuted_at : (muted : List (List Label)) → List (List Label × Stamped AlertDetails) → List Label
+    → Option (Stamped Alert)
 unmuted_at muted entries labels =
     if list_any (is_set labels) muted then None
     else option_map (held_under labels) (lookup (is_at (labels_cmp labels)) entries)
 
 -- .. of several label sets
-abbrev pub unmuted_among : (muted : List (List Label)) → List (List Label × Stamped AlertDetails) → List (List Label × ℕ) →
-    List (Stamped Alert)
+abbrev pub unmuted_among : (muted : List (List Label)) → List (List Label × Stamped AlertDetails)
+    → List (List Label × ℕ) → List (Stamped Alert)
 unmuted_among muted entries all = filter_map (λ member. unmuted_at muted entries member.0) all

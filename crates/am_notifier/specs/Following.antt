@@ -96,7 +96,8 @@ positioned c position notifies = record notifies {
 
 -- a pattern of the routes gave no answer, and there were alerts to plan: one that wasn't known came, or all are planned
 -- anew
-abbrev pub FailsFollowing : (refused : List (List ℕ)) → Configuration → ℕ → (is_new : Bool) → List (List Label) → Plan → Type 0
+abbrev pub FailsFollowing : (refused : List (List ℕ)) → Configuration → ℕ → (is_new : Bool) → List (List Label) → Plan
+    → Type 0
 FailsFollowing refused c moment is_new sets plan =
     ((0 < length (unknown_of moment sets plan.grouped.alerts)) ⊎ ((is_new ≡ true) × (0 < length plan.grouped.alerts)))
     × HasUnanswered refused (patterns_of (route_matchers c.routes))

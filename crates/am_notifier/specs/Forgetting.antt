@@ -10,7 +10,8 @@ use Rattle.am_members.specs.declared.known.Known.{Known}
 use Rattle.am_notifier.specs.Notifies.{Notifies, with_plan}
 
 -- of a tenant's alerts those that didn't go
-abbrev pub alerts_without : List ℕ → (gone : List (List ℕ × Key)) → List (List Label × Known) → List (List Label × Known)
+abbrev pub alerts_without : List ℕ → (gone : List (List ℕ × Key)) → List (List Label × Known)
+    → List (List Label × Known)
 alerts_without t gone alerts = filter (λ a. not (is_gone t (AlertKey a.0) gone)) alerts
 
 -- a tenant's plan without these, and without the last flushes of groups that have no members

@@ -179,7 +179,8 @@ impl Notifier {
 // Closes the attempts of these keys.
 fn drop_attempts(agenda: &mut Agenda, tenant: &TenantName, keys: Vec<EntryKey>)
     ensures { (t : List ℕ) → plan_of t agenda.new
-        ≡ (if same t tenant.now then with_desk (without_keys keys.items (plan_of t agenda.old).desk) (plan_of t agenda.old)
+        ≡ (if same t tenant.now then with_desk (without_keys keys.items (plan_of t agenda.old).desk)
+        (plan_of t agenda.old)
         else plan_of t agenda.old) }
 {
     for key in keys {

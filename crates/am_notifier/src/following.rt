@@ -52,11 +52,13 @@ impl Notifier {
         config: &Config,
         cache: &mut PatternCache,
     ) -> Result<(), Failure<PatternRefusal>>
-        requires rising { IsStrictlySortedBy labels_cmp (keys_of (notifies_of tenant.now self.old).plan.grouped.alerts) }
+        requires rising { IsStrictlySortedBy labels_cmp
+            (keys_of (notifies_of tenant.now self.old).plan.grouped.alerts) }
         requires new { is_new_known came.sets.items (notifies_of tenant.now self.old).plan.grouped.alerts ≡ false }
         requires planned { came.is_configured ≡ false →
             IsPlannedBy config.now (notifies_of tenant.now self.old).position (notifies_of tenant.now self.old).plan }
-        ensures plans { OnOk result (Makes tenant.now (follows config.now moment (keys_of came.sets.items)) self.old self.new) }
+        ensures plans { OnOk result (Makes tenant.now
+            (follows config.now moment (keys_of came.sets.items)) self.old self.new) }
         ensures asked { Asked result cache.old cache.new }
         ensures failure { IfErr result (λ failure. ForRefused failure (λ refusal.
             FailsFollowing cache.new.refused config.now moment came.is_configured (keys_of came.sets.items)
@@ -142,7 +144,8 @@ fn meet_known(
     ensures plans { OnOk result ((t : List ℕ) → plan_of t agenda.new ≡ (if same t tenant.now
         then with_alerts (all_sooner moment (keys_of came.items) (plan_of t agenda.old).grouped.alerts) (plan_of t agenda.old)
         else plan_of t agenda.old)) }
-    ensures unknown { IfOk result (λ v. v.items ≡ unknown_of moment (keys_of came.items) (plan_of tenant.now agenda.old).grouped.alerts) }
+    ensures unknown { IfOk result (λ v. v.items
+        ≡ unknown_of moment (keys_of came.items) (plan_of tenant.now agenda.old).grouped.alerts) }
 {
     let mut unknown = Vec::new(alloc);
     for (labels, is_new) in came {
@@ -191,7 +194,8 @@ fn plan_known(
     ensures planned { IfOk result (λ v. v.items ≡ planned_alerts config.now alerts.items) }
     ensures asked { Asked result cache.old cache.new }
     ensures failure { IfErr result (λ failure. ForRefused failure
-        (λ refusal. (0 < length alerts.items) × HasUnanswered cache.new.refused (patterns_of (route_matchers config.now.routes)))) }
+        (λ refusal. (0 < length alerts.items) × HasUnanswered cache.new.refused
+        (patterns_of (route_matchers config.now.routes)))) }
 {
     if alerts.is_empty() {
         return Ok(Vec::new(alloc));
@@ -214,7 +218,8 @@ fn plan_new(
         else plan_of t agenda.old)) }
     ensures asked { Asked result cache.old cache.new }
     ensures failure { IfErr result (λ failure. ForRefused failure
-        (λ refusal. (0 < length unknown.items) × HasUnanswered cache.new.refused (patterns_of (route_matchers config.now.routes)))) }
+        (λ refusal. (0 < length unknown.items)
+        × HasUnanswered cache.new.refused (patterns_of (route_matchers config.now.routes)))) }
 {
     let planned = plan_known(alloc, config, unknown, cache)?;
     for (labels, known) in planned {

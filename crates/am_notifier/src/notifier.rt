@@ -92,7 +92,8 @@ impl Notifier {
     /// Whether the outcome of this try of a tenant's attempt is awaited.
     #[tactic(auto, unfolding(crate::specs::Notifies::notifies_of))]
     pub fn is_awaited(&self, tenant: &TenantName, number: u64, tries: u8) -> bool
-        ensures { result ≡ awaits_outcome tries (attempt_at number (notifies_of tenant.now self.now).plan.desk.open_ones) }
+        ensures { result ≡ awaits_outcome tries
+            (attempt_at number (notifies_of tenant.now self.now).plan.desk.open_ones) }
     {
         self.agenda.is_awaited(tenant, number, tries)
     }

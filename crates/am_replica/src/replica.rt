@@ -92,7 +92,8 @@ impl Replica {
         ensures* stays { sem 𝓛 (Rests the_row self.entry (λ new. new ≡ self.old)) }
         ensures held { IfOk result (λ used. used.0.now ≡ (holds_of tenant.now self.old).held) }
         ensures rising { IfOk result (λ used. IsRising used.0.now) }
-        ensures configuration { IfOk result (λ used. used.1.now ≡ configuration_in (holds_of tenant.now self.old).held) }
+        ensures configuration { IfOk result (λ used. used.1.now
+            ≡ configuration_in (holds_of tenant.now self.old).held) }
     {
         self.holdings.in_use(alloc, tenant)
     }

@@ -23,8 +23,10 @@ pub fn commit<R: Rows>(
     requires open { R.is_open store.old ≡ true }
     ensures clean { R.is_clean store.new ≡ true → R.is_clean store.old ≡ true }
     ensures open { OnOk result (R.is_open store.new ≡ true) }
-    ensures put { R.is_clean store.new ≡ true → OnOk result (MakesRows tenant.now (put_rows items.now) (R.pairs store.old) (R.pairs store.new)) }
-    ensures err { R.is_clean store.new ≡ true → (R.medium store.new).is_shut ≡ false → OnErr result (Keeps (R.pairs store.old) (R.pairs store.new)) }
+    ensures put { R.is_clean store.new ≡ true → OnOk result
+        (MakesRows tenant.now (put_rows items.now) (R.pairs store.old) (R.pairs store.new)) }
+    ensures err { R.is_clean store.new ≡ true → (R.medium store.new).is_shut ≡ false
+        → OnErr result (Keeps (R.pairs store.old) (R.pairs store.new)) }
     ensures fault { IfErr result (StopsStoring (has_stored items.now)) }
     ensures cause { R.is_clean store.new ≡ true → fault_in result ≡ Some Fault.StoreRefused
         → MayRefuse (R.medium store.old) (R.medium store.new) ⊎ R.rejects tenant.now items.now }
@@ -80,7 +82,8 @@ pub(crate) fn drop_rows<R: Rows>(
     ensures open { OnOk result (R.is_open store.new ≡ true) }
     ensures dropped { R.is_clean store.new ≡ true → OnOk result ((t : List ℕ) →
         rows_of t (R.pairs store.new) ≡ without_silences silences.now t (rows_of t (R.pairs store.old))) }
-    ensures err { R.is_clean store.new ≡ true → (R.medium store.new).is_shut ≡ false → OnErr result (Keeps (R.pairs store.old) (R.pairs store.new)) }
+    ensures err { R.is_clean store.new ≡ true → (R.medium store.new).is_shut ≡ false
+        → OnErr result (Keeps (R.pairs store.old) (R.pairs store.new)) }
     ensures fault { IfErr result (StopsStoring (nat_lt 0 (length silences.now))) }
     ensures cause { R.is_clean store.new ≡ true → fault_in result ≡ Some Fault.StoreRefused
         → MayRefuse (R.medium store.old) (R.medium store.new) }

@@ -1,5 +1,6 @@
 //! What a scenario is read from, and what it is written to. Each stream says by a law with which errors it fails.
-ghost use Rattle.std.specs.Prelude.{◌≡◌, ◌<◌, ℕ, List, Option, None, ⊤, IfErr, IfOk, IfSome, OnErr, OnOk, option_map, vec_items};
+ghost use Rattle.std.specs.Prelude.{◌≡◌, ◌<◌, ℕ, List, Option, None, ⊤, IfErr, IfOk, IfSome, OnErr, OnOk, option_map};
+ghost use Rattle.std.specs.Prelude.{vec_items};
 ghost use Rattle.std.specs.Io.Iter.{u64_saturate};
 ghost use Rattle.std.specs.Io.KnownBytes.{Appends, Keeps};
 ghost use Rattle.am_stream.specs.Streams.{ErrorLaw, GivesLine, IsFailureOf, KnownLines};

@@ -10,7 +10,8 @@ ghost use Rattle.am_group.specs.Deeds.{deed};
 ghost use Rattle.am_group.specs.Notices.{deeds_from};
 ghost use Rattle.am_payload.specs.Told.{told_alerts};
 ghost use Rattle.am_payload.specs.Webhook.{group_key as key_of_group};
-ghost use Rattle.am_telling.specs.Tellings.{body_for, key_for, notice_for, shown, span_of, telling_of, tellings, webhook_keys, with_state};
+ghost use Rattle.am_telling.specs.Tellings.{body_for, key_for, notice_for, shown, span_of, telling_of, tellings};
+ghost use Rattle.am_telling.specs.Tellings.{webhook_keys, with_state};
 
 use am_alert::HeldAlert;
 use am_config::{Config, Receiver, Settings, Webhook};
@@ -143,7 +144,8 @@ fn telling_of<'a>(
 ) -> Result<Option<Telling>, AllocError>
     requires spans { HasSpans flushed.now.settings }
     ensures { IfOk result (λ telling. telling
-        ≡ telling_of flushed.now.receiver.now flushed.now.group.now flushed.now.settings flushed.now.moment (deed act.entry)) }
+        ≡ telling_of flushed.now.receiver.now flushed.now.group.now flushed.now.settings flushed.now.moment
+        (deed act.entry)) }
 {
     match act {
         Act::Keep(webhook) => Ok(Some(Telling::Keep {
@@ -170,7 +172,8 @@ fn notice_for<'a>(
 ) -> Result<Notice, AllocError>
     requires spans { HasSpans flushed.now.settings }
     ensures { IfOk result (λ notice. notice
-        ≡ notice_for flushed.now.receiver.now.name flushed.now.group.now flushed.now.settings told.entry.webhook webhook.now
+        ≡ notice_for flushed.now.receiver.now.name flushed.now.group.now flushed.now.settings told.entry.webhook
+        webhook.now
         flushed.now.moment (map held_alert told.entry.alerts) told.entry.firing told.entry.resolved) }
 {
     let body = body_for(alloc, flushed, webhook, told.alerts.as_slice())?;
