@@ -1,11 +1,13 @@
 -- What is to be set where a file of limits replaces another.
 use Rattle.std.specs.Prelude.{◌≡◌, ℕ, ◌==◌, Bool, ◌&&◌, false, true, if◌then◌else◌, List, [], ◌∷◌, codes}
-use Rattle.std.specs.Prelude.{Option, None, Some}
+use Rattle.std.specs.Prelude.{Option, None, Some, Result, Ok, Err}
 use Rattle.std.specs.List.{list_any}
 use Rattle.std.specs.Map.{lookup}
 use Rattle.am_tenant.specs.Names.{same}
 use Rattle.am_limit.specs.Books.{Book, limits_of}
 use Rattle.am_limit.specs.declared.limits.Limits.{Limits}
+use Rattle.am_text.specs.Outcome.{◌>>=◌}
+use Rattle.am_limits_file.specs.LimitsFiles.{file_in}
 use Rattle.am_limits_file.specs.declared.reading.LimitsFile.{LimitsFile}
 use Rattle.am_limits_file.specs.declared.reading.TenantLimits.{TenantLimits}
 use Rattle.am_limits_file.specs.declared.refusal.LimitsFault.TheVariants.{Fixed}
@@ -54,6 +56,14 @@ AreChanges was next changes = (t : List ℕ) → set_of t changes ≡ change_of 
 -- a file with another default replaces none
 abbrev pub default_fixed : LimitsRefusal
 default_fixed = record { place = codes "default"; fault = Fixed }
+
+-- a file may replace one that has the same default
+abbrev pub with_same_default : LimitsFile → LimitsFile → Result LimitsFile LimitsRefusal
+with_same_default was next = if same_limits was.default next.default then Ok next else Err default_fixed
+
+-- the file that a text puts in the place of one, or why it is refused, where these limits are the usual ones
+unfoldable pub file_after : (usual : Limits) → LimitsFile → List ℕ → Result LimitsFile LimitsRefusal
+file_after usual was text = file_in usual text >>= with_same_default was
 
 -- what is set of a tenant once it was noted, or not: what was set of it before stays where nothing is to be set
 abbrev pub noted : Bool → Option Limits → Option Limits → Option Limits

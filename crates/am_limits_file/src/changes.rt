@@ -1,11 +1,11 @@
 //! What is to be set where a file of limits replaces another.
 
-ghost use Rattle.std.specs.Prelude.{◌≡◌, [], List, IfErr, IfOk, OnOk, false, true, ℕ};
+ghost use Rattle.std.specs.Prelude.{◌≡◌, [], List, IfOk, OnOk, ℕ};
 ghost use Rattle.am_limit.specs.Books.{limits_of};
 ghost use Rattle.am_tenant.specs.Names.{same};
-ghost use Rattle.am_text.specs.Outcome.{ForRefused};
-ghost use Rattle.am_limits_file.specs.Changes.{AreChanges, change_for, default_fixed, limits_by, names, noted};
-ghost use Rattle.am_limits_file.specs.Changes.{same_limits, set_of};
+ghost use Rattle.am_text.specs.Outcome.{Gives};
+ghost use Rattle.am_limits_file.specs.Changes.{AreChanges, change_for, limits_by, names, noted, set_of};
+ghost use Rattle.am_limits_file.specs.Changes.{with_same_default};
 
 use crate::reading::{LimitsFile, TenantLimits};
 use crate::refusal::{LimitsFault, LimitsRefusal};
@@ -38,9 +38,7 @@ impl LimitsFile {
         next: &LimitsFile,
     ) -> Result<BTreeMap<TenantName, Limits>, Failure<LimitsRefusal>>
         ensures changes { IfOk result (λ changes. AreChanges self.now next.now changes.entries) }
-        ensures fixed { IfOk result (λ _. same_limits self.now.default next.now.default ≡ true) }
-        ensures refused { IfErr result (λ failure. ForRefused failure (λ refusal.
-            (refusal ≡ default_fixed) × (same_limits self.now.default next.now.default ≡ false))) }
+        ensures gives { Gives (λ changes. next.now) result (with_same_default self.now next.now) }
     {
         if self.default != next.default {
             let place = Text::read(alloc, "default")?;

@@ -1,10 +1,9 @@
 //! The file itself, which is read again while the program serves.
 
-ghost use Rattle.std.specs.Prelude.{◌≡◌, IfErr, IfOk, OnErr, Ok};
-ghost use Rattle.am_text.specs.Outcome.{ForRefused};
-ghost use Rattle.am_limits_file.specs.Changes.{AreChanges};
-ghost use Rattle.am_limits_file.specs.LimitsFiles.{file_in};
-ghost use Rattle.am_limits_file.specs.Watching.{Renews, names_none};
+ghost use Rattle.std.specs.Prelude.{◌≡◌, IfOk, OnErr};
+ghost use Rattle.am_text.specs.Outcome.{Gives};
+ghost use Rattle.am_limits_file.specs.Changes.{AreChanges, file_after};
+ghost use Rattle.am_limits_file.specs.Watching.{Misses, Renews, Takes, names_none};
 
 use crate::reading::{LimitsFile, read_limits};
 use crate::refusal::LimitsRefusal;
@@ -71,7 +70,8 @@ impl LimitsWatch {
                 file,
                 seen: Seen::Text(text),
             })),
-            Err(failure) => Ok(Err(refused(rt.alloc(), &path, failure)?)),
+            Err(Failure::Refused(refusal)) => Ok(Err(refused(rt.alloc(), &path, refusal)?)),
+            Err(Failure::OutOfMemory) => Err(io::Error::from(AllocError)),
         }
     }
 
@@ -102,8 +102,9 @@ impl LimitsWatch {
     /// # Errors
     /// Out of memory; the file is then read again the next time.
     pub fn renew<R: Files + AllocGlobal>(&mut self, rt: &R) -> io::Result<Renewal>
-        ensures renews { IfOk result (λ renewal. Renews self.old.file renewal self.new.file) }
-        ensures usual { self.new.usual ≡ self.old.usual }
+        ensures renews { IfOk result (λ renewal. Renews self.old renewal self.new) }
+        ensures rest { self.new ≡ record self.old { file = self.new.file; seen = self.new.seen } }
+        ensures err { OnErr result (self.new ≡ self.old) }
     {
         match fs::read(rt, self.path.as_str()) {
             Ok(text) => self.take(rt.alloc(), text),
@@ -113,8 +114,9 @@ impl LimitsWatch {
 
     // Takes what the file says.
     fn take(&mut self, alloc: Global, text: Vec<u8>) -> io::Result<Renewal>
-        ensures renews { IfOk result (λ renewal. Renews self.old.file renewal self.new.file) }
-        ensures usual { self.new.usual ≡ self.old.usual }
+        ensures takes { IfOk result (λ renewal. Takes self.old text.items renewal self.new) }
+        ensures rest { self.new ≡ record self.old { file = self.new.file; seen = self.new.seen } }
+        ensures err { OnErr result (self.new ≡ self.old) }
     {
         if let Seen::Text(last) = &self.seen {
             if last.as_slice() == text.as_slice() {
@@ -123,19 +125,23 @@ impl LimitsWatch {
         }
         let renewal = match self.replace(alloc, text.as_slice()) {
             Ok(changes) => Renewal::Set(changes),
-            Err(failure) => Renewal::Refused(refused(alloc, &self.path, failure)?),
+            Err(Failure::Refused(refusal)) => Renewal::Refused(refused(
+                alloc, &self.path, refusal,
+            )?),
+            Err(Failure::OutOfMemory) => return Err(io::Error::from(AllocError)),
         };
         self.seen = Seen::Text(text);
         Ok(renewal)
     }
 
     // Has a text replace what the file says, and tells what is to be set then. One that is refused replaces nothing.
+    #[tactic(auto, unfolding(crate::specs::Changes::file_after))]
     fn replace(
         &mut self,
         alloc: Global,
         text: &[u8],
     ) -> Result<BTreeMap<TenantName, Limits>, Failure<LimitsRefusal>>
-        ensures reads { IfOk result (λ _. file_in self.old.usual text.now ≡ Ok self.new.file) }
+        ensures gives { Gives (λ changes. self.new.file) result (file_after self.old.usual self.old.file text.now) }
         ensures changes { IfOk result (λ changes. AreChanges self.old.file self.new.file changes.entries) }
         ensures err { OnErr result (self.new.file ≡ self.old.file) }
         ensures rest { self.new ≡ record self.old { file = self.new.file } }
@@ -148,8 +154,9 @@ impl LimitsWatch {
 
     // Takes that the file can't be read.
     fn miss(&mut self, alloc: Global, error: io::Error) -> io::Result<Renewal>
-        ensures renews { IfOk result (λ renewal. Renews self.old.file renewal self.new.file) }
+        ensures misses { IfOk result (λ renewal. Misses self.old renewal self.new) }
         ensures rest { self.new ≡ record self.old { seen = self.new.seen } }
+        ensures err { OnErr result (self.new ≡ self.old) }
     {
         let kind = error.kind();
         if let Seen::Unreadable(last) = self.seen {
@@ -172,13 +179,8 @@ fn unreadable(alloc: Global, path: &Text, error: io::Error) -> io::Result<String
     Ok(format!(in alloc; "{path}: {error}")?)
 }
 
-// What is told where the file is refused. Out of memory: where it was that too.
-fn refused(alloc: Global, path: &Text, failure: Failure<LimitsRefusal>) -> io::Result<String> {
-    match failure {
-        Failure::Refused(refusal) => {
-            let path = path.as_str();
-            Ok(format!(in alloc; "{path}: {refusal}")?)
-        }
-        Failure::OutOfMemory => Err(io::Error::from(AllocError)),
-    }
+// What is told where the file is refused.
+fn refused(alloc: Global, path: &Text, refusal: LimitsRefusal) -> io::Result<String> {
+    let path = path.as_str();
+    Ok(format!(in alloc; "{path}: {refusal}")?)
 }

@@ -3,7 +3,7 @@
 ghost use Rattle.std.specs.Prelude.{◌≡◌, ◌++◌, ◌∷◌, [], ℕ, List, None, Some, IfNone, OnErr, OnOk, if◌then◌else◌};
 ghost use Rattle.am_tenant.specs.Names.{same};
 ghost use Rattle.am_log.specs.Incidents.{told_with};
-ghost use Rattle.am_log.specs.Releases.{added, due, none_let_go, release_of, with_release};
+ghost use Rattle.am_log.specs.Releases.{added, due, none_let_go, once_told, release_of, with_release};
 ghost use Rattle.am_log.specs.Throttling.{after_one, once_forgotten, recent_of, told_at};
 ghost use Rattle.am_log.specs.declared.entry.Change.{Change};
 ghost use Rattle.am_log.specs.declared.entry.Entry.TheVariants.{Changed, ConnectionsLetGo, WebhookFailed};
@@ -94,10 +94,11 @@ impl Incidents {
             → self.old.changes.items ≡ change ∷ later → (result ≡ Some (Changed change))
             × (self.new.changes.items ≡ later) × (self.new.releases ≡ self.old.releases) }
         ensures let_go { (reason : LetGo) (count : ℕ) → result ≡ Some (ConnectionsLetGo reason count)
-            → due moment (release_of reason self.old.releases) ≡ Some count }
-        ensures none { IfNone result (self.old.failures.items ≡ []) }
-        ensures none_changed { IfNone result (self.old.changes.items ≡ []) }
+            → (due moment (release_of reason self.old.releases) ≡ Some count) × (self.new.releases
+            ≡ with_release reason (once_told moment (release_of reason self.old.releases)) self.old.releases) }
+        ensures none { IfNone result ((self.old.failures.items ≡ []) × (self.old.changes.items ≡ [])) }
         ensures none_due { IfNone result ((reason : LetGo) → due moment (release_of reason self.old.releases) ≡ None) }
+        ensures stay { IfNone result (self.new.releases ≡ self.old.releases) }
         ensures throttle { self.new.throttle ≡ self.old.throttle }
     {
         if let Some(told) = self.failures.pop_front() {
