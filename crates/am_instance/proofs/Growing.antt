@@ -3,7 +3,7 @@ use Rattle.std.proofs.Common.{◌≡◌, ◌∙◌, ℕ, List, [], ◌++◌, Opt
 use Rattle.std.proofs.lemmas.Bool.{cases_Bool}
 use Rattle.std.proofs.lemmas.List.{append-nil, append_assoc}
 use Rattle.std.proofs.lemmas.List.Elements.{All-nil}
-use Rattle.am_cluster.specs.Arriving.{is_meant}
+use Rattle.am_cluster.specs.Arriving.{Arrival, Counted, Dropped, Taken, arrival, is_meant}
 use Rattle.am_cluster.specs.Local.{Local}
 use Rattle.am_cluster.specs.Messages.{Ack, Answer, Ask, Body, Get, Got, Message, Put, State}
 use Rattle.am_cluster.specs.Operations.{Operation}
@@ -11,7 +11,7 @@ use Rattle.am_item.specs.declared.item.Item.{Item}
 use Rattle.am_muting.specs.Failing.{AddsAmong}
 use Rattle.am_pattern.specs.Asking.{Asked}
 use Rattle.am_pattern.specs.Cache.{Cache}
-use Rattle.am_site.specs.Arriving.{AsksAt, AsksFor, decided_by, decides}
+use Rattle.am_site.specs.Arriving.{AsksAs, AsksAt, AsksFor, decided_by, decides}
 use Rattle.am_site.specs.Deciding.{asked_by}
 use Rattle.am_site.specs.Here.{here_of}
 use Rattle.am_site.specs.declared.here.Here.{Here as Given}
@@ -38,12 +38,18 @@ asks_for_more here message (Ack operation incarnation) local result old new same
 asks_for_more here message (Ask incarnation) local result old new same = more_nothing _ _ (ap (λ (c : Cache). c.refused) same)
 asks_for_more here message (Got incarnation place) local result old new same = more_nothing _ _ (ap (λ (c : Cache). c.refused) same)
 
-pub asks_more : {X E : Type 0} (here : Given) (message : Message) (local : Local) (result : Result X E) (old new : Cache)
-    → AsksAt here message local result old new → HasMore old.refused new.refused
-asks_more here message local result old new asks = elim (cases_Bool (is_meant (here_of here) message message.body local)) [
-  | inl meant ↦ asks_for_more here message message.body local result old new (asks.0 meant)
-  | inr unmeant ↦ more_nothing _ _ (ap (λ (c : Cache). c.refused) (asks.1 unmeant))
-]
+asks_as_more : {X E : Type 0} (a : Arrival) (here : Given) (message : Message) (local : Local) (result : Result X E)
+    (old new : Cache) → AsksAs a here message local result old new → HasMore old.refused new.refused
+asks_as_more Dropped here message local result old new same = more_nothing _ _ (ap (λ (c : Cache). c.refused) same)
+asks_as_more Counted here message local result old new asks =
+    asks_for_more here message message.body local result old new asks
+asks_as_more Taken here message local result old new asks =
+    asks_for_more here message message.body local result old new asks
+
+pub asks_more : {X E : Type 0} (here : Given) (message : Message) (local : Local) (result : Result X E)
+    (old new : Cache) → AsksAt here message local result old new → HasMore old.refused new.refused
+asks_more here message local result old new asks =
+    asks_as_more (arrival (here_of here) message local) here message local result old new asks
 
 -- ---- where all goes well, only what a decision asks is added
 
@@ -61,11 +67,25 @@ asks_for_among E here message (Ack operation incarnation) local x old new same =
 asks_for_among E here message (Ask incarnation) local x old new same = nothing_added (asked_by here (decides message (Ask incarnation) local)) _ _ (ap (λ (c : Cache). c.refused) same)
 asks_for_among E here message (Got incarnation place) local x old new same = nothing_added (asked_by here (decides message (Got incarnation place) local)) _ _ (ap (λ (c : Cache). c.refused) same)
 
-pub asks_among : {X : Type 0} (E : Type 0) (here : Given) (message : Message) (local : Local) (x : X) (old new : Cache)
-    → AsksAt {X = X} {E = E} here message local (Ok x) old new → AddsAmong (asked_by here (decided_by here message local)) old.refused new.refused
+asks_as_among : {X : Type 0} (E : Type 0) (a : Arrival) (here : Given) (message : Message) (local : Local) (x : X)
+    (old new : Cache) → AsksAs {X = X} {E = E} a here message local (Ok x) old new
+    → AddsAmong (asked_by here (decides message message.body local)) old.refused new.refused
+asks_as_among E Dropped here message local x old new same =
+    nothing_added (asked_by here (decides message message.body local)) _ _ (ap (λ (c : Cache). c.refused) same)
+asks_as_among E Counted here message local x old new asks =
+    asks_for_among E here message message.body local x old new asks
+asks_as_among E Taken here message local x old new asks =
+    asks_for_among E here message message.body local x old new asks
+
+pub asks_among : {X : Type 0} (E : Type 0) (here : Given) (message : Message) (local : Local) (x : X)
+    (old new : Cache) → AsksAt {X = X} {E = E} here message local (Ok x) old new
+    → AddsAmong (asked_by here (decided_by here message local)) old.refused new.refused
 asks_among E here message local x old new asks =
     let none : Option (Operation × List Item) = None in
     elim (cases_Bool (is_meant (here_of here) message message.body local)) [
-      | inl meant ↦ rw meant (asks_for_among E here message message.body local x old new (asks.0 meant))
-      | inr unmeant ↦ rw unmeant (nothing_added (asked_by here none) _ _ (ap (λ (c : Cache). c.refused) (asks.1 unmeant)))
+      | inl meant ↦ rw meant
+          (asks_as_among E (arrival (here_of here) message local) here message local x old new asks)
+      | inr unmeant ↦
+          let same : new ≡ old = rw unmeant at asks in
+          rw unmeant (nothing_added (asked_by here none) _ _ (ap (λ (c : Cache). c.refused) same))
     ]

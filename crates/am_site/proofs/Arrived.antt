@@ -226,18 +226,26 @@ module _ (refused : List (List ℕ)) (given : Given) (sender : Peer) (place : �
   stops_before_moving PatternNotBuilt stops = inl stops
   stops_before_moving StoreRefused stops = stops
 
-  -- where the piece settles the instance, the groups of the alerts that are held then are moved
-  pub settles_unanswered : (mid : Site) (settled : Bool) → is_settled (here_of given) (local_of given.tenant.now old) ≡ settled
-      → (settled ≡ true → StopsMoving refused given mid PatternNotBuilt → StopsCommitting refused items (local_in_node given.tenant.now old.node) PatternNotBuilt)
+  -- where the piece settles the instance, the groups of the alerts that are held then are moved; where it doesn't, they
+  -- are moved for what it brings
+  pub settles_unanswered : (mid : Site) (before after : Bool) → is_settled (here_of given) (local_of given.tenant.now old) ≡ before
+      → is_settled (here_of given) (take_state (here_of given) sender place is_last items (local_of given.tenant.now old)).local ≡ after
+      → (after ≡ before → StopsMoving refused given mid PatternNotBuilt → StopsCommitting refused items (local_in_node given.tenant.now old.node) PatternNotBuilt)
       → (local_of given.tenant.now mid).sinces ≡ all_came given.moment (alert_sets items) (local_of given.tenant.now old).sinces
       → (local_of given.tenant.now mid).held ≡ all_joined (local_of given.tenant.now old).held items
       → StopsMoving refused given mid PatternNotBuilt → StopsSettling refused given sender place is_last items old PatternNotBuilt
   unfolding local_of accepted
-  settles_unanswered mid true is brings sinces held stops = inl (brings refl stops)
-  settles_unanswered mid false is brings sinces held (apart, (some, unanswered)) = inr (
-    is,
+  settles_unanswered mid true true was is brings sinces held stops = inl (brings refl stops)
+  settles_unanswered mid false false was is brings sinces held stops = inl (brings refl stops)
+  settles_unanswered mid true false was is brings sinces held stops =
+      absurd (false≢true (sym is ∙ state_settled (here_of given) sender place is_last items (local_of given.tenant.now old) was))
+  settles_unanswered mid false true was is brings sinces held (apart, (some, unanswered)) = inr (
+    was,
     (
-      subst (λ n. 0 < n) (sym (as_many (local_in_node given.tenant.now mid.node).plan.grouped.alerts) ∙ ap length sinces) some,
-      subst (λ (xs : List Item). HasUnanswered refused (patterns_of (route_matchers (configuration_in xs).routes))) held unanswered,
+      is,
+      (
+        subst (λ n. 0 < n) (sym (as_many (local_in_node given.tenant.now mid.node).plan.grouped.alerts) ∙ ap length sinces) some,
+        subst (λ (xs : List Item). HasUnanswered refused (patterns_of (route_matchers (configuration_in xs).routes))) held unanswered,
+      ),
     ),
   )

@@ -1,9 +1,9 @@
 -- What an instance does with a message that comes, by whether it is meant and by the epoch.
-use Rattle.std.proofs.Common.{◌≡◌, ℕ, ◌==◌, true, false, List, Option, None, IfSome, arith, inr, ap, refl, sym, subst, ◌∙◌, if◌then◌else◌}
+use Rattle.std.proofs.Common.{◌≡◌, ◌⊎◌, ℕ, ◌==◌, true, false, List, Option, None, IfSome, arith, inr, ap, refl, sym, subst, ◌∙◌, if◌then◌else◌}
 use Rattle.std.proofs.lemmas.Bool.{false≢true}
 use Rattle.std.proofs.lemmas.Bool.Decides.{nat_tests}
 use Rattle.am_api.specs.Replied.{Decision}
-use Rattle.am_cluster.specs.Arriving.{arrive, does, is_meant}
+use Rattle.am_cluster.specs.Arriving.{Arrival, Counted, Dropped, Taken, arrival, arrive, does, is_meant}
 use Rattle.am_cluster.specs.Here.{Here}
 use Rattle.am_cluster.specs.Local.{Local}
 use Rattle.am_cluster.specs.Messages.{Ack, Answer, Ask, Body, Get, Got, Message, Put, State, is_answer}
@@ -14,7 +14,7 @@ use Rattle.am_cluster.specs.Transfers.{asks_first}
 use Rattle.am_item.specs.declared.fault.Fault.{Fault}
 use Rattle.am_item.specs.declared.fault.Fault.TheVariants.{OutOfMemory, CountsExhausted, PatternNotBuilt, StoreRefused}
 use Rattle.am_item.specs.declared.item.Item.{Item}
-use Rattle.am_site.specs.Arriving.{Arrives, IsMade, StopsArriving, Takes, decided_by, decides, no_decision}
+use Rattle.am_site.specs.Arriving.{Arrives, IsMade, StopsArriving, StopsAs, StopsAsking, StopsAt, Takes, decided_by, decides, no_decision}
 use Rattle.am_site.specs.Deciding.{IsDecided}
 use Rattle.am_site.specs.Here.{here_of}
 use Rattle.am_site.specs.Locals.{local_of}
@@ -32,6 +32,21 @@ pub another_epoch : (n m : ℕ) → (n ≡ m → ⊥) → (n == m) ≡ false
 another_epoch n m apart = grind (arith, nat_tests)
 
 -- ---- what becomes of it
+
+module _ (here : Here) (message : Message) (l : Local) where
+  pub unmeant_dropped : is_meant here message message.body l ≡ false → arrival here message l ≡ Dropped
+  unmeant_dropped is = rw is refl
+
+  pub late_dropped : is_meant here message message.body l ≡ true → (message.epoch == here.epoch) ≡ false → is_answer message.body ≡ false
+      → arrival here message l ≡ Dropped
+  late_dropped meant apart plain = rw (meant, apart, plain) refl
+
+  pub late_counted : is_meant here message message.body l ≡ true → (message.epoch == here.epoch) ≡ false → is_answer message.body ≡ true
+      → arrival here message l ≡ Counted
+  late_counted meant apart answers = rw (meant, apart, answers) refl
+
+  pub known_taken : is_meant here message message.body l ≡ true → (message.epoch == here.epoch) ≡ true → arrival here message l ≡ Taken
+  known_taken meant known = rw (meant, known) refl
 
 module _ (decide : Decide) (here : Here) (message : Message) (l : Local) where
   pub unmeant : is_meant here message message.body l ≡ false → arrive decide here message l ≡ stays l
@@ -95,6 +110,18 @@ module _ (given : Given) (before after : List (List ℕ)) (message : Message) (o
         (nothing t (arrive (λ _ _ _ _. no_decision) here message) old x (of_another_epoch (λ _ _ _ _. no_decision) here message l meant apart plain));
   }
 
+  -- why it stops where the message counts for its operation, and where it is taken
+  pub stops_counted : (fault : Fault) → is_meant here message message.body l ≡ true → (message.epoch == here.epoch) ≡ false
+      → is_answer message.body ≡ true → StopsAt after given message message.body old fault → StopsArriving before after given message old fault
+  stops_counted fault meant apart answers stops =
+      subst (λ (a : Arrival). StopsAs a before after given message old fault) (sym (late_counted here message l meant apart answers)) stops
+
+  pub stops_taken : (fault : Fault) → is_meant here message message.body l ≡ true → (message.epoch == here.epoch) ≡ true
+      → StopsAt after given message message.body old fault ⊎ StopsAsking before after given message old fault
+      → StopsArriving before after given message old fault
+  stops_taken fault meant known stops =
+      subst (λ (a : Arrival). StopsAs a before after given message old fault) (sym (known_taken here message l meant known)) stops
+
   -- the decision that was made is that of the message
   is_made : (decision : Decision) → is_meant here message message.body l ≡ true
       → IfSome (decides message message.body l) (λ d. IsDecided before after given d.0.request d.1 l decision) → IsMade before after given message l decision
@@ -126,17 +153,14 @@ module _ (given : Given) (before after : List (List ℕ)) (message : Message) (o
     -- why it stops as it asks
     pub stops_asking : (fault : Fault) → (message.epoch == here.epoch) ≡ true → StopsReacting t (asks_first here) mid fault
         → StopsArriving before after given message old fault
-    stops_asking OutOfMemory known stops = (meant, inr tt)
-    stops_asking CountsExhausted known stops = (
-      meant,
-      inr (
-        takes.decision,
-        (
-          is_made takes.decision meant takes.made,
-          stops_from t (does decide here message message.body >> asks_first here) (arrive decide here message) old (taken decide here message l meant known) CountsExhausted
-              (stops_after t (does decide here message message.body) (asks_first here) old mid x y takes.moves CountsExhausted stops),
-        ),
+    stops_asking OutOfMemory known stops = stops_taken OutOfMemory meant known (inr tt)
+    stops_asking CountsExhausted known stops = stops_taken CountsExhausted meant known (inr (
+      takes.decision,
+      (
+        is_made takes.decision meant takes.made,
+        stops_from t (does decide here message message.body >> asks_first here) (arrive decide here message) old (taken decide here message l meant known) CountsExhausted
+            (stops_after t (does decide here message message.body) (asks_first here) old mid x y takes.moves CountsExhausted stops),
       ),
-    )
+    ))
     stops_asking PatternNotBuilt known stops = absurd stops
     stops_asking StoreRefused known stops = absurd stops

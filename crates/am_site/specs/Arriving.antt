@@ -86,11 +86,16 @@ AsksFor here message (Ack operation incarnation) local result old new = new ≡ 
 AsksFor here message (Ask incarnation) local result old new = new ≡ old
 AsksFor here message (Got incarnation place) local result old new = new ≡ old
 
--- .. and where a message comes that may not be meant
+-- .. by what becomes of the message: one that is dropped asks none
+abbrev pub AsksAs : {X E : Type 0} → Arrival → Given → Message → Local → Result X E → Cache → Cache → Type 0
+AsksAs Dropped here message local result old new = new ≡ old
+AsksAs Counted here message local result old new = AsksFor here message message.body local result old new
+AsksAs Taken here message local result old new = AsksFor here message message.body local result old new
+
+-- .. and where a message comes
 abbrev pub AsksAt : {X E : Type 0} → Given → Message → Local → Result X E → Cache → Cache → Type 0
 AsksAt here message local result old new =
-    (is_meant (here_of here) message message.body local ≡ true → AsksFor here message message.body local result old new)
-    × (is_meant (here_of here) message message.body local ≡ false → new ≡ old)
+    AsksAs (arrival (here_of here) message local) here message local result old new
 
 -- ---- why it stops
 
@@ -122,11 +127,18 @@ StopsAsking before after here message site CountsExhausted =
 StopsAsking before after here message site PatternNotBuilt = ⊥
 StopsAsking before after here message site StoreRefused = ⊥
 
+-- .. by what becomes of the message: one that is dropped stops nothing, and others are asked only behind one that is
+-- taken
+abbrev pub StopsAs : Arrival → (before after : List (List ℕ)) → Given → Message → Site → Fault → Type 0
+StopsAs Dropped before after here message site fault = ⊥
+StopsAs Counted before after here message site fault = StopsAt after here message message.body site fault
+StopsAs Taken before after here message site fault =
+    StopsAt after here message message.body site fault ⊎ StopsAsking before after here message site fault
+
 -- .. at a message that comes
 abbrev pub StopsArriving : (before after : List (List ℕ)) → Given → Message → Site → Fault → Type 0
 StopsArriving before after here message site fault =
-    (is_meant (here_of here) message message.body (local_of here.tenant.now site) ≡ true)
-    × (StopsAt after here message message.body site fault ⊎ StopsAsking before after here message site fault)
+    StopsAs (arrival (here_of here) message (local_of here.tenant.now site)) before after here message site fault
 
 -- ---- items that it brings
 

@@ -1,5 +1,5 @@
 -- Why an instance stops at items that another one puts to it, or sends as a piece of a State.
-use Rattle.std.specs.Prelude.{◌≡◌, ◌⊎◌, ℕ, ◌<◌, Bool, false, List, length}
+use Rattle.std.specs.Prelude.{◌≡◌, ◌⊎◌, ℕ, ◌<◌, Bool, true, false, List, length}
 use Rattle.am_cluster.specs.Accepting.{accepted}
 use Rattle.am_cluster.specs.Arriving.{take_put}
 use Rattle.am_cluster.specs.Local.{is_settled}
@@ -53,8 +53,10 @@ StopsSettling refused here sender place is_last items site CountsExhausted =
 StopsSettling refused here sender place is_last items site PatternNotBuilt =
     StopsTaking refused here sender place is_last items site PatternNotBuilt
     ⊎ ((is_settled (here_of here) (local_of here.tenant.now site) ≡ false)
+    × ((is_settled (here_of here)
+    (take_state (here_of here) sender place is_last items (local_of here.tenant.now site)).local ≡ true)
     × ((0 < length (accepted here.moment items (local_of here.tenant.now site)).sinces)
     × HasUnanswered refused (patterns_of
-    (route_matchers (configuration_in (all_joined (local_of here.tenant.now site).held items)).routes))))
+    (route_matchers (configuration_in (all_joined (local_of here.tenant.now site).held items)).routes)))))
 StopsSettling refused here sender place is_last items site StoreRefused =
     StopsTaking refused here sender place is_last items site StoreRefused

@@ -1,6 +1,6 @@
 //! Messages that come.
 
-ghost use Rattle.std.specs.Prelude.{◌≡◌, ◌≤◌, ℕ, List, IfErr, OnOk, length, true};
+ghost use Rattle.std.specs.Prelude.{◌≡◌, ◌≤◌, ℕ, List, None, IfErr, OnOk, length, true};
 ghost use Rattle.am_cluster.specs.Arriving.{is_meant};
 ghost use Rattle.am_cluster.specs.Messages.{is_answer};
 ghost use Rattle.am_node.specs.Held.{local_of as local_in_node};
@@ -31,8 +31,9 @@ impl Site {
     /// the message is for is done; then a replica that isn't settled asks the others, where it is to.
     ///
     /// # Errors
-    /// Those of what the message is for; and `CountsExhausted` where the Asks would pass a count. The rows are as
-    /// before; or as committed, of a Put or a State that is meant and of the epoch that is known.
+    /// None where nothing is done. Those of what the message is for; and `CountsExhausted` where it is of the epoch
+    /// that is known, and the Asks would pass a count. The rows are as before; or as committed, of a Put or a State
+    /// that is meant and of the epoch that is known. At every other message the store isn't called.
     pub fn arrive<R: Rows>(
         &mut self,
         alloc: Global,
@@ -59,6 +60,8 @@ impl Site {
             R.rejects (brought_at (here_of here.now) message (local_of here.now.tenant.now self.old))
             here.now.tenant.now here.now.moment (λ t. local_in_node t self.old.node)
             (fault_in result) (R.medium store.old) (R.medium store.new) (R.pairs store.new) }
+        ensures untouched { brought_at (here_of here.now) message (local_of here.now.tenant.now self.old) ≡ None
+            → store.new ≡ store.old }
     {
         if !self.is_meant(here, &message) {
             return Ok(());
@@ -105,6 +108,7 @@ impl Site {
             R.rejects (brought_in message.body)
             here.now.tenant.now here.now.moment (λ t. local_in_node t self.old.node)
             (fault_in result) (R.medium store.old) (R.medium store.new) (R.pairs store.new) }
+        ensures untouched { brought_in message.body ≡ None → store.new ≡ store.old }
     {
         let from = Peer {
             instance: message.from,

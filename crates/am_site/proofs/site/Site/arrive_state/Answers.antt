@@ -5,7 +5,7 @@ use Rattle.am_cluster.specs.Transfers.{take_state}
 use Rattle.am_context.proofs.Changes.{own}
 use Rattle.am_site.specs.Here.{here_of}
 use Rattle.am_site.specs.Locals.{local_of}
-use Rattle.am_site.proofs.Arrived.{is_in_order, position_keeps, settles_unanswered, state_asked, state_held, state_settled, state_sinces, still_stored, still_there, stops_before_moving, stops_putting, stops_state_moving, then_moves}
+use Rattle.am_site.proofs.Arrived.{is_in_order, position_keeps, settles_unanswered, state_asked, state_held, state_sinces, still_stored, still_there, stops_before_moving, stops_putting, stops_state_moving, then_moves}
 use Rattle.am_site.proofs.InOrder.{made_sound}
 use Rattle.am_site.proofs.SoundSettling.{take_state_sound}
 use Rattle.am_site.proofs.site.Site.arrive_state.Goals as goal
@@ -44,10 +44,11 @@ returns-in_err-take_position-clause-fault g c =
     let p = err_from_is_err_and c.from_residual-in_err-take_position.result c.from_residual-in_err-take_position.ensures.1 in
     rw (p.1, p.2)
     (stops_state_moving refused given piece.from piece.place piece.is_last piece.items.now c.args.self.now c.take_state.new.self c.in_err-take_position.field-0.0
-    (settles_unanswered refused given piece.from piece.place piece.is_last piece.items.now c.args.self.now c.take_state.new.self (is_settled here old) refl
-    (λ settled. stops_putting refused given piece.items.now c.args.self.now c.take_state.new.self c.requires.order
+    (settles_unanswered refused given piece.from piece.place piece.is_last piece.items.now c.args.self.now c.take_state.new.self
+    (is_settled here old) (is_settled here (take_state here piece.from piece.place piece.is_last piece.items.now old).local) refl refl
+    (λ same. stops_putting refused given piece.items.now c.args.self.now c.take_state.new.self c.requires.order
     (still_there here c.args.self.now c.take_state.new.self c.in_ok-take_state.ensures.reacts.keeps
-    (ap (λ (l : Local). is_settled here l) made ∙ state_settled here piece.from piece.place piece.is_last piece.items.now old settled ∙ sym settled)) sinces held)
+    (ap (λ (l : Local). is_settled here l) made ∙ same)) sinces held)
     sinces held)
     c.in_err-take_position.ensures.fault)
 
