@@ -28,15 +28,15 @@ module _ {W : Type 0} (contents : W → Contents) where
     pub are_read : IfSome known (λ known. lines ≡ known)
     pub plays : Plays contents carries answers 1 start lines played trace end
 
-  -- .. from a world on, in which so many faults came, and this is seen of its stores afterwards
+  -- .. from a world on, which is this afterwards, and in which so many faults came
   pub record Scenario (carries : Carries) (answers : Answers) (c : Contents) (known : KnownLines)
-      (played : Played) (trace : List Happened) (faults : ℕ) (shelves : List Shelf) : Type 0 where
+      (played : Played) (trace : List Happened) (faults : ℕ) (c' : Contents) : Type 0 where
     pub start : Player W
     pub is_start : IsStart contents c start
     pub end : Player W
     pub course : Course carries answers start known played trace end
-    pub counted : faults ≡ fault_count (contents end.world).state
-    pub stores : shelves ≡ (contents end.world).shelves
+    pub counted : faults ≡ fault_count c'.state
+    pub ends : c' ≡ contents end.world
 
 -- wherever a trace from a world on is cut: where no fault came before the cut, and each store that was opened before it
 -- is in memory or its disk has returned what was written by then, each tenant is as if alone until there

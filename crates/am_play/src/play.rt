@@ -56,8 +56,7 @@ pub fn play<W: AnyWorld + Drop, L: Link, S: Source, K: Sink, E: Sink>(
 ) -> Result<(Played, W), StreamFailure>
     // Where the lines of the source aren't known, there are lines of which this holds.
     ensures plays { IfOk result (λ r. (trace : List Happened) × (faults : ℕ)
-        × Scenario W.contents L.carries L.answers (W.contents world) (S.lines source) r.0 trace faults
-        (W.contents r.1).shelves
+        × Scenario W.contents L.carries L.answers (W.contents world) (S.lines source) r.0 trace faults (W.contents r.1)
         × Appends (K.contents writer.old) (K.contents writer.new) (printed trace ++ ending r.0 faults)
         × IsolatesTenants (W.contents world) trace faults (W.contents r.1).shelves) }
     ensures breaks { OnErr result (ScenarioBreaks W.contents L.carries L.answers (W.contents world) (S.lines source)

@@ -24,7 +24,7 @@ returns-clause-plays g c =
         end = end;
         course = course;
         counted = refl;
-        stores = refl;
+        ends = refl;
       },
       Appends-kept _ _ _ _ c.in_ok-played.ensures.plays.2 c.flush.ensures.bytes,
       isolates g.W.AnyWorld.contents g.L.Link.carries g.L.Link.answers start (g.S.Source.lines c.args.source)
