@@ -1,6 +1,5 @@
 use Rattle.std.proofs.Common.{◌≡◌, ℕ, Bool, true, false, List, Option, None, Some, Result, Ok, Err, OnErr, OnOk, refl, ap, ◌∙◌}
-use Rattle.std.specs.Prelude.{IfOk, IsErr, IsOk, MatchOption, is_none}
-use Rattle.std.proofs.Common.{Global, Vec}
+use Rattle.std.specs.Prelude.{IfOk, IsErr, IsOk, MatchOption, is_err, is_none}
 use Rattle.std.proofs.lemmas.Result.{on_err_weaker, on_ok_weaker}
 use Rattle.am_event.specs.declared.event.Event.{Event}
 use Rattle.am_event.specs.declared.output.Output.{Output}
@@ -11,7 +10,7 @@ use Rattle.am_world.specs.Consistent.{Contents}
 use Rattle.am_world.specs.Runs.{ForgetsOver, Run}
 use Rattle.am_world.specs.Simulation.{put_out}
 use Rattle.am_world.specs.Stopping.{Step}
-use Rattle.am_gateway.specs.Gateway.{GivesReply, Handles, IsVerdictOn, LetsTick, LearnsNext, Operates, RestartsAt, RestartsNext, Settles, SettlesInTime, Sorts, SortsSome, TellsWorld}
+use Rattle.am_gateway.specs.Gateway.{GivesReply, Handles, IsVerdictOn, LetsTick, LearnsNext, Operates, RestartsAt, RestartsNext, Settles, SettlesInTime, Sorts, SortsSome, TellsAndForgets, TellsWorld}
 use Rattle.am_event.specs.declared.event.Event.TheVariants as event
 use Rattle.am_event.specs.declared.refused.Refused.{Refused}
 use Rattle.am_world.specs.Refusal.{refusal}
@@ -45,10 +44,12 @@ replies_with : {W : Type 0} (contents : W → Contents) (c : ℕ) (e : Event) (r
     (old mid : Gateway W) (is_tick_due : Bool) → GivesReply contents c e reply outs old mid
     → GivesReply contents c e reply outs old (record mid { is_tick_due = is_tick_due })
 replies_with contents c e reply outs old mid is_tick_due g = record {
+  taken = g.taken;
   handles = g.handles;
   reply_is = g.reply_is;
   sorts = record { queues = g.sorts.queues; keeps = g.sorts.keeps };
   under_way = g.under_way;
+  vain = g.vain;
   same = record { moment = g.same.moment; ready = g.same.ready };
 }
 
@@ -84,13 +85,14 @@ waits_some_before old mid new outs stay same sorts = record {
 pub tells_before : {W X E : Type 0} (contents : W → Contents) (result : Result X E) (e : Event) (old mid new : Gateway W)
     → mid.world.now ≡ old.world.now → mid.moment ≡ old.moment
     → ((t : List ℕ) → waiting_of t mid.notices.lanes ≡ waiting_of t old.notices.lanes)
-    → mid.replies.items ≡ old.replies.items → TellsWorld contents result e mid new
+    → mid.replies.items ≡ old.replies.items → mid.vain ≡ old.vain → TellsWorld contents result e mid new
     → TellsWorld contents result e old new
-tells_before contents result e old mid new world moment stay same tells = record {
+tells_before contents result e old mid new world moment stay same vain tells = record {
   outs = tells.outs;
   handles = rw (← world, ← moment) tells.handles;
   sorts = on_ok_weaker result (waits_before old mid new tells.outs stay same) tells.sorts;
   loses = on_err_weaker result (waits_some_before old mid new tells.outs stay same) tells.loses;
+  vain = tells.vain ∙ vain;
 }
 
 -- the verdict where there is no reply yet, by whether a message was sent
@@ -103,22 +105,6 @@ unreplied_on contents c e outs old mid new given None asks gives due is =
     rw is.0 (outs, rw is.1 gives, asks, rw is.1 due)
 unreplied_on contents c e outs old mid new given (Some t) asks gives due is =
     rw is.0 (outs, t, mid, gives, asks, due, is.1)
-
-tells_with : {W X E : Type 0} (contents : W → Contents) (result : Result X E) (e : Event) (old mid : Gateway W)
-    (vain : Vec ℕ Global) → TellsWorld contents result e old mid
-    → TellsWorld contents result e old (record mid { vain = vain })
-tells_with contents result e old mid vain tells = record {
-  outs = tells.outs;
-  handles = tells.handles;
-  sorts = on_ok_weaker result (λ s. record { queues = s.queues; keeps = s.keeps }) tells.sorts;
-  loses = on_err_weaker result (λ s. record { queues = s.queues; keeps = s.keeps }) tells.loses;
-}
-
--- which restarts were in vain is no part of what the world was told
-pub tells_still : {W X E : Type 0} (contents : W → Contents) (result : Result X E) (e : Event) (old mid new : Gateway W)
-    → new ≡ record mid { vain = new.vain } → TellsWorld contents result e old mid → TellsWorld contents result e old new
-tells_still contents result e old mid new same tells =
-    rw same (tells_with contents result e old mid new.vain tells)
 
 -- no instance is to be restarted
 pub restarts_none : {W X E : Type 0} (contents : W → Contents) (result : Result X E) (old new : Gateway W)
@@ -173,7 +159,7 @@ operates_none contents result e old new why refused is same = rw refused (is, sa
 -- .. and one that happened
 pub operates : {W E : Type 0} (contents : W → Contents) (result : Result (Option Refused) E) (e : Event)
     (old new : Gateway W) → refusal (contents old.world.now).state e ≡ None → IfOk result (λ why. why ≡ None)
-    → TellsWorld contents result e old new → Operates contents result e old new
+    → TellsAndForgets contents result e old new → Operates contents result e old new
 operates contents result e old new none is tells = rw none (is, tells)
 
 -- a result is no success and failure at once
@@ -192,3 +178,10 @@ pub unrefused : {X : Type 0} (found : Option Refused) (result : Result X Refused
 unrefused None result is ok = refl
 unrefused (Some why) (Ok value) is ok = cc
 unrefused (Some why) (Err error) is ok = cc
+
+-- .. as it is where the call was seen to fail not
+pub taken : {X : Type 0} (result : Result X Refused) (found : Option Refused)
+    → MatchOption found (IsOk result) (λ why. result ≡ Err why) → (failed : Bool) → failed ≡ is_err result
+    → failed ≡ false → found ≡ None
+taken (Ok value) found is failed told well = unrefused found (Ok value) is refl
+taken (Err error) found is failed told well = cc

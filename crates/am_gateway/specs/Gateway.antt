@@ -1,7 +1,8 @@
 -- What a gateway does with its world: each piece that a connection brings is an event of the world, under the
 -- connection's own number and at the gateway's moment; the messages that come of it are passed on at once; and what the
 -- world puts out of all this is what the server is given. Of any kind of world, `contents` says what it is.
-use Rattle.std.specs.Prelude.{ℕ, ◌≡◌, ◌⊎◌, ◌↔◌, ◌+◌, ◌-◌, Bool, true, false, List, ◌∷◌, Option, None, Some, IsSome}
+use Rattle.std.specs.Prelude.{ℕ, ◌≡◌, ◌≢◌, ◌<◌, ◌⊎◌, ◌↔◌, ◌+◌, ◌-◌, Bool, true, false, List, ◌∷◌}
+use Rattle.std.specs.Prelude.{Option, None, Some, IsSome}
 use Rattle.std.specs.declared.alloc.AllocError.{AllocError}
 use Rattle.std.specs.Prelude.{Result, IfOk, IsErr, IsOk, OnOk, OnErr, Ok, MatchOption, IsTrue, is_some, length}
 use Rattle.std.specs.Prelude.{if◌then◌else◌}
@@ -10,7 +11,7 @@ use Rattle.am_event.specs.declared.event.Event.TheVariants as event
 use Rattle.am_event.specs.declared.output.Output.{Output}
 use Rattle.am_event.specs.declared.refused.Refused.{Refused}
 use Rattle.am_serve.specs.Lanes.{comes_before, is_ready, under_way_of, waiting_of}
-use Rattle.am_serve.specs.Weights.{IsHeaviest}
+use Rattle.am_serve.specs.Weights.{IsHeaviest, all_bytes}
 use Rattle.am_serve.specs.declared.host.Verdict.{Verdict}
 use Rattle.am_serve.specs.declared.host.Verdict.TheVariants.{Undecided, Reply, Later, Gone}
 use Rattle.am_server.specs.declared.service.Notice.{Notice}
@@ -23,7 +24,7 @@ use Rattle.am_world.specs.Simulation.{put_out}
 use Rattle.am_world.specs.Stopping.{Step}
 use Rattle.am_gateway.specs.Learning.{behind}
 use Rattle.am_gateway.specs.Passing.{asked_in, passes}
-use Rattle.am_gateway.specs.Restarting.{counted, fallen}
+use Rattle.am_gateway.specs.Restarting.{counted, fallen, vain_since}
 use Rattle.am_gateway.specs.Serving.{serving_in}
 use Rattle.am_gateway.specs.Sorting.{reply_on, Keeps, KeepsSome, Queues, QueuesSome}
 use Rattle.am_gateway.specs.declared.gateway.Gateway.{Gateway}
@@ -62,14 +63,17 @@ pub record SortsSome {W : Type 0} (named : Option ℕ) (outs : List Output) (old
   pub queues : QueuesSome old.notices.lanes outs new.notices.lanes
   pub keeps : KeepsSome named old.replies.items outs new.replies.items
 
--- The world handled an event, what it put out waits, and this is the reply that it put out on the connection. There is
--- none where the request isn't whole yet, where no quorum has answered it, or where the instance stopped.
+-- The world took an event and handled it, what it put out waits, and this is the reply that it put out on the
+-- connection. There is none where the request isn't whole yet, where no quorum has answered it, or where the instance
+-- stopped.
 pub record GivesReply {W : Type 0} (contents : W → Contents) (c : ℕ) (e : Event) (reply : Option (List ℕ))
     (outs : List Output) (old new : Gateway W) : Type 0 where
+  pub taken : refusal (contents old.world.now).state e ≡ None
   pub handles : Handles (contents old.world.now) e old.moment outs (contents new.world.now)
   pub reply_is : reply_on (Some c) outs ≡ reply
   pub sorts : Sorts (Some c) outs old new
   pub under_way : SameUnderWay old new
+  pub vain : new.vain ≡ old.vain
   pub same : IsSameGateway old new
 
 -- the world refused the event, and nothing changed
@@ -77,13 +81,14 @@ pub record RefusesEvent {W : Type 0} (contents : W → Contents) (e : Event) (ol
   pub refused : IsSome (refusal (contents old.world.now).state e)
   pub unchanged : new ≡ old
 
--- memory ran out before the world had the event of a connection; or the world handled it, and of what it put out all
--- but a first part was lost
+-- memory ran out before the world had the event of a connection, and nothing changed; or the world handled it, and of
+-- what it put out all but a first part was lost
 pub record LosesEvent {W : Type 0} (contents : W → Contents) (c : ℕ) (e : Event) (old new : Gateway W) : Type 0 where
-  pub reached : (new.world.now ≡ old.world.now) ⊎ ((outs : List Output)
+  pub reached : (new ≡ old) ⊎ ((outs : List Output)
       × Handles (contents old.world.now) e old.moment outs (contents new.world.now) × SortsSome (Some c) outs old new)
   pub is_tick_due : new.is_tick_due ≡ old.is_tick_due
   pub under_way : SameUnderWay old new
+  pub vain : new.vain ≡ old.vain
   pub same : IsSameGateway old new
 
 -- the world was told that the client of a connection left
@@ -111,6 +116,7 @@ pub record TellsWorld {W : Type 0} {X E : Type 0} (contents : W → Contents) (r
   pub handles : Handles (contents old.world.now) e old.moment outs (contents new.world.now)
   pub sorts : OnOk result (Sorts None outs old new)
   pub loses : OnErr result (SortsSome None outs old new)
+  pub vain : new.vain ≡ old.vain
 
 -- memory may run out here, so that of what was put out all but a first part was lost
 abbrev pub TellsMostly : {W : Type 0} → (W → Contents) → Event → Gateway W → Gateway W → Type 0
@@ -161,12 +167,17 @@ OpensConnection contents old c result new = MatchOption (serving_in (contents ol
 
 -- ---- the clock and the calls
 
--- an instance was restarted, and whether that was in vain is counted
+-- an instance was restarted, and then it is counted whether that was in vain, unless memory ran out
 pub record RestartsAt {W : Type 0} {X E : Type 0} (contents : W → Contents) (result : Result X E) (i : ℕ)
     (old new : Gateway W) : Type 0 where
-  pub told : (told : Result X E) × TellsWorld contents told (event.Restart i) old new × (IsOk result → IsOk told)
+  pub told : Result X E
+  pub mid : Gateway W
+  pub tells : TellsWorld contents told (event.Restart i) old mid
+  pub goes_on : IsOk result → IsOk told
   pub counted : OnOk result (new.vain.items
       ≡ counted old.vain.items (is_some (cause_at i (contents new.world.now).state.instances)) i)
+  pub uncounted : OnErr result (new.vain.items ≡ old.vain.items)
+  pub rest : new ≡ record mid { vain = new.vain }
 
 -- the instance was restarted that is next, where one is
 abbrev pub RestartsNext : {W : Type 0} {X E : Type 0} → (W → Contents) → Result X E → Gateway W → Gateway W → Type 0
@@ -192,11 +203,19 @@ GoesOn {W = W} {X = X} {E = E} contents result old new = (ready : Result X E) ×
     × ((IsErr ready × IsErr result × (new ≡ mid))
     ⊎ (IsOk ready × TellsWorld contents result (event.Tick mid.moment) mid new))
 
--- an event was refused, for this, and nothing changed; or the world handled it
+-- the world handled an event, and then the restarts in vain of instances that are up are forgotten
+pub record TellsAndForgets {W : Type 0} {X E : Type 0} (contents : W → Contents) (result : Result X E) (e : Event)
+    (old new : Gateway W) : Type 0 where
+  pub mid : Gateway W
+  pub tells : TellsWorld contents result e old mid
+  pub vain : new.vain.items ≡ vain_since old.vain.items (contents new.world.now).state
+  pub rest : new ≡ record mid { vain = new.vain }
+
+-- an event was refused, for this, and nothing changed; or it happened
 abbrev pub Operates : {W : Type 0} {E : Type 0} → (W → Contents) → Result (Option Refused) E → Event → Gateway W →
     Gateway W → Type 0
 Operates contents result e old new = MatchOption (refusal (contents old.world.now).state e)
-    (IfOk result (λ refused. refused ≡ None) × TellsWorld contents result e old new)
+    (IfOk result (λ refused. refused ≡ None) × TellsAndForgets contents result e old new)
     (λ why. (result ≡ Ok (Some why)) × (new ≡ old))
 
 -- the notice that waited longest of the tenant whose turn it is, which has fewer calls under way than there are places
@@ -211,10 +230,19 @@ pub record BeginsCall {W : Type 0} (free : ℕ) (notice : Notice Try) (old new :
   pub under_way : (t : List ℕ) → under_way_of t new.notices.lanes
       ≡ (if same t tenant then under_way_of t old.notices.lanes + 1 else under_way_of t old.notices.lanes)
 
+-- how many bytes a notice holds that waits
+abbrev pub notice_bytes : Notice Try → ℕ
+notice_bytes notice = length notice.request
+
+-- the notices that wait hold over 256 MiB, and this one doesn't hold all of it
+pub record WaitsTooMuch {W : Type 0} (notice : Notice Try) (gateway : Gateway W) : Type 0 where
+  pub over : 268435456 < all_bytes notice_bytes gateway.notices.lanes
+  pub shared : notice_bytes notice ≢ all_bytes notice_bytes gateway.notices.lanes
+
 -- the notice that waited longest of the tenant of whom most bytes wait is taken as if its call were begun
 pub record GivesUpCall {W : Type 0} (notice : Notice Try) (old new : Gateway W) : Type 0 where
   pub tenant : List ℕ
-  pub heaviest : IsHeaviest (λ (waiting : Notice Try). length waiting.request) tenant old.notices.lanes
+  pub heaviest : IsHeaviest notice_bytes tenant old.notices.lanes
   pub first : waiting_of tenant old.notices.lanes ≡ notice ∷ waiting_of tenant new.notices.lanes
   pub others : (t : List ℕ) → same t tenant ≡ false → waiting_of t new.notices.lanes ≡ waiting_of t old.notices.lanes
   pub under_way : (t : List ℕ) → under_way_of t new.notices.lanes

@@ -1,9 +1,9 @@
 //! What stands between a server and its world.
-ghost use Rattle.std.specs.Prelude.{◌≡◌, ◌∷◌, ℕ, List, [], Some, false, true, min, length};
+ghost use Rattle.std.specs.Prelude.{◌≡◌, ◌∷◌, ℕ, List, [], Some, false, true, min};
 ghost use Rattle.std.specs.Prelude.{IfOk, IfSome, IfNone, IsOk, MatchOption, OnErr, OnOk};
 ghost use Rattle.am_http.specs.Replies.{ready_reply as the_ready_reply};
 ghost use Rattle.am_serve.specs.Lanes.{is_ready, under_way_of, waiting_of};
-ghost use Rattle.am_serve.specs.Weights.{all_bytes};
+ghost use Rattle.am_serve.specs.Weights.{WaitsWithin, all_bytes};
 ghost use Rattle.am_event.specs.declared.event.Event.TheVariants as event;
 ghost use Rattle.am_serve.specs.declared.host.Verdict.TheVariants as verdict;
 ghost use Rattle.am_world.specs.Consistent.{last_moment};
@@ -12,7 +12,7 @@ ghost use Rattle.am_world.specs.Simulation.{put_out};
 
 use crate::learning::behind;
 use crate::passing::{asked_tenant, pass_all};
-use crate::restarting::{fallen, note};
+use crate::restarting::{fallen, forget_up, note};
 use crate::serving::{has_quorum, serving};
 use crate::sorting::{LateReply, sort};
 use am_http::{ConnectionId, ready_reply};
@@ -72,7 +72,8 @@ impl<W: AnyWorld> Drop for Gateway<'_, W> {
 impl<'w, W: AnyWorld> Gateway<'w, W> {
     ghost use Rattle.am_gateway.specs.Gateway.{IsSameGateway, IsVerdictOn, LearnsNext, LetsTick, LosesEvent};
     ghost use Rattle.am_gateway.specs.Gateway.{MakesReady, Operates, RestartsNext, SameUnderWay, Settles};
-    ghost use Rattle.am_gateway.specs.Gateway.{SettlesInTime, Sorts, SortsSome, TakesPiece, TellsWorld, piece_event};
+    ghost use Rattle.am_gateway.specs.Gateway.{SettlesInTime, Sorts, SortsSome, TakesPiece, TellsWorld, notice_bytes};
+    ghost use Rattle.am_gateway.specs.Gateway.{piece_event};
     ghost use Rattle.am_gateway.specs.Sorting.{reply_on};
 
     /// A gateway to a world that was just opened.
@@ -118,7 +119,7 @@ impl<'w, W: AnyWorld> Gateway<'w, W> {
 
     /// How many bytes the requests of the notices hold that wait for their calls.
     pub fn waiting_bytes(&self) -> usize
-        ensures { result ≡ all_bytes (λ notice. length notice.request) self.now.notices.lanes }
+        ensures { result ≡ all_bytes notice_bytes self.now.notices.lanes }
     {
         self.notices.bytes()
     }
@@ -149,7 +150,6 @@ impl<'w, W: AnyWorld> Gateway<'w, W> {
         ensures is_tick_due { self.new.is_tick_due ≡ self.old.is_tick_due }
         ensures under_way { SameUnderWay self.old self.new }
         ensures same { IsSameGateway self.old self.new }
-        ensures vain { self.new.vain ≡ self.old.vain }
     {
         let _ = self.world.step(self.alloc, event);
         pass_all(self.world, self.alloc, self.moment);
@@ -264,7 +264,8 @@ impl<'w, W: AnyWorld> Gateway<'w, W> {
     }
 
     /// Has an event happen that an operator asks for: an instance joins the ring or leaves it, goes down or is
-    /// restarted, or a tenant is settled by force. Gives why it is refused, where it is; nothing changed then.
+    /// restarted, or a tenant is settled by force. Of instances that are up then no restart counts as in vain any
+    /// more. Gives why it is refused, where it is; nothing changed then.
     ///
     /// # Errors
     /// Out of memory: the event happened, and of what was put out all but a first part is lost.
@@ -273,13 +274,14 @@ impl<'w, W: AnyWorld> Gateway<'w, W> {
         ensures is_tick_due { self.new.is_tick_due ≡ self.old.is_tick_due }
         ensures under_way { SameUnderWay self.old self.new }
         ensures same { IsSameGateway self.old self.new }
-        ensures vain { self.new.vain ≡ self.old.vain }
     {
         if let Err(refused) = self.world.step(self.alloc, event) {
             return Ok(Some(refused));
         }
         pass_all(self.world, self.alloc, self.moment);
-        match self.sort(None) {
+        let sorted = self.sort(None);
+        forget_up(&mut self.vain, self.world);
+        match sorted {
             Ok(_) => Ok(None),
             Err(error) => Err(error),
         }
@@ -338,7 +340,7 @@ impl<W: AnyWorld> Host for Gateway<'_, W> {
 
 impl<W: AnyWorld> Service for Gateway<'_, W> {
     ghost use Rattle.am_gateway.specs.Gateway.{BeginsCall, EndsCall, GivesUpCall, IsSameGateway, SameUnderWay};
-    ghost use Rattle.am_gateway.specs.Gateway.{GoesOn, TellsWorld};
+    ghost use Rattle.am_gateway.specs.Gateway.{GoesOn, TellsWorld, WaitsTooMuch, notice_bytes};
     ghost use Rattle.am_gateway.specs.Serving.{has_quorum as has_quorum_in};
 
     type Name = Try;
@@ -402,7 +404,9 @@ impl<W: AnyWorld> Service for Gateway<'_, W> {
 
     // Of the tenant of whom most bytes wait, the notice that waited longest.
     fn next_given_up(&mut self) -> Option<Notice<Try>>
+        ensures over { IfSome result (λ notice. WaitsTooMuch notice self.old) }
         ensures gives_up { IfSome result (λ notice. GivesUpCall notice self.old self.new) }
+        ensures none { IfNone result (WaitsWithin notice_bytes self.old.notices.lanes) }
         ensures stays { IfNone result (self.new ≡ self.old) }
         ensures rest { self.new ≡ record self.old { notices = self.new.notices } }
     {

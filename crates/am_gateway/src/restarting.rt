@@ -1,6 +1,6 @@
 //! Which instance is restarted.
 ghost use Rattle.std.specs.Prelude.{◌≡◌, ◌==◌, OnErr, OnOk, count_by, filter, find, not};
-ghost use Rattle.am_gateway.specs.Restarting.{counted, fallen, is_fallen};
+ghost use Rattle.am_gateway.specs.Restarting.{counted, fallen, is_fallen, vain_since};
 
 use crate::serving::NUMBERS;
 use am_world::AnyWorld;
@@ -9,8 +9,8 @@ use std::alloc::AllocError;
 /// How many restarts of an instance may be in vain, one after the other.
 const MOST_VAIN: usize = 3;
 
-/// The lowest instance that a fault stopped, but for those whose last three restarts were in vain: of each that was in
-/// vain the number stands in the list.
+/// The lowest instance that a fault stopped, but for those of which three restarts were in vain since they were last
+/// up: for each such restart the instance's number stands in the list.
 #[tactic(auto, unfolding(crate::specs::Restarting::fallen))]
 pub fn fallen<W: AnyWorld>(world: &W, vain: &[u8]) -> Option<u8>
     ensures { result ≡ fallen vain.now (W.contents world.now).state }
@@ -62,4 +62,12 @@ fn forget(vain: &mut Vec<u8>, number: u8)
     ensures { vain.new.items ≡ filter (λ j. not (j == number)) vain.old.items }
 {
     vain.retain(|other| *other != number);
+}
+
+/// Forgets the restarts that were in vain of instances that are up.
+#[tactic(auto, unfolding(crate::specs::Restarting::vain_since))]
+pub fn forget_up<W: AnyWorld>(vain: &mut Vec<u8>, world: &W)
+    ensures { vain.new.items ≡ vain_since vain.old.items (W.contents world.now).state }
+{
+    vain.retain(|number| !world.is_up(*number));
 }
