@@ -1,4 +1,6 @@
 //! A call of a webhook, with what is told where it fails.
+ghost use Rattle.std.specs.Prelude.{◌≡◌};
+ghost use Rattle.am_admin.specs.Calls.{given_notice};
 
 use am_gateway::Try;
 use am_server::Notice;
@@ -25,7 +27,9 @@ pub struct Called {
 }
 
 /// A notice, whose call is known by the receiver too.
-pub fn name_call(alloc: Global, notice: Notice<Try>) -> Notice<Called> {
+pub fn name_call(alloc: Global, notice: Notice<Try>) -> Notice<Called>
+    ensures { given_notice result ≡ notice }
+{
     let Notice { name, url, request } = notice;
     let receiver = receiver_of(alloc, request.as_slice());
     Notice {

@@ -1,7 +1,12 @@
 //! A gateway of which is counted what it does.
 
-ghost use Rattle.std.specs.Prelude.{◌≡◌, false};
+ghost use Rattle.std.specs.Prelude.{◌≡◌, ◌∷◌, ℕ, List, [], false, true, min, IfNone, IfSome, IsOk};
+ghost use Rattle.am_admin.specs.Calls.{given_notice};
 ghost use Rattle.am_admin.specs.Changes.{change_by};
+ghost use Rattle.am_event.specs.declared.event.Event.TheVariants as event;
+ghost use Rattle.am_serve.specs.Lanes.{is_ready};
+ghost use Rattle.am_serve.specs.Weights.{WaitsWithin};
+ghost use Rattle.am_world.specs.Consistent.{last_moment};
 
 use crate::called::{Called, name_call};
 use am_gateway::{Gateway, Try};
@@ -160,7 +165,9 @@ impl<'w, W: AnyWorld> Counted<'w, W> {
     }
 
     // A try failed. It isn't told where memory is refused.
-    fn note_failure(&mut self, failed: &Try, receiver: Option<Text>, status: Option<u16>) {
+    fn note_failure(&mut self, failed: &Try, receiver: Option<Text>, status: Option<u16>)
+        ensures { self.new ≡ record self.old { incidents = self.new.incidents } }
+    {
         let Some(receiver) = receiver else {
             return;
         };
@@ -202,18 +209,44 @@ impl<W: AnyWorld> Host for Counted<'_, W> {
 }
 
 impl<W: AnyWorld> Service for Counted<'_, W> {
+    ghost use Rattle.am_gateway.specs.Gateway.{BeginsCall, EndsCall, GivesUpCall, GoesOn, IsSameGateway};
+    ghost use Rattle.am_gateway.specs.Gateway.{SameUnderWay, TellsWorld, WaitsTooMuch, notice_bytes};
+    ghost use Rattle.am_gateway.specs.Serving.{has_quorum as has_quorum_in};
+
     type Name = Called;
 
-    fn is_up(&self) -> bool {
+    // As long as the gateway is.
+    fn is_up(&self) -> bool
+        ensures { result ≡ has_quorum_in (W.contents self.now.gateway.world.now).state }
+    {
         self.gateway.is_up()
     }
 
-    fn set_moment(&mut self, moment: u64) {
+    // What is counted is of this moment as it is, and the gateway's is none that the world wouldn't take.
+    fn set_moment(&mut self, moment: u64)
+        ensures gateway { self.new.gateway ≡ record self.old.gateway { moment = min moment last_moment } }
+        ensures rest { self.new ≡ record self.old { gateway = self.new.gateway; moment = moment } }
+    {
         self.moment = moment;
         self.gateway.set_moment(moment);
     }
 
-    fn tick(&mut self) -> Result<(), AllocError> {
+    // An error is the gateway's, since to count takes no memory: the tick is counted then too.
+    fn tick(&mut self) -> Result<(), AllocError>
+        ensures not_due { self.old.gateway.is_tick_due ≡ false → IsOk result × (self.new ≡ self.old) }
+        ensures told { self.old.gateway.is_tick_due ≡ true →
+            GoesOn W.contents result (record self.old.gateway { is_tick_due = false }) self.new.gateway }
+        ensures is_tick_due { self.new.gateway.is_tick_due ≡ false }
+        ensures under_way { SameUnderWay self.old.gateway self.new.gateway }
+        ensures same { IsSameGateway self.old.gateway self.new.gateway }
+        ensures has_ticked { self.old.gateway.is_tick_due ≡ true → self.new.has_ticked ≡ true }
+        ensures rest { self.new ≡ record self.old {
+          gateway = self.new.gateway;
+          tally = self.new.tally;
+          incidents = self.new.incidents;
+          has_ticked = self.new.has_ticked;
+        } }
+    {
         if self.gateway.is_tick_due() {
             self.tally.count_tick(self.moment);
             self.incidents.forget(self.moment);
@@ -222,25 +255,61 @@ impl<W: AnyWorld> Service for Counted<'_, W> {
         self.gateway.tick()
     }
 
-    fn next_reply(&mut self) -> Option<(u64, Vec<u8>)> {
+    fn next_reply(&mut self) -> Option<(u64, Vec<u8>)>
+        ensures gives { IfSome result (λ given. self.old.gateway.replies.items
+            ≡ record { connection = given.0; bytes = given.1.items } ∷ self.new.gateway.replies.items) }
+        ensures none { IfNone result (self.old.gateway.replies.items ≡ []) }
+        ensures stays { IfNone result (self.new.gateway.replies.items ≡ []) }
+        ensures gateway { self.new.gateway ≡ record self.old.gateway { replies = self.new.gateway.replies } }
+        ensures rest { self.new ≡ record self.old { gateway = self.new.gateway; tally = self.new.tally } }
+    {
         let (connection, reply) = self.gateway.next_reply()?;
         self.tally.count_reply(&reply);
         Some((connection, reply))
     }
 
-    fn next_notice(&mut self, free: usize) -> Option<Notice<Called>> {
+    // Where memory is refused, the call isn't known by its receiver.
+    fn next_notice(&mut self, free: usize) -> Option<Notice<Called>>
+        ensures begins { IfSome result (λ notice.
+            BeginsCall free (given_notice notice) self.old.gateway self.new.gateway) }
+        ensures none { IfNone result ((t : List ℕ) → is_ready free t self.old.gateway.notices.lanes ≡ false) }
+        ensures stays { IfNone result (self.new ≡ self.old) }
+        ensures gateway { self.new.gateway ≡ record self.old.gateway { notices = self.new.gateway.notices } }
+        ensures rest { self.new ≡ record self.old { gateway = self.new.gateway; tally = self.new.tally } }
+    {
         let notice = self.gateway.next_notice(free)?;
         self.tally.count_call(&notice.name.attempt.tenant);
         Some(name_call(self.alloc, notice))
     }
 
-    fn next_given_up(&mut self) -> Option<Notice<Called>> {
+    // Where memory is refused, the call isn't known by its receiver.
+    fn next_given_up(&mut self) -> Option<Notice<Called>>
+        ensures over { IfSome result (λ notice. WaitsTooMuch (given_notice notice) self.old.gateway) }
+        ensures gives_up { IfSome result (λ notice.
+            GivesUpCall (given_notice notice) self.old.gateway self.new.gateway) }
+        ensures none { IfNone result (WaitsWithin notice_bytes self.old.gateway.notices.lanes) }
+        ensures stays { IfNone result (self.new ≡ self.old) }
+        ensures gateway { self.new.gateway ≡ record self.old.gateway { notices = self.new.gateway.notices } }
+        ensures rest { self.new ≡ record self.old { gateway = self.new.gateway; tally = self.new.tally } }
+    {
         let notice = self.gateway.next_given_up()?;
         self.tally.count_given_up(&notice.name.attempt.tenant);
         Some(name_call(self.alloc, notice))
     }
 
-    fn end_call(&mut self, name: Called, status: Option<u16>) -> Result<(), AllocError> {
+    // An error is the gateway's: where memory is refused to tell of a failure, that alone is lacking.
+    fn end_call(&mut self, name: Called, status: Option<u16>) -> Result<(), AllocError>
+        ensures told { TellsWorld W.contents result (event.Outcome name.attempted.attempt name.attempted.tries
+            self.old.gateway.moment status) self.old.gateway self.new.gateway }
+        ensures under_way { EndsCall name.attempted.attempt.tenant self.old.gateway self.new.gateway }
+        ensures is_tick_due { self.new.gateway.is_tick_due ≡ self.old.gateway.is_tick_due }
+        ensures same { IsSameGateway self.old.gateway self.new.gateway }
+        ensures rest { self.new ≡ record self.old {
+          gateway = self.new.gateway;
+          tally = self.new.tally;
+          incidents = self.new.incidents;
+        } }
+    {
         let Called {
             attempted,
             receiver,
