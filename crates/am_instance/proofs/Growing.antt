@@ -51,6 +51,39 @@ pub asks_more : {X E : Type 0} (here : Given) (message : Message) (local : Local
 asks_more here message local result old new asks =
     asks_as_more (arrival (here_of here) message local) here message local result old new asks
 
+-- ---- how many patterns are kept built stays
+
+pub asked_capacity : {X E : Type 0} (result : Result X E) (old new : Cache) → Asked result old new
+    → new.capacity ≡ old.capacity
+asked_capacity (Ok _) old new asked = asked.capacity
+asked_capacity (Err _) old new asked = asked.capacity
+
+asks_for_capacity : {X E : Type 0} (here : Given) (message : Message) (body : Body) (local : Local)
+    (result : Result X E) (old new : Cache) → AsksFor here message body local result old new
+    → new.capacity ≡ old.capacity
+asks_for_capacity here message (Answer operation incarnation items) local result old new asks = asks.1.capacity
+asks_for_capacity here message (Put operation items) local result old new asks = asked_capacity result old new asks
+asks_for_capacity here message (State incarnation place is_last items) local result old new asks =
+    asked_capacity result old new asks
+asks_for_capacity here message (Get operation) local result old new same = ap (λ (c : Cache). c.capacity) same
+asks_for_capacity here message (Ack operation incarnation) local result old new same =
+    ap (λ (c : Cache). c.capacity) same
+asks_for_capacity here message (Ask incarnation) local result old new same = ap (λ (c : Cache). c.capacity) same
+asks_for_capacity here message (Got incarnation place) local result old new same = ap (λ (c : Cache). c.capacity) same
+
+asks_as_capacity : {X E : Type 0} (a : Arrival) (here : Given) (message : Message) (local : Local) (result : Result X E)
+    (old new : Cache) → AsksAs a here message local result old new → new.capacity ≡ old.capacity
+asks_as_capacity Dropped here message local result old new same = ap (λ (c : Cache). c.capacity) same
+asks_as_capacity Counted here message local result old new asks =
+    asks_for_capacity here message message.body local result old new asks
+asks_as_capacity Taken here message local result old new asks =
+    asks_for_capacity here message message.body local result old new asks
+
+pub asks_capacity : {X E : Type 0} (here : Given) (message : Message) (local : Local) (result : Result X E)
+    (old new : Cache) → AsksAt here message local result old new → new.capacity ≡ old.capacity
+asks_capacity here message local result old new asks =
+    asks_as_capacity (arrival (here_of here) message local) here message local result old new asks
+
 -- ---- where all goes well, only what a decision asks is added
 
 -- what nothing was added to

@@ -169,20 +169,29 @@ module _ (around : Circumstances) (x x' : Instance) (reads : ReadsOn x x') where
 -- it goes on, and more patterns may have been refused
 pub reads_with : (x x' : Instance) → x'.up ≡ x.up → x'.cause ≡ x.cause → x'.number ≡ x.number
     → x'.incarnation ≡ x.incarnation → x'.known ≡ x.known → x'.front ≡ x.front
-    → HasMore (refused_in x) (refused_in x') → ReadsOn x x'
-reads_with x x' up cause number incarnation known front more = record {
-  goes = record { up = up; cause = cause; number = number; incarnation = incarnation; known = known; refused = more };
+    → HasMore (refused_in x) (refused_in x') → x'.cache.capacity ≡ x.cache.capacity → ReadsOn x x'
+reads_with x x' up cause number incarnation known front more capacity = record {
+  goes = record {
+    up = up;
+    cause = cause;
+    number = number;
+    incarnation = incarnation;
+    known = known;
+    refused = more;
+    capacity = capacity;
+  };
   front = front;
 }
 
 pub reads_same : (x : Instance) → ReadsOn x x
-reads_same x = reads_with x x refl refl refl refl refl refl (more_nothing (refused_in x) (refused_in x) refl)
+reads_same x = reads_with x x refl refl refl refl refl refl (more_nothing (refused_in x) (refused_in x) refl) refl
 
 pub reads_then : (x y z : Instance) → ReadsOn x y → ReadsOn y z → ReadsOn x z
 reads_then x y z one two =
     reads_with x z (two.goes.up ∙ one.goes.up) (two.goes.cause ∙ one.goes.cause) (two.goes.number ∙ one.goes.number)
     (two.goes.incarnation ∙ one.goes.incarnation) (two.goes.known ∙ one.goes.known) (two.front ∙ one.front)
     (more_then (refused_in x) (refused_in y) (refused_in z) one.goes.refused two.goes.refused)
+    (two.goes.capacity ∙ one.goes.capacity)
 
 -- ---- one more timer
 

@@ -1,7 +1,7 @@
 -- What is seen of an instance: its number, which start of it it is, which ring it knows, whether it is up and which
 -- fault stopped it, the bytes of connections, what it has of each tenant, and the patterns that it was refused the
 -- build of.
-use Rattle.std.specs.Prelude.{◌≡◌, ℕ, Bool, true, false, is_some, List, ◌++◌, Option, None}
+use Rattle.std.specs.Prelude.{◌≡◌, ℕ, Bool, true, false, is_some, List, [], ◌++◌, Option, None}
 use Rattle.am_cluster.specs.Local.{Local, blank}
 use Rattle.am_http.specs.Connections.{bytes_of}
 use Rattle.am_node.specs.Held.{local_of as local_in_node}
@@ -29,11 +29,12 @@ reads c x = is_some (bytes_in c x)
 abbrev pub refused_in : Instance → List (List ℕ)
 refused_in x = x.cache.refused
 
--- it is down, reads nothing and has nothing
+-- it is down, reads nothing, has nothing, and notes no tenant
 pub record IsDown (x : Instance) : Type 0 where
   pub up : x.up ≡ false
   pub unread : (c : ℕ) → bytes_in c x ≡ None
   pub lost : (t : List ℕ) → local_in t x ≡ blank
+  pub forgot : x.tenants ≡ []
 
 -- ---- what stays
 
@@ -45,13 +46,14 @@ HasMore old new = (more : List (List ℕ)) × (new ≡ old ++ more)
 abbrev pub ReadsAlike : Instance → Instance → Type 0
 ReadsAlike x x' = x'.front ≡ x.front
 
--- it is the same instance still: its number, which start of it it is, which ring it knows, and that it forgets no
--- pattern which was refused its build
+-- it is the same instance still: its number, which start of it it is, which ring it knows, how many patterns it keeps
+-- built at most, and that it forgets no pattern which was refused its build
 pub record IsSameNode (x x' : Instance) : Type 0 where
   pub number : x'.number ≡ x.number
   pub incarnation : x'.incarnation ≡ x.incarnation
   pub known : x'.known ≡ x.known
   pub refused : HasMore (refused_in x) (refused_in x')
+  pub capacity : x'.cache.capacity ≡ x.cache.capacity
 
 -- .. which is up, or down and for which fault, as it was
 pub record GoesOn (x x' : Instance) : Type 0 where
@@ -61,6 +63,7 @@ pub record GoesOn (x x' : Instance) : Type 0 where
   pub incarnation : x'.incarnation ≡ x.incarnation
   pub known : x'.known ≡ x.known
   pub refused : HasMore (refused_in x) (refused_in x')
+  pub capacity : x'.cache.capacity ≡ x.cache.capacity
 
 -- .. and reads the same connections
 pub record ReadsOn (x x' : Instance) : Type 0 where

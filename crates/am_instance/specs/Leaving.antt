@@ -1,15 +1,19 @@
 -- What a call leaves in the store of an instance that was up.
-use Rattle.std.specs.Prelude.{◌≡◌, ◌⊎◌, ℕ, Bool, true, false, List, [], Option, None, Some, if◌then◌else◌}
+use Rattle.std.specs.Prelude.{◌≡◌, ◌⊎◌, ℕ, Bool, true, false, List, [], Option, None, Some, Result, Ok, Err}
+use Rattle.std.specs.Prelude.{if◌then◌else◌}
 use Rattle.std.specs.List.{list_any}
 use Rattle.am_item.specs.declared.fault.Fault.{Fault}
 use Rattle.am_item.specs.declared.fault.Fault.TheVariants.{StoreRefused}
 use Rattle.am_item.specs.declared.item.Item.{Item}
 use Rattle.am_node.specs.Local.{Local as NodeLocal}
 use Rattle.am_node.specs.Storing.{LeavesStore}
+use Rattle.am_replica.specs.Storing.{fault_for}
 use Rattle.am_rows.specs.Refusing.{MayRefuse}
 use Rattle.am_rows.specs.Rows.{rows_of}
+use Rattle.am_rows.specs.declared.refusal.StoreRefusal.{StoreRefusal}
 use Rattle.am_site.specs.Opening.{own_rows}
 use Rattle.am_tenant.specs.Names.{same}
+use Rattle.am_text.specs.declared.failure.Failure.{Failure}
 use Rattle.am_instance.specs.Shelves.{Shelf}
 
 -- the fault for which an instance stopped, where it is down
@@ -56,6 +60,11 @@ LeavesNoneOf names fault old new =
     fault old new
 
 -- ---- calls that open a store
+
+-- what an opening that failed stops the instance for, where it did
+abbrev pub failure_in : {X : Type 0} → Result X (Failure StoreRefusal) → Option Fault
+failure_in (Ok x) = None
+failure_in (Err failure) = Some (fault_for failure)
 
 -- the rows of tenants of which the instance is a replica in this ring stay; those of every other go, or where a fault
 -- stopped that perhaps not of all

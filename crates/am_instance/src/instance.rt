@@ -1,13 +1,13 @@
 //! One instance: whether it is up, and what it has.
 
-ghost use Rattle.std.specs.Prelude.{◌≡◌, ◌<◌, ℕ, List, [], false, true, None, IfOk, IfErr, OnOk, length};
+ghost use Rattle.std.specs.Prelude.{◌≡◌, ◌<◌, ℕ, List, [], false, true, None, IfOk, IfErr, OnErr, OnOk, length};
 ghost use Rattle.am_cluster.specs.RingChanges.{opened};
 ghost use Rattle.am_cluster.specs.Rings.{ring_at};
 ghost use Rattle.am_rows.specs.Refusing.{IsJudged, MayRefuse};
 ghost use Rattle.am_rows.specs.Rows.{rows_of};
-ghost use Rattle.am_site.specs.Opening.{KeepsOwn, MayKeepOwn};
 ghost use Rattle.am_instance.specs.Here.{Circumstances, circumstances, here_on, rings_on};
-ghost use Rattle.am_instance.specs.Instance.{IsDown, IsSameNode, ReadsAlike, Starts, local_in, refused_in};
+ghost use Rattle.am_instance.specs.Instance.{GoesOn, IsDown, IsSameNode, ReadsAlike, Starts, local_in, refused_in};
+ghost use Rattle.am_instance.specs.Leaving.{LeavesOwn, failure_in};
 ghost use Rattle.am_instance.specs.Shelves.{IsBacked, shelf_of};
 ghost use Rattle.am_instance.specs.Whole.{IsWhole};
 
@@ -83,7 +83,9 @@ impl Instance {
         ensures incarnation { IfOk result (λ x. x.incarnation ≡ begin.incarnation) }
         ensures known { IfOk result (λ x. x.known ≡ 0) }
         ensures down { IfOk result (λ x. IsDown x) }
+        ensures cause { IfOk result (λ x. x.cause ≡ None) }
         ensures refused { IfOk result (λ x. refused_in x ≡ []) }
+        ensures capacity { IfOk result (λ x. x.cache.capacity ≡ begin.capacity) }
         ensures whole { IfOk result (λ x. (around : Circumstances) → 0 < length around.rings → IsWhole around x) }
     {
         Ok(Instance {
@@ -138,8 +140,8 @@ impl Instance {
     /// which it is a replica, drops what it has of others, and is up.
     ///
     /// # Errors
-    /// `F2` or `F3` of the store, or out of memory. What the store has of other tenants may be dropped then, and all
-    /// else stays, unless a failure shut it.
+    /// `F2` or `F3` of the store, or out of memory. It stays down then. What the store has of other tenants may be
+    /// dropped, and all else stays, unless a failure shut it.
     pub fn start<R: Rows>(
         &mut self,
         alloc: Global,
@@ -151,17 +153,14 @@ impl Instance {
         ensures starts { OnOk result (Starts self.old self.new) }
         ensures opened { R.is_clean store.new ≡ true → OnOk result ((t : List ℕ) → local_in t self.new
             ≡ opened (here_on (circumstances occasion.now) self.old t) (rows_of t (R.pairs store.old))) }
+        ensures err { OnErr result (GoesOn self.old self.new) }
         ensures front { ReadsAlike self.old self.new }
         ensures stays { IsSameNode self.old self.new }
         ensures whole { OnOk result (IsWhole (circumstances occasion.now) self.new) }
         ensures clean { R.is_clean store.new ≡ true → R.is_clean store.old ≡ true }
         ensures backed { OnOk result (IsBacked self.new (shelf_of R.Rows store.new)) }
-        ensures kept { R.is_clean store.new ≡ true → OnOk result (KeepsOwn
-            (ring_at self.old.known (rings_on (circumstances occasion.now))) self.old.number
-            (R.pairs store.old) (R.pairs store.new)) }
-        ensures left { R.is_clean store.new ≡ true → (R.medium store.new).is_shut ≡ false → MayKeepOwn
-            (ring_at self.old.known (rings_on (circumstances occasion.now))) self.old.number
-            (R.pairs store.old) (R.pairs store.new) }
+        ensures left { LeavesOwn (ring_at self.old.known (rings_on (circumstances occasion.now))) self.old.number
+            (failure_in result) (shelf_of R.Rows store.old) (shelf_of R.Rows store.new) }
         ensures fails { R.is_clean store.new ≡ true
             → IfErr result (IsJudged (R.is_foreign store.old) (MayRefuse (R.medium store.old) (R.medium store.new))) }
     {

@@ -1,6 +1,6 @@
 //! An instance leaves the ring.
 
-ghost use Rattle.std.specs.Prelude.{◌≡◌, ◌<◌, true, false, IfErr, OnOk, length};
+ghost use Rattle.std.specs.Prelude.{◌≡◌, ◌<◌, true, false, IfErr, OnErr, OnOk, length};
 ghost use Rattle.am_replica.specs.Storing.{StopsStoring, fault_in};
 ghost use Rattle.am_instance.specs.Changing.{IsOut, StopsLeaving, rows_held};
 ghost use Rattle.am_instance.specs.Here.{Circumstances};
@@ -22,12 +22,13 @@ impl Instance {
     /// where it was down, they stay.
     ///
     /// # Errors
-    /// Where it was up, `StoreRefused` or out of memory. The rows of each tenant are as before, or gone, unless a
-    /// failure shut the store.
+    /// Where it was up, `StoreRefused` or out of memory. The instance is as before then. The rows of each tenant are as
+    /// before, or gone, unless a failure shut the store.
     pub fn leave<R: Rows>(&mut self, alloc: Global, store: &mut R) -> Result<(), Fault>
         requires noted { AreNoted self.old }
         requires backed { IsBacked self.old (shelf_of R.Rows store.old) }
         ensures leaves { OnOk result (IsOut self.old self.new) }
+        ensures err { OnErr result (self.new ≡ self.old) }
         ensures cause { IfErr result (StopsLeaving self.old) }
         ensures stays { IsSameNode self.old self.new }
         ensures whole { OnOk result ((around : Circumstances) → self.old.known < length around.rings →

@@ -48,8 +48,8 @@ impl Instance {
     ///
     /// # Errors
     /// `StoreRefused` where the store is none, or a call of its database was refused; `CountsExhausted` where a message
-    /// is too long; or out of memory. What the store has of other tenants may be dropped then, and all else stays,
-    /// unless a failure shut it.
+    /// is too long; or out of memory. Whether it is up then isn't said. What the store has of other tenants may be
+    /// dropped, and all else stays, unless a failure shut it.
     pub fn restart<R: Rows>(
         &mut self,
         alloc: Global,

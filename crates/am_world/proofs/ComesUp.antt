@@ -340,6 +340,7 @@ node_then become x y z same next = record {
   incarnation = next.0.incarnation ∙ same.incarnation;
   known = next.0.known ∙ same.known;
   refused = more_then (refused_in (become x)) (refused_in y) (refused_in z) same.refused next.0.refused;
+  capacity = next.0.capacity ∙ same.capacity;
 }
 
 -- what it did, or began to do, is undone by that

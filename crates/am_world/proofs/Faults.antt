@@ -81,7 +81,8 @@ refused_stay =
 -- ---- how it failed
 
 node_itself : (x : Instance) → IsSameNode x x
-node_itself x = record { number = refl; incarnation = refl; known = refl; refused = more_nothing _ _ refl }
+node_itself x =
+    record { number = refl; incarnation = refl; known = refl; refused = more_nothing _ _ refl; capacity = refl }
 
 -- it did nothing
 pub fails_nothing : (i : ℕ) (w : State) → AreNumbered w.instances → Fails i w w
@@ -103,7 +104,13 @@ fails_alone i w xs numbered others goes = record {
   silent = refl;
   stays = λ x x' here there.
       let on = goes x x' here there in
-      record { number = on.number; incarnation = on.incarnation; known = on.known; refused = on.refused };
+      record {
+        number = on.number;
+        incarnation = on.incarnation;
+        known = on.known;
+        refused = on.refused;
+        capacity = on.capacity;
+      };
   others = record { numbered = numbered; others = others };
   beside = record { clock = refl; common = refl };
   faults = refl;

@@ -94,7 +94,13 @@ going_on i xs ys numbered exists goes others = record {
   exists = exists;
   stays = λ x x' from to.
       let g = goes x x' from to in
-      record { number = g.number; incarnation = g.incarnation; known = g.known; refused = g.refused };
+      record {
+        number = g.number;
+        incarnation = g.incarnation;
+        known = g.known;
+        refused = g.refused;
+        capacity = g.capacity;
+      };
   up = λ x x' from to. (goes x x' from to).up;
   others = others;
 }

@@ -28,6 +28,7 @@ same_itself x = (
     incarnation = refl;
     known = refl;
     refused = more_nothing _ _ refl;
+    capacity = refl;
   },
   refl,
   refl,
@@ -43,6 +44,7 @@ same_then x y z a b = (
     incarnation = b.0.incarnation ∙ a.0.incarnation;
     known = b.0.known ∙ a.0.known;
     refused = more_then (refused_in x) (refused_in y) (refused_in z) a.0.refused b.0.refused;
+    capacity = b.0.capacity ∙ a.0.capacity;
   },
   b.1 ∙ a.1,
   b.2 ∙ a.2,
@@ -213,6 +215,7 @@ quiet_less c x y quiet both down = record {
       let was : bytes_in d x ≡ None = (quiet (sym both.0.0.up ∙ down)).unread d in
       both.1 d ∙ elim (cases_Bool (nat_eq d c)) [ inl h ↦ rw h refl | inr h ↦ rw h was ];
   lost = λ t. ap (local_of t) both.0.1 ∙ (quiet (sym both.0.0.up ∙ down)).lost t;
+  forgot = both.0.3 ∙ (quiet (sym both.0.0.up ∙ down)).forgot;
 }
 
 pub quiet_opened : (n : ℕ) (xs ys : List Instance) → AreNumbered xs → ChangesAt n xs ys → Turns n IsSame xs ys

@@ -12,6 +12,7 @@ use Rattle.am_world.specs.Places.{EachIs, instance_at}
 -- an instance in its first incarnation that is down, has nothing, and knows the first ring
 pub record IsNew (first : ℕ) (x : Instance) : Type 0 where
   pub down : IsDown x
+  pub cause : x.cause ≡ None
   pub incarnation : x.incarnation ≡ first
   pub known : x.known ≡ 0
   pub refused : refused_in x ≡ []

@@ -99,13 +99,22 @@ closed_quiet n c xs ys numbered change rests closes quiet =
       up = down;
       unread = λ d. closes x.0 x' x.1 there d ∙ still_none (d == c) (bytes_in d x.0) (was.unread d);
       lost = λ t. ap (local_of t) rest.1 ∙ was.lost t;
+      forgot = rest.3 ∙ was.forgot;
     })
 
 -- ---- where each instance rests
 
 pub rests_itself : (x : Instance) → Rests x x
 rests_itself x = (
-  record { up = refl; cause = refl; number = refl; incarnation = refl; known = refl; refused = more_nothing _ _ refl },
+  record {
+    up = refl;
+    cause = refl;
+    number = refl;
+    incarnation = refl;
+    known = refl;
+    refused = more_nothing _ _ refl;
+    capacity = refl;
+  },
   refl,
   refl,
   refl,
@@ -168,7 +177,13 @@ backed_but i xs ys others shelves backed = record {
 pub goes_same : (i : ℕ) (xs ys : List Instance) → Turns i GoesOn xs ys → Turns i IsSameNode xs ys
 goes_same i xs ys goes x x' here there =
     let on = goes x x' here there in
-    record { number = on.number; incarnation = on.incarnation; known = on.known; refused = on.refused }
+    record {
+      number = on.number;
+      incarnation = on.incarnation;
+      known = on.known;
+      refused = on.refused;
+      capacity = on.capacity;
+    }
 
 -- ---- new limits
 

@@ -74,11 +74,13 @@ stays_shut i shelf w numbered stranger = record {
 pub record IsReached (origin : Origin) (opened : Bool) (i : ℕ) (rows : List ℕ → List Item) (shelf : Shelf)
     (x : Instance) : Type 0 where
   pub up : x.up ≡ opened
+  pub cause : x.cause ≡ None
   pub incarnation : x.incarnation ≡ origin.first
   pub known : x.known ≡ 0
   pub refused : refused_in x ≡ []
   pub unread : (c : ℕ) → bytes_in c x ≡ None
   pub lost : opened ≡ false → (t : List ℕ) → local_in t x ≡ blank
+  pub forgot : opened ≡ false → x.tenants ≡ []
   pub has : opened ≡ true → shelf.is_clean ≡ true → (t : List ℕ)
       → local_in t x ≡ opened_with (here_first origin t i) (rows t)
   pub backed : IsBacked x shelf
@@ -94,11 +96,13 @@ unused_reached : (origin : Origin) (i : ℕ) (rows : List ℕ → List Item) (sh
     → IsUnused origin.first x → IsReached origin false i rows shelf x
 unused_reached origin i rows shelf x unused = record {
   up = unused.down.up;
+  cause = unused.cause;
   incarnation = unused.incarnation;
   known = unused.known;
   refused = unused.refused;
   unread = unused.down.unread;
   lost = λ down. unused.down.lost;
+  forgot = λ down. unused.down.forgot;
   has = λ up. absurd (false≢true up);
   backed = not_backed x shelf unused.down.up;
 }
@@ -106,7 +110,7 @@ unused_reached origin i rows shelf x unused = record {
 reached_down : (origin : Origin) (i : ℕ) (rows : List ℕ → List Item) (shelf : Shelf) (x : Instance)
     → IsReached origin false i rows shelf x → IsDown x
 reached_down origin i rows shelf x reached =
-    record { up = reached.up; unread = reached.unread; lost = reached.lost refl }
+    record { up = reached.up; unread = reached.unread; lost = reached.lost refl; forgot = reached.forgot refl }
 
 -- .. it opens its store
 opened_reached : (origin : Origin) (c : Circumstances) (i : ℕ) (rows : List ℕ → List Item) (old new : Shelf)
@@ -115,11 +119,13 @@ opened_reached : (origin : Origin) (c : Circumstances) (i : ℕ) (rows : List �
     → IsReached origin true i rows new x'
 opened_reached origin c i rows old new x x' here has reached opens = record {
   up = opens.starts.up;
+  cause = opens.starts.cause;
   incarnation = opens.stays.incarnation ∙ reached.incarnation;
   known = opens.stays.known ∙ reached.known;
   refused = opens.starts.refused ∙ reached.refused;
   unread = λ c. ap (bytes_of c) opens.front ∙ reached.unread c;
   lost = λ down. absurd (true≢false down);
+  forgot = λ down. absurd (true≢false down);
   has = λ up clean t.
       opens.local clean t
       ∙ ap (λ (h : Here). opened_with h (rows_of t old.pairs)) (here t)
@@ -132,11 +138,13 @@ down_reached : (origin : Origin) (i : ℕ) (rows : List ℕ → List Item) (old 
     → IsReached origin false i rows old x → IsReached origin false i rows new x
 down_reached origin i rows old new x reached = record {
   up = reached.up;
+  cause = reached.cause;
   incarnation = reached.incarnation;
   known = reached.known;
   refused = reached.refused;
   unread = reached.unread;
   lost = reached.lost;
+  forgot = reached.forgot;
   has = λ up. absurd (false≢true up);
   backed = not_backed x new reached.up;
 }

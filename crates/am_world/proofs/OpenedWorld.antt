@@ -37,7 +37,8 @@ use Rattle.am_instance.specs.declared.instance.Instance.{Instance}
 use Rattle.am_world.specs.Consistent.{IsConsistent, IsRingInOrder, newest_in, over}
 use Rattle.am_world.specs.Opening.{FailsToOpen, FailsWith, Opens, refusal_for, store_at}
 use Rattle.am_world.specs.Places.{bytes_at, bytes_where, incarnation_at, incarnation_where, instance_at, known_at}
-use Rattle.am_world.specs.Places.{known_where, local_at, local_where, refused_at, refused_where, up_at, up_where}
+use Rattle.am_world.specs.Places.{cause_at, cause_where, known_where, local_at, local_where, refused_at, refused_where}
+use Rattle.am_world.specs.Places.{up_at, up_where}
 use Rattle.am_world.specs.Posting.{ArePast, AreReached, unlost_sent}
 use Rattle.am_world.specs.Shelves.{AreBacked, AreClean, rows_in, shelves_of}
 use Rattle.am_world.specs.Simulation.{IsAskerOf, IsPostedAlike, KeepsRows, Stands, limits_in, roster_of}
@@ -123,6 +124,14 @@ module _ {R : Type 0} (g : Ghosts R) (origin : Origin) (k : ℕ) (old now : List
       by : (o : Option Instance) → instance_at i w.instances ≡ o → known_where o ≡ 0
       by None at = refl
       by (Some x) at = (done.reached i x at).known
+
+  causes : (i : ℕ) → cause_at i w.instances ≡ None
+  unfolding cause_at
+  causes i = by (instance_at i w.instances) refl
+    where
+      by : (o : Option Instance) → instance_at i w.instances ≡ o → cause_where o ≡ None
+      by None at = refl
+      by (Some x) at = (done.reached i x at).cause
 
   refused : (i : ℕ) → refused_at i w.instances ≡ []
   unfolding refused_at
@@ -216,6 +225,7 @@ module _ {R : Type 0} (g : Ghosts R) (origin : Origin) (k : ℕ) (old now : List
     stands = λ t. record { stands = stands clean t; keeps = keeps clean t };
     outputs = done.begun.outputs;
     up = instances_up w done.numbered;
+    causes = causes;
     faults = done.begun.faults;
     refused = refused;
   }
@@ -229,6 +239,7 @@ module _ {R : Type 0} (g : Ghosts R) (origin : Origin) (k : ℕ) (old now : List
       up = down;
       unread = (done.reached i x found).unread;
       lost = (done.reached i x found).lost (sym (done.reached i x found).up ∙ down);
+      forgot = (done.reached i x found).forgot (sym (done.reached i x found).up ∙ down);
     };
     ring = subst (λ (rings : Rings). IsRingInOrder (newest_ring rings)) (sym done.begun.rings)
         done.order;

@@ -98,6 +98,7 @@ same_then x y z a b = record {
   incarnation = b.0.incarnation ∙ a.incarnation;
   known = b.0.known ∙ a.known;
   refused = more_then (refused_in x) (refused_in y) (refused_in z) a.refused b.0.refused;
+  capacity = b.0.capacity ∙ a.capacity;
 }
 
 pub stopped_turn : (i : ℕ) (w mid w' : State) → AreNumbered w.instances → up_at i w.instances ≡ true

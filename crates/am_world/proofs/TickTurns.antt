@@ -67,6 +67,7 @@ same_node x x' is = subst (IsSameNode x) is (record {
   incarnation = refl;
   known = refl;
   refused = ([], sym (append-nil (refused_in x)));
+  capacity = refl;
 })
 
 no_turn : (w : State) → AreNumbered w.instances → HadTurns [] w w
@@ -192,6 +193,7 @@ then_same x y z first next = record {
   incarnation = next.incarnation ∙ first.incarnation;
   known = next.known ∙ first.known;
   refused = more_refused (refused_in x) (refused_in y) (refused_in z) first.refused next.refused;
+  capacity = next.capacity ∙ first.capacity;
 }
 
 -- in the same circumstances, of the same two instances

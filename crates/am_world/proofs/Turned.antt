@@ -55,6 +55,7 @@ same_node x x' goes = record {
   incarnation = goes.incarnation;
   known = goes.known;
   refused = goes.refused;
+  capacity = goes.capacity;
 }
 
 -- one that reads a connection is up, and stays so

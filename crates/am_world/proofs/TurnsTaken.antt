@@ -32,6 +32,7 @@ reads_itself x = record {
     incarnation = refl;
     known = refl;
     refused = ([], sym (append-nil (refused_in x)));
+    capacity = refl;
   };
   front = refl;
 }
@@ -42,6 +43,7 @@ node_itself x = record {
   incarnation = refl;
   known = refl;
   refused = ([], sym (append-nil (refused_in x)));
+  capacity = refl;
 }
 
 -- it does nothing at its turn

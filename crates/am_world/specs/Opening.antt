@@ -1,5 +1,6 @@
 -- How a world is opened, and why it isn't.
-use Rattle.std.specs.Prelude.{◌≡◌, ℕ, zero, suc, true, false, List, [], ◌∷◌, map, slice_get, Option, Some, None}
+use Rattle.std.specs.Prelude.{◌≡◌, ℕ, zero, suc, true, false, List, [], ◌∷◌, ◌++◌, map, slice_get, Option, Some, None}
+use Rattle.std.specs.Prelude.{codes, decimal}
 use Rattle.am_cluster.specs.PrivateCluster.{opened}
 use Rattle.am_cluster.specs.Roster.{AreInstancesUp}
 use Rattle.am_cluster.specs.View.{first_watch}
@@ -13,12 +14,13 @@ use Rattle.am_instance.specs.Shelves.{IsBacked, Shelf}
 use Rattle.am_instance.specs.Whole.{IsWhole}
 use Rattle.am_instance.specs.declared.instance.Instance.{Instance}
 use Rattle.am_world.specs.Consistent.{Contents, around_at}
-use Rattle.am_world.specs.Places.{AreNumbered, ChangesAt, EachIs, Turns}
+use Rattle.am_world.specs.Places.{AreNumbered, ChangesAt, EachIs, Turns, cause_at}
 use Rattle.am_world.specs.Shelves.{shelf_at}
 use Rattle.am_world.specs.Simulation.{AreAsked, Follows, StandsOver, fault_count, put_out, refused_by, roster_of}
 use Rattle.am_world.specs.declared.opening.OpenRefusal.{OpenRefusal}
 use Rattle.am_world.specs.declared.opening.OpenRefusal.TheVariants.{OutOfMemory, Store}
 use Rattle.am_world.specs.declared.state.State.{State}
+use Rattle.am_rows.specs.Codes.{code_of}
 use Rattle.am_rows.specs.Refusing.{IsJudged, MayRefuse}
 use Rattle.am_rows.specs.Rows.{rows_of}
 use Rattle.am_rows.specs.declared.refusal.StoreRefusal.{StoreRefusal}
@@ -35,6 +37,7 @@ pub record Opens (origin : Origin) (rows : List ℕ → ℕ → List Item) (c : 
   pub asked : AreAsked (first_watch origin) c.state
   pub stands : (t : List ℕ) → StandsOver t c (opened origin t (rows t))
   pub up : AreInstancesUp (roster_of c.state)
+  pub causes : (i : ℕ) → cause_at i c.state.instances ≡ None
   pub outputs : put_out c.state ≡ []
   pub faults : fault_count c.state ≡ 0
   pub refused : (i : ℕ) → refused_by c.state i ≡ []
@@ -66,6 +69,11 @@ FailsToOpen g ring stores (Store i refusal) =
     (is_among i ring ≡ true) × FailsAt g i stores (failure.Refused refusal)
 FailsToOpen g ring stores OutOfMemory = Unit {0}
 
+-- as it is printed: which store and its code, or that memory ran out
+abbrev pub text_of : OpenRefusal → List ℕ
+text_of (Store i refusal) = codes "store " ++ (decimal i ++ (codes ": " ++ code_of refusal))
+text_of OutOfMemory = codes "memory"
+
 -- ---- on the way
 
 -- beside its instances: no event came, and the ring of the settings is the only one
@@ -79,9 +87,10 @@ pub record IsBegun (origin : Origin) (w : State) : Type 0 where
   pub outputs : put_out w ≡ []
   pub faults : fault_count w ≡ 0
 
--- an instance in the first incarnation that knows the first ring, is down, and was refused no build
+-- an instance in the first incarnation that knows the first ring, is down of no fault, and was refused no build
 pub record IsUnused (first : ℕ) (x : Instance) : Type 0 where
   pub down : IsDown x
+  pub cause : x.cause ≡ None
   pub incarnation : x.incarnation ≡ first
   pub known : x.known ≡ 0
   pub refused : refused_in x ≡ []

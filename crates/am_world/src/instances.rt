@@ -70,11 +70,12 @@ impl Instances {
     ghost use Rattle.am_world.specs.Shelves.{IsQuiet, StaysBacked};
     ghost use Rattle.am_rows.specs.Refusing.{IsJudged, MayRefuse};
 
-    /// All instances in their first incarnation. All are down, have nothing, and know the first ring.
+    /// All instances in their first incarnation. All are down, of no fault, have nothing, and know the first ring.
     pub fn new(alloc: Global, beginning: Beginning) -> Result<Instances, AllocError>
         requires { 0 < beginning.capacity }
         ensures numbered { IfOk result AreNumbered }
         ensures down { IfOk result (EachIs IsDown) }
+        ensures cause { IfOk result (EachIs (λ x. x.cause ≡ None)) }
         ensures incarnation { IfOk result (EachIs (λ x. x.incarnation ≡ beginning.first)) }
         ensures known { IfOk result (EachIs (λ x. x.known ≡ 0)) }
         ensures refused { IfOk result (EachIs (λ x. refused_in x ≡ [])) }

@@ -48,6 +48,11 @@ impl From<AllocError> for OpenRefusal {
 }
 
 impl fmt::Display for OpenRefusal {
+    ghost use Rattle.std.specs.Prelude.{Some};
+    ghost use Rattle.am_world.specs.Opening.{text_of};
+
+    ghost output = { λ refusal. Some (text_of refusal) };
+
     fn fmt<W: fmt::Write>(&self, f: &mut fmt::Formatter<W>) -> fmt::Result {
         match self {
             OpenRefusal::Store { instance, refusal } => write!(f, "store {instance}: {refusal}"),

@@ -48,9 +48,10 @@ impl<R: Rows + Drop> World<R> {
     ghost use Rattle.am_world.specs.Opening.{FailsToOpen, Opens, StayOutside};
     ghost use Rattle.am_world.specs.Shelves.{AreClean, NeverCleaner, rows_in, shelves_of};
 
-    /// A world at moment 0 over the stores of the eight instances, in order of number. No connection is open, and no
-    /// message was sent. The instances of the ring open their stores, and each holds what its store has of the tenants
-    /// of which it is a replica; what it has of others is dropped. The other stores stay as they were.
+    /// A world at moment 0 over the stores of the eight instances, in order of number. No connection is open, no
+    /// message was sent, and no fault stopped an instance. The instances of the ring open their stores, and each holds
+    /// what its store has of the tenants of which it is a replica; what it has of others is dropped. The other stores
+    /// stay as they were.
     ///
     /// # Errors
     /// The store of an instance was refused: with `F2`, where a call of the database was, and with `F3`, where it is no

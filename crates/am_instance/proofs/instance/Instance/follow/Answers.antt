@@ -32,10 +32,10 @@ returns-in_err-follow_at-clause-cause c =
     c.here-here.ensures (started c.args.start.now) _ c.in_err-follow_at.ensures.fault)
 
 pub returns-clause-stays : goal.returns-clause-stays
-returns-clause-stays c = reads_with c.args.self.now _ refl refl refl refl refl refl (more_nothing _ _ refl)
+returns-clause-stays c = reads_with c.args.self.now _ refl refl refl refl refl refl (more_nothing _ _ refl) refl
 
 pub returns-in_err-follow_at-clause-stays : goal.returns-in_err-follow_at-clause-stays
-returns-in_err-follow_at-clause-stays c = reads_with c.args.self.now _ refl refl refl refl refl refl (more_nothing _ _ refl)
+returns-in_err-follow_at-clause-stays c = reads_with c.args.self.now _ refl refl refl refl refl refl (more_nothing _ _ refl) refl
 
 pub returns-in_err-put_out-clause-stays : goal.returns-in_err-put_out-clause-stays
-returns-in_err-put_out-clause-stays c = reads_with c.args.self.now _ refl refl refl refl refl refl (more_nothing _ _ refl)
+returns-in_err-put_out-clause-stays c = reads_with c.args.self.now _ refl refl refl refl refl refl (more_nothing _ _ refl) refl

@@ -5,7 +5,7 @@ use Rattle.am_site.specs.Here.{here_of}
 use Rattle.am_instance.specs.Here.{circumstances}
 use Rattle.am_instance.proofs.Elsewhere.{forced_elsewhere}
 use Rattle.am_instance.proofs.Forced.{forced_stored, stops_forcing}
-use Rattle.am_instance.proofs.Growing.{asked_more, more_nothing}
+use Rattle.am_instance.proofs.Growing.{asked_capacity, asked_more, more_nothing}
 use Rattle.am_instance.proofs.Reacting.{moves_here, who}
 use Rattle.am_instance.proofs.Turns.{reads_with}
 use Rattle.am_instance.proofs.Whole.{noted_given, order_given, whole_moved}
@@ -32,13 +32,16 @@ returns-in_err-force-clause-cause c =
 pub returns-clause-stays : goal.returns-clause-stays
 returns-clause-stays c =
     reads_with c.args.self.now _ refl refl refl refl refl refl (asked_more _ _ _ c.force.ensures.asked)
+    (asked_capacity _ _ _ c.force.ensures.asked)
 
 pub returns-in_err-note-clause-stays : goal.returns-in_err-note-clause-stays
-returns-in_err-note-clause-stays c = reads_with c.args.self.now _ refl refl refl refl refl refl (more_nothing _ _ refl)
+returns-in_err-note-clause-stays c =
+    reads_with c.args.self.now _ refl refl refl refl refl refl (more_nothing _ _ refl) refl
 
 pub returns-in_err-force-clause-stays : goal.returns-in_err-force-clause-stays
 returns-in_err-force-clause-stays c =
     reads_with c.args.self.now _ refl refl refl refl refl refl (asked_more _ _ _ c.force.ensures.asked)
+    (asked_capacity _ _ _ c.force.ensures.asked)
 
 pub returns-clause-refused : goal.returns-clause-refused
 returns-clause-refused c = c.in_ok-force.ensures.asked.refused

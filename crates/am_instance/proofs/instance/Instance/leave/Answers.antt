@@ -13,7 +13,7 @@ returns-in_err-drop_all_rows-clause-cause g c =
 
 pub returns-in_err-drop_all_rows-clause-stays : goal.returns-in_err-drop_all_rows-clause-stays
 returns-in_err-drop_all_rows-clause-stays g c =
-    record { number = refl; incarnation = refl; known = refl; refused = more_nothing _ _ refl }
+    record { number = refl; incarnation = refl; known = refl; refused = more_nothing _ _ refl; capacity = refl }
 
 pub returns-in_err-drop_all_rows-clause-left : goal.returns-in_err-drop_all_rows-clause-left
 returns-in_err-drop_all_rows-clause-left g c up =

@@ -44,6 +44,7 @@ returns-in-Ok-clause-stays g c =
       incarnation = goes.incarnation ∙ one.incarnation;
       known = goes.known ∙ one.known;
       refused = more_then _ _ _ one.refused goes.refused;
+      capacity = goes.capacity ∙ one.capacity;
     }
 
 pub returns-in-Ok-clause-backed : goal.returns-in-Ok-clause-backed
@@ -58,7 +59,7 @@ returns-in-Ok-clause-left g c clean t =
     let rows = rows_of t (g.R.Rows.pairs c.args.store.now) in
     let ring = ring_at c.args.self.now.known (rings_on (circumstances c.args.occasion.now)) in
     left_kept (fault_in c.follow_start.result) _ rows (own_rows ring c.args.self.now.number t rows)
-    (rows_of t (g.R.Rows.pairs c.start.new.store)) (c.in-Ok.ensures.kept clean t)
+    (rows_of t (g.R.Rows.pairs c.start.new.store)) (c.in-Ok.ensures.left clean t)
 
 pub returns-in-Err-clause-left : goal.returns-in-Err-clause-left
-returns-in-Err-clause-left g c clean t still = c.start.ensures.left clean still t
+returns-in-Err-clause-left g c clean = c.in-Err.ensures.left clean

@@ -7,7 +7,7 @@ use Rattle.am_site.specs.Locals.{local_of}
 use Rattle.am_instance.specs.Instance.{local_in, node_local_in}
 use Rattle.am_muting.specs.Failing.{AddsAmong}
 use Rattle.am_site.specs.Deciding.{asked_by}
-use Rattle.am_instance.proofs.Growing.{asks_among, asks_more, more_nothing}
+use Rattle.am_instance.proofs.Growing.{asks_among, asks_capacity, asks_more, more_nothing}
 use Rattle.am_instance.proofs.Leaves.{brought_there, left_ending, left_here, memory_unrefused}
 use Rattle.am_instance.proofs.Reacting.{moves_here, when, which, who, whose}
 use Rattle.am_instance.proofs.Elsewhere.{arrive_elsewhere}
@@ -58,7 +58,18 @@ returns-in_err-arrive-clause-cause g c =
 
 pub returns-clause-stays : goal.returns-clause-stays
 returns-clause-stays g c = record {
-  goes = record { up = refl; cause = refl; number = refl; incarnation = refl; known = refl; refused = asks_more c.here-here.result c.args.message (local_of c.here-here.result.tenant.now c.args.self.now.site) c.arrive.result c.args.self.now.cache c.arrive.new.cache c.arrive.ensures.asks };
+  goes = record {
+    up = refl;
+    cause = refl;
+    number = refl;
+    incarnation = refl;
+    known = refl;
+    refused = asks_more c.here-here.result c.args.message (local_of c.here-here.result.tenant.now c.args.self.now.site)
+        c.arrive.result c.args.self.now.cache c.arrive.new.cache c.arrive.ensures.asks;
+    capacity = asks_capacity c.here-here.result c.args.message
+        (local_of c.here-here.result.tenant.now c.args.self.now.site) c.arrive.result c.args.self.now.cache
+        c.arrive.new.cache c.arrive.ensures.asks;
+  };
   front = refl;
 }
 
@@ -69,7 +80,15 @@ returns-in_err-note-clause-cause g c =
 
 pub returns-in_err-note-clause-stays : goal.returns-in_err-note-clause-stays
 returns-in_err-note-clause-stays g c = record {
-  goes = record { up = refl; cause = refl; number = refl; incarnation = refl; known = refl; refused = more_nothing _ _ refl };
+  goes = record {
+    up = refl;
+    cause = refl;
+    number = refl;
+    incarnation = refl;
+    known = refl;
+    refused = more_nothing _ _ refl;
+    capacity = refl;
+  };
   front = refl;
 }
 
@@ -84,13 +103,35 @@ returns-in_err-note-clause-left g c clean =
 
 pub returns-in_err-arrive-clause-stays : goal.returns-in_err-arrive-clause-stays
 returns-in_err-arrive-clause-stays g c = record {
-  goes = record { up = refl; cause = refl; number = refl; incarnation = refl; known = refl; refused = asks_more c.here-here.result c.args.message (local_of c.here-here.result.tenant.now c.args.self.now.site) c.arrive.result c.args.self.now.cache c.arrive.new.cache c.arrive.ensures.asks };
+  goes = record {
+    up = refl;
+    cause = refl;
+    number = refl;
+    incarnation = refl;
+    known = refl;
+    refused = asks_more c.here-here.result c.args.message (local_of c.here-here.result.tenant.now c.args.self.now.site)
+        c.arrive.result c.args.self.now.cache c.arrive.new.cache c.arrive.ensures.asks;
+    capacity = asks_capacity c.here-here.result c.args.message
+        (local_of c.here-here.result.tenant.now c.args.self.now.site) c.arrive.result c.args.self.now.cache
+        c.arrive.new.cache c.arrive.ensures.asks;
+  };
   front = refl;
 }
 
 pub returns-in_err-put_out-clause-stays : goal.returns-in_err-put_out-clause-stays
 returns-in_err-put_out-clause-stays g c = record {
-  goes = record { up = refl; cause = refl; number = refl; incarnation = refl; known = refl; refused = asks_more c.here-here.result c.args.message (local_of c.here-here.result.tenant.now c.args.self.now.site) c.arrive.result c.args.self.now.cache c.arrive.new.cache c.arrive.ensures.asks };
+  goes = record {
+    up = refl;
+    cause = refl;
+    number = refl;
+    incarnation = refl;
+    known = refl;
+    refused = asks_more c.here-here.result c.args.message (local_of c.here-here.result.tenant.now c.args.self.now.site)
+        c.arrive.result c.args.self.now.cache c.arrive.new.cache c.arrive.ensures.asks;
+    capacity = asks_capacity c.here-here.result c.args.message
+        (local_of c.here-here.result.tenant.now c.args.self.now.site) c.arrive.result c.args.self.now.cache
+        c.arrive.new.cache c.arrive.ensures.asks;
+  };
   front = refl;
 }
 

@@ -20,6 +20,7 @@ open_anew-requires-clause-down g c = record {
   up = c.requires.down.up;
   unread = c.requires.down.unread;
   lost = c.clear.ensures.blank;
+  forgot = c.requires.down.forgot;
 }
 
 pub open_anew-requires-clause-whole : goal.open_anew-requires-clause-whole
@@ -59,6 +60,7 @@ returns-clause-stays g c =
       incarnation = stays.incarnation;
       known = stays.known ∙ ap (λ n. n - 1) (sym (length-map c.args.occasion.now.rings.now (λ (r : Members). r.instances)));
       refused = stays.refused;
+      capacity = stays.capacity;
     }
 
 pub returns-clause-left : goal.returns-clause-left

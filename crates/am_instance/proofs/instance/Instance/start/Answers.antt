@@ -1,11 +1,12 @@
 use Rattle.std.proofs.Common.{◌∙◌, ap, refl, subst, sym}
+use Rattle.std.proofs.lemmas.Result.{err_from_is_err_and}
 use Rattle.am_ring.specs.Replicas.{replicas}
 use Rattle.am_site.specs.Locals.{local_of}
 use Rattle.am_site.specs.Opening.{KeepsOwn, MayKeepOwn}
 use Rattle.am_transfer.specs.Timers.{AreTimed}
 use Rattle.am_instance.specs.Here.{circumstances, has_stayed_on, here_on, three_on}
 use Rattle.am_instance.specs.Instance.{local_in}
-use Rattle.am_instance.proofs.Growing.{asked_more}
+use Rattle.am_instance.proofs.Growing.{asked_capacity, asked_more}
 use Rattle.am_instance.proofs.Noting.{neither_in}
 use Rattle.am_instance.proofs.Opening.{opened_elsewhere, opened_in_order}
 use Rattle.am_instance.proofs.Rings.{ring_there}
@@ -25,10 +26,22 @@ pub returns-clause-starts : goal.returns-clause-starts
 returns-clause-starts g c = record { up = refl; cause = refl; refused = c.in_ok-names.ensures.asked.refused }
 
 pub returns-clause-stays : goal.returns-clause-stays
-returns-clause-stays g c = record { number = refl; incarnation = refl; known = refl; refused = asked_more _ _ _ c.open.ensures.asked }
+returns-clause-stays g c = record {
+  number = refl;
+  incarnation = refl;
+  known = refl;
+  refused = asked_more _ _ _ c.open.ensures.asked;
+  capacity = asked_capacity _ _ _ c.open.ensures.asked;
+}
 
 pub returns-in_err-names-clause-stays : goal.returns-in_err-names-clause-stays
-returns-in_err-names-clause-stays g c = record { number = refl; incarnation = refl; known = refl; refused = asked_more _ _ _ c.open.ensures.asked }
+returns-in_err-names-clause-stays g c = record {
+  number = refl;
+  incarnation = refl;
+  known = refl;
+  refused = asked_more _ _ _ c.open.ensures.asked;
+  capacity = asked_capacity _ _ _ c.open.ensures.asked;
+}
 
 pub returns-clause-whole : goal.returns-clause-whole
 unfolding local_in here_on three_on has_stayed_on
@@ -52,28 +65,62 @@ unfolding local_in local_of
 returns-clause-backed g c = record { opens = λ up. c.in_ok-names.ensures.«open»; stores = λ up clean. c.in_ok-names.ensures.stores clean }
 
 pub returns-in_err-note_all-clause-stays : goal.returns-in_err-note_all-clause-stays
-returns-in_err-note_all-clause-stays g c = record { number = refl; incarnation = refl; known = refl; refused = asked_more _ _ _ c.open.ensures.asked }
+returns-in_err-note_all-clause-stays g c = record {
+  number = refl;
+  incarnation = refl;
+  known = refl;
+  refused = asked_more _ _ _ c.open.ensures.asked;
+  capacity = asked_capacity _ _ _ c.open.ensures.asked;
+}
 
-pub returns-clause-kept : goal.returns-clause-kept
-returns-clause-kept g c clean =
+-- ---- the rows
+
+pub returns-clause-left : goal.returns-clause-left
+returns-clause-left g c clean =
     subst (λ ring. KeepsOwn ring c.args.self.now.number (g.R.Rows.pairs c.args.store.now) (g.R.Rows.pairs c.open.new.store))
     (sym (ring_there c.args.occasion.now.rings.now c.args.self.now.known c.index-occasion-self.result c.requires.whole.known c.index-occasion-self.is))
     (c.in_ok-names.ensures.kept clean)
 
-pub returns-clause-left : goal.returns-clause-left
-returns-clause-left g c clean still =
-    subst (λ ring. MayKeepOwn ring c.args.self.now.number (g.R.Rows.pairs c.args.store.now) (g.R.Rows.pairs c.open.new.store))
-    (sym (ring_there c.args.occasion.now.rings.now c.args.self.now.known c.index-occasion-self.result c.requires.whole.known c.index-occasion-self.is))
-    (c.open.ensures.left clean still)
-
 pub returns-in_err-names-clause-left : goal.returns-in_err-names-clause-left
-returns-in_err-names-clause-left g c clean still =
+returns-in_err-names-clause-left g c clean t =
+    let p = err_from_is_err_and c.from_residual.result c.from_residual.ensures.1 in
+    rw p.1 (λ still.
     subst (λ ring. MayKeepOwn ring c.args.self.now.number (g.R.Rows.pairs c.args.store.now) (g.R.Rows.pairs c.open.new.store))
     (sym (ring_there c.args.occasion.now.rings.now c.args.self.now.known c.index-occasion-self.result c.requires.whole.known c.index-occasion-self.is))
-    (c.open.ensures.left clean still)
+    (c.open.ensures.left clean still) t)
 
 pub returns-in_err-note_all-clause-left : goal.returns-in_err-note_all-clause-left
-returns-in_err-note_all-clause-left g c clean still =
+returns-in_err-note_all-clause-left g c clean t =
+    let p = err_from_is_err_and c.from_residual-in_err-note_all.result c.from_residual-in_err-note_all.ensures.1 in
+    rw p.1 (λ still.
     subst (λ ring. MayKeepOwn ring c.args.self.now.number (g.R.Rows.pairs c.args.store.now) (g.R.Rows.pairs c.open.new.store))
     (sym (ring_there c.args.occasion.now.rings.now c.args.self.now.known c.index-occasion-self.result c.requires.whole.known c.index-occasion-self.is))
-    (c.open.ensures.left clean still)
+    (c.open.ensures.left clean still) t)
+
+-- ---- where it fails, it goes on
+
+pub returns-in_err-names-clause-err : goal.returns-in_err-names-clause-err
+returns-in_err-names-clause-err g c =
+    let p = err_from_is_err_and c.from_residual.result c.from_residual.ensures.1 in
+    rw p.1 (record {
+      up = refl;
+      cause = refl;
+      number = refl;
+      incarnation = refl;
+      known = refl;
+      refused = asked_more _ _ _ c.open.ensures.asked;
+      capacity = asked_capacity _ _ _ c.open.ensures.asked;
+    })
+
+pub returns-in_err-note_all-clause-err : goal.returns-in_err-note_all-clause-err
+returns-in_err-note_all-clause-err g c =
+    let p = err_from_is_err_and c.from_residual-in_err-note_all.result c.from_residual-in_err-note_all.ensures.1 in
+    rw p.1 (record {
+      up = refl;
+      cause = refl;
+      number = refl;
+      incarnation = refl;
+      known = refl;
+      refused = asked_more _ _ _ c.open.ensures.asked;
+      capacity = asked_capacity _ _ _ c.open.ensures.asked;
+    })

@@ -30,19 +30,43 @@ returns-in_err-outcome-clause-cause c =
 
 pub returns-clause-stays : goal.returns-clause-stays
 returns-clause-stays c = record {
-  goes = record { up = refl; cause = refl; number = refl; incarnation = refl; known = refl; refused = more_nothing _ _ refl };
+  goes = record {
+    up = refl;
+    cause = refl;
+    number = refl;
+    incarnation = refl;
+    known = refl;
+    refused = more_nothing _ _ refl;
+    capacity = refl;
+  };
   front = refl;
 }
 
 pub returns-in_err-outcome-clause-stays : goal.returns-in_err-outcome-clause-stays
 returns-in_err-outcome-clause-stays c = record {
-  goes = record { up = refl; cause = refl; number = refl; incarnation = refl; known = refl; refused = more_nothing _ _ refl };
+  goes = record {
+    up = refl;
+    cause = refl;
+    number = refl;
+    incarnation = refl;
+    known = refl;
+    refused = more_nothing _ _ refl;
+    capacity = refl;
+  };
   front = refl;
 }
 
 pub returns-in_err-put_out-clause-stays : goal.returns-in_err-put_out-clause-stays
 returns-in_err-put_out-clause-stays c = record {
-  goes = record { up = refl; cause = refl; number = refl; incarnation = refl; known = refl; refused = more_nothing _ _ refl };
+  goes = record {
+    up = refl;
+    cause = refl;
+    number = refl;
+    incarnation = refl;
+    known = refl;
+    refused = more_nothing _ _ refl;
+    capacity = refl;
+  };
   front = refl;
 }
 

@@ -26,7 +26,8 @@ handle_all-requires g c =
     let x = c.args.self.now in
     let mid : Instance = record x { site = c.due.new.self; cache = c.due.new.cache } in
     let more = more_nothing _ _ c.in_ok-due.ensures.asked.refused in
-    (is_retired (circumstances c.args.occasion.now) x mid c.retire.new.self (reads_with x mid refl refl refl refl refl refl more)
+    (is_retired (circumstances c.args.occasion.now) x mid c.retire.new.self
+    (reads_with x mid refl refl refl refl refl refl more c.in_ok-due.ensures.asked.capacity)
     c.due.ensures.stays refl c.in_ok-retire.ensures.retires c.in_ok-retire.ensures.order c.in_ok-retire.ensures.planned
     c.requires.whole).whole
 
@@ -45,7 +46,8 @@ returns-in_err-due-clause-cause g c =
     let mid : Instance = record x { site = c.retire.new.self } in
     let more = more_nothing (refused_in x) (refused_in mid) refl in
     let is =
-    is_retired (circumstances c.args.occasion.now) x mid c.retire.new.self (reads_with x mid refl refl refl refl refl refl more) refl
+    is_retired (circumstances c.args.occasion.now) x mid c.retire.new.self
+    (reads_with x mid refl refl refl refl refl refl more refl) refl
     refl c.in_ok-retire.ensures.retires c.in_ok-retire.ensures.order c.in_ok-retire.ensures.planned c.requires.whole in
     let p = err_from_is_err_and c.from_residual-in_err-due.result c.from_residual-in_err-due.ensures.1 in
     rw (p.1, p.2)
@@ -58,7 +60,8 @@ returns-in_err-told-clause-cause g c =
     let mid : Instance = record x { site = c.due.new.self; cache = c.due.new.cache } in
     let more = more_nothing _ _ c.in_ok-due.ensures.asked.refused in
     let is =
-    is_retired (circumstances c.args.occasion.now) x mid c.retire.new.self (reads_with x mid refl refl refl refl refl refl more)
+    is_retired (circumstances c.args.occasion.now) x mid c.retire.new.self
+    (reads_with x mid refl refl refl refl refl refl more c.in_ok-due.ensures.asked.capacity)
     c.due.ensures.stays refl c.in_ok-retire.ensures.retires c.in_ok-retire.ensures.order
     c.in_ok-retire.ensures.planned c.requires.whole in
     let p = err_from_is_err_and c.from_residual-in_err-told.result c.from_residual-in_err-told.ensures.1 in
@@ -77,7 +80,8 @@ returns-clause-told g c =
     let mid : Instance = record x { site = c.due.new.self; cache = c.due.new.cache } in
     let more = more_nothing _ _ c.in_ok-due.ensures.asked.refused in
     let is =
-    is_retired (circumstances c.args.occasion.now) x mid c.retire.new.self (reads_with x mid refl refl refl refl refl refl more)
+    is_retired (circumstances c.args.occasion.now) x mid c.retire.new.self
+    (reads_with x mid refl refl refl refl refl refl more c.in_ok-due.ensures.asked.capacity)
     c.due.ensures.stays refl c.in_ok-retire.ensures.retires c.in_ok-retire.ensures.order
     c.in_ok-retire.ensures.planned c.requires.whole in
     ticks_all (circumstances c.args.occasion.now) x mid is c.in_ok-due.muted c.deref.result.now c.retire.new.self

@@ -33,7 +33,13 @@ returns-in-Err-clause-ends g c = record {
 pub returns-in-Ok-clause-stays : goal.returns-in-Ok-clause-stays
 returns-in-Ok-clause-stays g c =
     let goes = c.tell.ensures.stays.goes in
-    record { number = goes.number; incarnation = goes.incarnation; known = goes.known; refused = goes.refused }
+    record {
+      number = goes.number;
+      incarnation = goes.incarnation;
+      known = goes.known;
+      refused = goes.refused;
+      capacity = goes.capacity;
+    }
 
 pub returns-in-Err-clause-stays : goal.returns-in-Err-clause-stays
 returns-in-Err-clause-stays g c =
@@ -43,6 +49,7 @@ returns-in-Err-clause-stays g c =
       incarnation = c.stop.ensures.stays.incarnation ∙ goes.incarnation;
       known = c.stop.ensures.stays.known ∙ goes.known;
       refused = more_then _ _ _ goes.refused (more_nothing _ _ c.stop.ensures.refused);
+      capacity = c.stop.ensures.stays.capacity ∙ goes.capacity;
     }
 
 pub returns-in-Err-clause-whole : goal.returns-in-Err-clause-whole

@@ -10,7 +10,7 @@ use Rattle.am_instance.specs.Changing.{StopsTurning}
 use Rattle.am_instance.specs.Here.{circumstances, here_on}
 use Rattle.am_instance.specs.Instance.{local_in, node_local_in}
 use Rattle.am_instance.specs.Reacting.{Reacts}
-use Rattle.am_instance.proofs.Growing.{asked_more}
+use Rattle.am_instance.proofs.Growing.{asked_capacity, asked_more}
 use Rattle.am_instance.proofs.Learns.{keeps_given, left_by_ring, left_given, left_in_memory, left_well, order_given_learn, stops_given}
 use Rattle.am_instance.proofs.Reacting.{moves_here, who, whose}
 use Rattle.am_instance.proofs.Turns.{reads_with}
@@ -61,14 +61,17 @@ returns-in_err-learn-clause-cause g c =
 pub returns-clause-stays : goal.returns-clause-stays
 returns-clause-stays g c =
     reads_with c.args.self.now _ refl refl refl refl refl refl (asked_more _ _ _ c.learn.ensures.asked)
+    (asked_capacity _ _ _ c.learn.ensures.asked)
 
 pub returns-in_err-learn-clause-stays : goal.returns-in_err-learn-clause-stays
 returns-in_err-learn-clause-stays g c =
     reads_with c.args.self.now _ refl refl refl refl refl refl (asked_more _ _ _ c.learn.ensures.asked)
+    (asked_capacity _ _ _ c.learn.ensures.asked)
 
 pub returns-in_err-put_out-clause-stays : goal.returns-in_err-put_out-clause-stays
 returns-in_err-put_out-clause-stays g c =
     reads_with c.args.self.now _ refl refl refl refl refl refl (asked_more _ _ _ c.learn.ensures.asked)
+    (asked_capacity _ _ _ c.learn.ensures.asked)
 
 -- ---- its store
 

@@ -13,6 +13,7 @@ loop-number-preserved c =
     (rw c.begin.ensures at c.in_ok-new.ensures.number) ∙ given in
     let new : IsNew c.args.beginning.first x = record {
       down = c.in_ok-new.ensures.down;
+      cause = c.in_ok-new.ensures.cause;
       incarnation = rw c.begin.ensures at c.in_ok-new.ensures.incarnation;
       known = c.in_ok-new.ensures.known;
       refused = c.in_ok-new.ensures.refused;
@@ -28,6 +29,10 @@ loop-number-preserved c =
 pub returns-clause-down : goal.returns-clause-down
 returns-clause-down c i x found =
     (each_new c.args.beginning.first c.loop-number.list.items c.loop-number.invariant.1 i x found).down
+
+pub returns-clause-cause : goal.returns-clause-cause
+returns-clause-cause c i x found =
+    (each_new c.args.beginning.first c.loop-number.list.items c.loop-number.invariant.1 i x found).cause
 
 pub returns-clause-incarnation : goal.returns-clause-incarnation
 returns-clause-incarnation c i x found =

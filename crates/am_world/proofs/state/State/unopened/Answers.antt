@@ -24,6 +24,7 @@ returns c =
       numbered = c.in_ok-new.ensures.numbered;
       unused = λ i x found. record {
         down = c.in_ok-new.ensures.down i x found;
+        cause = c.in_ok-new.ensures.cause i x found;
         incarnation = c.in_ok-new.ensures.incarnation i x found ∙ c.start.ensures;
         known = c.in_ok-new.ensures.known i x found;
         refused = c.in_ok-new.ensures.refused i x found;
